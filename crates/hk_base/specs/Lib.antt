@@ -1,0 +1,6 @@
+pub mod KeyBytes
+pub mod Key
+pub mod KeyFaults
+pub mod Stamp
+pub mod Register
+pub mod View

@@ -1,0 +1,16 @@
+-- What a view is.
+use Rattle.std.specs.Prelude.{ℕ, ◌<◌, ◌≤◌, List, length, map, All}
+use Rattle.std.specs.List.Sorted.{IsStrictlyIncreasing}
+use Rattle.hk_base.specs.declared.stamp.NodeId.{NodeId}
+use Rattle.hk_base.specs.declared.view.View.{View}
+
+abbrev pub member_numbers : List NodeId → List ℕ
+member_numbers members = map (λ member. member.0) members
+
+-- 1 to 16 members that rise, each below the next number, which is at most 65,536
+pub record IsView (view : View) : Type 0 where
+  pub some : 1 ≤ length view.members
+  pub few : length view.members ≤ 16
+  pub rising : IsStrictlyIncreasing (member_numbers view.members)
+  pub below : All (λ member. member.0 < view.next) view.members
+  pub next : view.next ≤ 65536

@@ -1,0 +1,121 @@
+//! Calls of the store and what they are answered.
+
+ghost use Rattle.std.specs.Prelude.{◌≡◌, IfOk};
+
+use crate::data::Data;
+use crate::memory::Memory;
+use crate::stamp::Stamp;
+
+/// The number of a call.
+#[derive(Clone, Copy, Debug, PartialEq, Eq, PartialOrd, Ord)]
+pub struct CallNo(pub u64);
+
+/// What a key holds: the flags that its writer gave, which the store only keeps, and the data.
+#[derive(PartialEq, Eq, Drop)]
+pub struct Content {
+    pub flags: u32,
+    pub bytes: Data,
+}
+
+impl Content {
+    /// The same content, which shares the bytes.
+    pub fn share(&self) -> Result<Content, Memory>
+        ensures { IfOk result (λ content. content ≡ self.now) }
+    {
+        let bytes = self.bytes.share()?;
+        Ok(Content {
+            flags: self.flags,
+            bytes,
+        })
+    }
+}
+
+/// The state of a key at a node, as the Hermes protocol names them.
+#[derive(Clone, Copy, Debug, PartialEq, Eq)]
+pub enum State {
+    /// No update is on its way here: the key may be read.
+    Valid,
+    /// An update was announced and is not known to be complete.
+    Invalid,
+    /// The node's own update waits for acknowledgements.
+    Write,
+    /// The node sends another's update again, and waits for acknowledgements.
+    Replay,
+    /// The node's own update waits, and a later one was announced meanwhile.
+    Trans,
+}
+
+/// An operation on the register of a key.
+#[derive(PartialEq, Eq, Drop)]
+pub enum Op {
+    Read,
+    Write(Content),
+    /// Writes the content where the register's tag is this one.
+    Cas { tag: u64, content: Content },
+    /// Adds to a decimal number, modulo 2^64.
+    Incr(u64),
+    /// Takes from a decimal number, down to 0.
+    Decr(u64),
+}
+
+impl Op {
+    /// The same operation, which shares the bytes.
+    pub fn share(&self) -> Result<Op, Memory>
+        ensures { IfOk result (λ op. op ≡ self.now) }
+    {
+        match self {
+            Op::Read => Ok(Op::Read),
+            Op::Write(content) => {
+                let content = content.share()?;
+                Ok(Op::Write(content))
+            }
+            Op::Cas { tag, content } => {
+                let content = content.share()?;
+                Ok(Op::Cas { tag: *tag, content })
+            }
+            Op::Incr(by) => Ok(Op::Incr(*by)),
+            Op::Decr(by) => Ok(Op::Decr(*by)),
+        }
+    }
+}
+
+/// Why a call is refused for now. Nothing was begun, and it may be asked again.
+#[derive(Clone, Copy, Debug, PartialEq, Eq)]
+pub enum Why {
+    /// The node's lease ends at `end` milliseconds, and by its clock, `now`, it may be over.
+    Lease { end: u64, now: u64 },
+    /// The key is not Valid at the node.
+    Row { state: State, stamp: Stamp },
+}
+
+/// What a call is answered.
+#[derive(PartialEq, Eq, Drop)]
+pub enum Answer {
+    /// The content that a read found, and its tag.
+    Found { content: Content, tag: u64 },
+    /// A read found nothing.
+    Missing,
+    /// A write, or a cas whose tag was right, is done.
+    Stored,
+    /// The number that an incr or decr left.
+    Number(u64),
+    /// The tag of a cas was another.
+    Exists,
+    /// A cas, incr or decr found nothing.
+    NotFound,
+    /// An incr or decr found data that is no number of 64 bits.
+    NotNumber,
+    /// Refused for now, with nothing begun.
+    Busy(Why),
+    /// The update was given up for one with this stamp. It may take effect yet, once.
+    Aborted(Stamp),
+    /// The version of this stamp can't be raised far enough. Nothing was begun.
+    Exhausted(Stamp),
+}
+
+/// A call's number with its answer.
+#[derive(PartialEq, Eq, Drop)]
+pub struct Reply {
+    pub call: CallNo,
+    pub answer: Answer,
+}

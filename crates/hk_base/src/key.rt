@@ -1,0 +1,93 @@
+//! The keys of the store.
+
+ghost use Rattle.std.specs.Prelude.{◌≡◌, position, IfOk};
+ghost use Rattle.hk_base.specs.KeyBytes.{is_bad_byte};
+
+use crate::memory::Memory;
+use bytes::Bytes;
+use std::alloc::Global;
+use std::marker::Model;
+
+/// The greatest length of a key, in bytes.
+pub const MAX_KEY_LEN: usize = 250;
+
+/// Why bytes are no key: the first test that they fail.
+#[derive(Clone, Copy, Debug, PartialEq, Eq)]
+pub enum KeyFault {
+    /// An allocation was refused.
+    Memory,
+    /// There is no byte.
+    Empty,
+    /// There are more than 250 bytes, namely `len`.
+    TooLong { len: usize },
+    /// The byte at place `at`, counted from 0, is below `0x21` or is `0x7f`; it is the first such byte.
+    BadByte { at: usize },
+}
+
+// The place of the first byte that no key has.
+fn first_bad_byte(bytes: &[u8]) -> Option<usize>
+    ensures { result ≡ position is_bad_byte bytes.now }
+{
+    bytes.iter().position(|byte| *byte < 0x21 || *byte == 0x7f)
+}
+
+/// A key: 1 to 250 bytes, none below `0x21` and none `0x7f`, as memcached's `protocol.txt` has it.
+/// Contracts see its bytes. Keys are ordered as their bytes are, from the first on.
+#[derive(PartialEq, Eq, PartialOrd, Ord, Drop)]
+pub struct Key {
+    bytes: Bytes,
+}
+
+impl Model for Key {
+    ghost use Rattle.std.specs.Prelude.{List, ℕ};
+
+    ghost Value = { List ℕ };
+
+    ghost use Rattle.hk_base.specs.Key.{IsKey};
+
+    ghost view = { λ k. k.bytes };
+
+    ghost invariant = { λ k. IsKey k.bytes };
+
+    ghost inverse = { λ v. record { bytes = v } };
+}
+
+impl Key {
+    ghost use Rattle.hk_base.specs.Key.{IsKey};
+    ghost use Rattle.hk_base.specs.KeyFaults.{IsKeyRead};
+
+    /// Makes a key of the bytes. They are tested in the order of the faults, and copied once.
+    pub fn read(alloc: Global, bytes: &[u8]) -> Result<Key, KeyFault>
+        ensures exact { IsKeyRead result bytes.now }
+    {
+        if bytes.is_empty() {
+            return Err(KeyFault::Empty);
+        }
+        if bytes.len() > MAX_KEY_LEN {
+            return Err(KeyFault::TooLong { len: bytes.len() });
+        }
+        if let Some(at) = first_bad_byte(bytes) {
+            return Err(KeyFault::BadByte { at });
+        }
+        match Bytes::copy_from_slice(alloc, bytes) {
+            Ok(bytes) => Ok(Key { bytes }),
+            Err(_) => Err(KeyFault::Memory),
+        }
+    }
+
+    /// The key's bytes.
+    pub fn bytes(&self) -> &[u8]
+        ensures same { result.now ≡ self.now }
+        ensures key { IsKey self.now }
+    {
+        self.bytes.as_slice()
+    }
+
+    /// The same key, which shares the bytes.
+    pub fn share(&self) -> Result<Key, Memory>
+        ensures { IfOk result (λ key. key ≡ self.now) }
+    {
+        let bytes = self.bytes.clone()?;
+        Ok(Key { bytes })
+    }
+}

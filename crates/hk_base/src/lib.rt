@@ -1,0 +1,25 @@
+//! What every layer speaks of: keys and what they hold, stamps, operations and answers, views and ballots.
+//!
+//! A *register* is what one key is to its clients: a content or nothing, and a tag. What an operation answers and
+//! leaves is a definition, `act` in `specs/Register.antt`; all that the other crates promise comes down to it.
+//!
+//! Keys and data share their bytes: to `share` one counts an owner and copies no byte.
+#![tactic(auto)]
+
+mod call;
+mod data;
+mod key;
+mod memory;
+mod sequence;
+mod stamp;
+#[cfg(test)]
+mod tests;
+mod view;
+
+pub use call::{Answer, CallNo, Content, Op, Reply, State, Why};
+pub use data::{Data, DataFault, MAX_DATA_LEN};
+pub use key::{Key, KeyFault, MAX_KEY_LEN};
+pub use memory::Memory;
+pub use sequence::Sequence;
+pub use stamp::{Kind, MAX_VERSION, NodeId, Stamp};
+pub use view::{Ballot, Members, View, Voted};

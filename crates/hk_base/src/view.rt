@@ -1,0 +1,47 @@
+//! Views, which say who the members of a group are, and the ballots by which managers agree on them.
+
+ghost use Rattle.std.specs.Prelude.{◌≡◌, IfOk};
+
+use crate::memory::Memory;
+use crate::sequence::Sequence;
+use crate::stamp::NodeId;
+use std::alloc::Global;
+
+/// The members of a view, in rising order.
+pub type Members = Sequence<NodeId>;
+
+/// Who the members are in an epoch, and the number that the next joiner takes.
+#[derive(Drop)]
+pub struct View {
+    pub epoch: u64,
+    pub members: Members,
+    pub next: u32,
+}
+
+impl View {
+    /// An equal view.
+    pub fn copy(&self, alloc: Global) -> Result<View, Memory>
+        ensures { IfOk result (λ view. view ≡ self.now) }
+    {
+        let members = self.members.as_slice().to_vec(alloc)?;
+        Ok(View {
+            epoch: self.epoch,
+            members: Sequence::from_vec(members),
+            next: self.next,
+        })
+    }
+}
+
+/// The number of a proposal: by round, then by the manager that made it.
+#[derive(Clone, Copy, Debug, PartialEq, Eq, PartialOrd, Ord)]
+pub struct Ballot {
+    pub round: u32,
+    pub manager: u8,
+}
+
+/// A view that an acceptor accepted, and the ballot at which it did.
+#[derive(Drop)]
+pub struct Voted {
+    pub ballot: Ballot,
+    pub view: View,
+}

@@ -1,0 +1,11 @@
+//! Histories of one key, and when an order of its calls is legal.
+//!
+//! A *history* is what clients saw of a key: the calls that they made and the replies that they were given, as they
+//! happened. An *order* puts calls one after the other. It is legal where a single register, asked in that order,
+//! gives each call its reply, and where no call stands before one that was answered before it began. Nothing here
+//! knows of nodes, letters or time.
+#![tactic(auto)]
+
+mod event;
+
+pub use event::{Entries, Entry, Event, Items};
