@@ -113,6 +113,30 @@ pub enum Answer {
     Exhausted(Stamp),
 }
 
+impl Answer {
+    /// The same answer, which shares the bytes.
+    pub fn share(&self) -> Result<Answer, Memory>
+        ensures { IfOk result (λ answer. answer ≡ self.now) }
+    {
+        let answer = match self {
+            Answer::Found { content, tag } => {
+                let content = content.share()?;
+                Answer::Found { content, tag: *tag }
+            }
+            Answer::Missing => Answer::Missing,
+            Answer::Stored => Answer::Stored,
+            Answer::Number(value) => Answer::Number(*value),
+            Answer::Exists => Answer::Exists,
+            Answer::NotFound => Answer::NotFound,
+            Answer::NotNumber => Answer::NotNumber,
+            Answer::Busy(why) => Answer::Busy(*why),
+            Answer::Aborted(stamp) => Answer::Aborted(*stamp),
+            Answer::Exhausted(stamp) => Answer::Exhausted(*stamp),
+        };
+        Ok(answer)
+    }
+}
+
 /// A call's number with its answer.
 #[derive(PartialEq, Eq, Drop)]
 pub struct Reply {
