@@ -1,0 +1,122 @@
+//! Connections over TCP on 127.0.0.1.
+
+ghost use Rattle.std.specs.Prelude.{None, refl};
+
+use crate::doors::Doors;
+use crate::stream::{Connection, Failed, Sink, Source};
+use std::io::{Read, Write};
+use std::net::{Ipv4Addr, Net, OpenListener, SocketAddr, TcpListener, TcpStream};
+
+/// A connection over TCP. It tells nothing of its bytes.
+#[derive(Drop)]
+pub struct TcpConnection {
+    stream: TcpStream,
+    read_faults: u64,
+    write_faults: u64,
+}
+
+impl Source for TcpConnection {
+    ghost left = { λ c. None };
+
+    ghost faults = { λ c. c.read_faults };
+
+    ghost beside = { λ c. (None, c.write_faults) };
+
+    fn read(&mut self, room: &mut [u8]) -> Result<usize, Failed> {
+        match self.stream.read(room) {
+            Ok(count) => Ok(count),
+            Err(_) => {
+                self.read_faults = self.read_faults.saturating_add(1);
+                Err(Failed)
+            }
+        }
+    }
+}
+
+impl Sink for TcpConnection {
+    ghost held = { λ c. None };
+
+    ghost faults = { λ c. c.write_faults };
+
+    ghost beside = { λ c. (None, c.read_faults) };
+
+    fn write(&mut self, piece: &[u8]) -> Result<usize, Failed> {
+        match self.stream.write(piece) {
+            Ok(count) => {
+                if count == 0 && !piece.is_empty() {
+                    self.write_faults = self.write_faults.saturating_add(1);
+                }
+                Ok(count)
+            }
+            Err(_) => {
+                self.write_faults = self.write_faults.saturating_add(1);
+                Err(Failed)
+            }
+        }
+    }
+}
+
+impl Connection for TcpConnection {
+    ghost read_keeps = { λ c. refl };
+
+    ghost write_keeps = { λ c. refl };
+}
+
+/// Doors on a port of 127.0.0.1. Before a port is open no connection comes.
+#[derive(Drop)]
+pub struct TcpDoors<R: Net<Listener = TcpListener, Stream = TcpStream> + Drop> {
+    rt: R,
+    listener: Option<TcpListener>,
+    faults: u64,
+}
+
+impl<R: Net<Listener = TcpListener, Stream = TcpStream> + Drop> TcpDoors<R> {
+    pub fn new(rt: R) -> TcpDoors<R> {
+        TcpDoors {
+            rt,
+            listener: None,
+            faults: 0,
+        }
+    }
+}
+
+impl<R: Net<Listener = TcpListener, Stream = TcpStream> + Drop> Doors for TcpDoors<R> {
+    type Conn = TcpConnection;
+
+    ghost left = { λ d. None };
+
+    ghost faults = { λ d. d.faults };
+
+    fn open(&mut self, port: u16) -> Result<(), Failed> {
+        match TcpListener::bind(
+            &self.rt,
+            SocketAddr::from((Ipv4Addr::new(127, 0, 0, 1), port)),
+        ) {
+            Ok(listener) => {
+                self.listener = Some(listener);
+                Ok(())
+            }
+            Err(_) => {
+                self.faults = self.faults.saturating_add(1);
+                Err(Failed)
+            }
+        }
+    }
+
+    fn accept(&mut self) -> Result<Option<TcpConnection>, Failed> {
+        let Some(listener) = &self.listener else {
+            return Ok(None);
+        };
+        match listener.accept() {
+            Ok((stream, _)) => Ok(Some(TcpConnection {
+                stream,
+                read_faults: 0,
+                write_faults: 0,
+            })),
+            Err(_) => {
+                self.faults = self.faults.saturating_add(1);
+                Err(Failed)
+            }
+        }
+    }
+}
