@@ -1,0 +1,15 @@
+pub mod Numbers
+pub mod Parts
+pub mod Sane
+pub mod Streams
+pub mod Lookups
+pub mod Serves
+pub mod Acted
+pub mod Fitting
+pub mod Standing
+pub mod Legality
+pub mod Spelled
+pub mod Headers
+pub mod Respelled
+pub mod Keeping
+pub mod Transcribed

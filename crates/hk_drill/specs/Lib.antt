@@ -1,0 +1,9 @@
+pub mod Words
+pub mod Script
+pub mod Grammar
+pub mod Reads
+pub mod Run
+pub mod Printed
+pub mod Transcript
+pub mod Kept
+pub mod Drilled
