@@ -4,6 +4,7 @@ use Rattle.std.specs.List.{join_with_byte}
 use Rattle.std.proofs.lemmas.Bool.Decides.{nat_tests}
 use Rattle.std.proofs.lemmas.Fmt.{digits_decimal}
 use Rattle.std.proofs.lemmas.List.Splits.{join_with_byte-slice_split}
+use Rattle.hk_drill.specs.declared.script.TheConstants.{MAX_LINE_LEN}
 use Rattle.hk_drill.specs.declared.call.Header.{Header}
 use Rattle.hk_drill.specs.Words.{fields, number_of}
 use Rattle.hk_drill.specs.Script.{header_of, header_of_words, limits_of, is_group_of, is_limits_of}
@@ -51,9 +52,9 @@ words_take ws h is = cc
 header_written : (line : List ℕ) (h : Header) → header_of line ≡ Some h → IsHeaderLine line h
 unfolding header_of
 header_written line h e =
-    let f = failed (nat_lt 4096 (length line)) _ h e in
+    let f = failed (nat_lt MAX_LINE_LEN (length line)) _ h e in
     let w = words_take (fields line) h f.1 in
-    let short : length line ≤ 4096 = grind (arith, nat_tests, f.0) in
+    let short : length line ≤ MAX_LINE_LEN = grind (arith, nat_tests, f.0) in
     record { lease = w.lease_in; skew = w.skew_in; written = sym (join_with_byte-slice_split 32 line) ∙ ap (join_with_byte 32) (sym w.words); short = short }
 
 words_again : (h : Header) → h.lease ≤ 1000000000000 → h.skew ≤ 1000000000000 → header_of_words (header_words h) ≡ Some h
@@ -78,7 +79,7 @@ spaceless h lease skew = fields_of (codes "group") _ (plain_no_space (codes "gro
 header_read : (line : List ℕ) (h : Header) → IsHeaderLine line h → header_of line ≡ Some h
 unfolding header_of
 header_read line h is =
-    let fine : nat_lt 4096 (length line) ≡ false = (let short = is.short in grind (arith, nat_tests)) in
+    let fine : nat_lt MAX_LINE_LEN (length line) ≡ false = (let short = is.short in grind (arith, nat_tests)) in
     rw (fine, is.written, spaceless h is.lease is.skew) (words_again h is.lease is.skew)
 
 pub headers_exact : HeadersAreReadExactly

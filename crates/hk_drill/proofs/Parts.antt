@@ -1,6 +1,7 @@
 -- The parts of a line are no longer than the line.
 use Rattle.std.proofs.Common.{ℕ, suc, ◌≤◌, List, [], ◌∷◌, length, Bool, true, false, cond, arith}
 use Rattle.std.specs.List.{AllByRecursion, slice_split, onto_first}
+use Rattle.hk_drill.specs.declared.script.TheConstants.{MAX_LINE_LEN}
 use Rattle.hk_drill.specs.Reads.{AllShort}
 
 abbrev AllUpTo : ℕ → List (List ℕ) → Type 0
@@ -22,5 +23,5 @@ pub parts_up_to : (p : ℕ → Bool) (xs : List ℕ) → AllUpTo (length xs) (sl
 parts_up_to p [] = (omega arith, tt)
 parts_up_to p (x ∷ xs) = split_cases (p x) x (length xs) (slice_split p xs) (parts_up_to p xs)
 
-pub parts_short : (p : ℕ → Bool) (xs : List ℕ) → length xs ≤ 4096 → AllShort (slice_split p xs)
-parts_short p xs le = up_to_more (length xs) 4096 (slice_split p xs) le (parts_up_to p xs)
+pub parts_short : (p : ℕ → Bool) (xs : List ℕ) → length xs ≤ MAX_LINE_LEN → AllShort (slice_split p xs)
+parts_short p xs le = up_to_more (length xs) MAX_LINE_LEN (slice_split p xs) le (parts_up_to p xs)

@@ -9,6 +9,7 @@ use Rattle.std.proofs.lemmas.Fmt.{digits_decimal, digits_value-decimal, decimal_
 use Rattle.std.proofs.lemmas.List.Splits.{slice_split_none, slice_split_at}
 use Rattle.std.proofs.lemmas.List.Elements.{All-from_recursion}
 use Rattle.hk_base.specs.KeyFaults.{key_fault}
+use Rattle.hk_drill.specs.declared.script.TheConstants.{MAX_LINE_LEN}
 use Rattle.hk_drill.specs.declared.call.Call.{Call}
 use Rattle.hk_drill.specs.declared.call.Command.{Command}
 use Rattle.hk_drill.specs.declared.call.Command.TheVariants.{Get, Set}
@@ -103,7 +104,7 @@ spaceless key (Set c) h o = fields_of (codes "call") _ (plain_no_space (codes "c
 call_read : (line : List ℕ) (c : Call) → IsCallLine line c → call_of line ≡ Some c
 unfolding call_of
 call_read line c is =
-    let fine : nat_lt 4096 (length line) ≡ false = (let short = is.short in grind (arith, nat_tests)) in
+    let fine : nat_lt MAX_LINE_LEN (length line) ≡ false = (let short = is.short in grind (arith, nat_tests)) in
     rw (fine, is.written, spaceless c.key c.command is.word is.command) (words_again c.key c.command is.key is.word is.command)
 
 pub calls_exact : CallsAreReadExactly

@@ -10,6 +10,7 @@ use Rattle.std.proofs.lemmas.Fmt.{decimal-digits_value}
 use Rattle.std.proofs.lemmas.List.Splits.{join_with_byte-slice_split}
 use Rattle.std.proofs.lemmas.Slice.Eq.{bytes_eq-Decides}
 use Rattle.hk_base.specs.KeyFaults.{key_fault}
+use Rattle.hk_drill.specs.declared.script.TheConstants.{MAX_LINE_LEN}
 use Rattle.hk_drill.specs.declared.call.Call.{Call}
 use Rattle.hk_drill.specs.declared.call.Command.TheVariants.{Get, Set}
 use Rattle.hk_drill.specs.Words.{fields, number_of, bytes_of, word_of, is_plain, has_spare_zero}
@@ -157,7 +158,7 @@ words_take ws c e = cc
 pub call_written : (line : List ℕ) (c : Call) → call_of line ≡ Some c → IsCallLine line c
 unfolding call_of
 call_written line c e =
-    let f = failed (nat_lt 4096 (length line)) _ c e in
+    let f = failed (nat_lt MAX_LINE_LEN (length line)) _ c e in
     let w = words_take (fields line) c f.1 in
-    let short : length line ≤ 4096 = grind (arith, nat_tests, f.0) in
+    let short : length line ≤ MAX_LINE_LEN = grind (arith, nat_tests, f.0) in
     record { key = w.0.key; word = w.0.word; command = w.0.command; written = sym (join_with_byte-slice_split 32 line) ∙ ap (join_with_byte 32) (sym w.1); short = short }

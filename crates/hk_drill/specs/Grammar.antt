@@ -3,6 +3,7 @@
 use Rattle.std.specs.Prelude.{◌≡◌, ◌≢◌, ℕ, ◌≤◌, ◌↔◌, List, [], ◌∷◌, length, true, None, Some, codes, decimal}
 use Rattle.std.specs.List.{list_all, join_with_byte}
 use Rattle.hk_base.specs.KeyFaults.{key_fault}
+use Rattle.hk_drill.specs.declared.script.TheConstants.{MAX_LINE_LEN}
 use Rattle.hk_drill.specs.declared.call.Header.{Header}
 use Rattle.hk_drill.specs.declared.call.Call.{Call}
 use Rattle.hk_drill.specs.declared.call.Command.{Command}
@@ -32,7 +33,7 @@ pub record IsHeaderLine (line : List ℕ) (h : Header) : Type 0 where
   pub lease : h.lease ≤ 1000000000000
   pub skew : h.skew ≤ 1000000000000
   pub written : line ≡ join_with_byte 32 (header_words h)
-  pub short : length line ≤ 4096
+  pub short : length line ≤ MAX_LINE_LEN
 
 -- the line is written as this call
 pub record IsCallLine (line : List ℕ) (call : Call) : Type 0 where
@@ -40,7 +41,7 @@ pub record IsCallLine (line : List ℕ) (call : Call) : Type 0 where
   pub word : HasWord call.key
   pub command : FitsCommand call.command
   pub written : line ≡ join_with_byte 32 (call_words call.key call.command)
-  pub short : length line ≤ 4096
+  pub short : length line ≤ MAX_LINE_LEN
 
 -- what is written so is read, and nothing else is
 abbrev pub HeadersAreReadExactly : Type 0

@@ -1,6 +1,7 @@
 -- What a reader of the code gives, beside what reading gives.
 use Rattle.std.specs.Prelude.{◌≡◌, ℕ, ◌≤◌, List, ◌++◌, length, Option, Result, Ok, Err, ⊤}
 use Rattle.std.specs.List.{AllByRecursion}
+use Rattle.hk_drill.specs.declared.script.TheConstants.{MAX_LINE_LEN}
 use Rattle.hk_drill.specs.declared.call.Call.{Call}
 use Rattle.hk_drill.specs.Script.{Calls}
 
@@ -11,7 +12,7 @@ Reads (Err e) read = ⊤
 
 -- each word is as short as a line
 abbrev pub AllShort : List (List ℕ) → Type 0
-AllShort words = AllByRecursion (λ w. length w ≤ 4096) words
+AllShort words = AllByRecursion (λ w. length w ≤ MAX_LINE_LEN) words
 
 -- some calls, and then the others
 abbrev pub with_front : List Call → Calls → Calls

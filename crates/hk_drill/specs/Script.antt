@@ -4,6 +4,7 @@ use Rattle.std.specs.Prelude.{ℕ, ◌+◌, ◌-◌, List, [], ◌∷◌, length
 use Rattle.std.specs.List.{slice_split}
 use Rattle.std.specs.Cmp.Lexicographic.{pointwise}
 use Rattle.hk_base.specs.KeyFaults.{key_fault}
+use Rattle.hk_drill.specs.declared.script.TheConstants.{MAX_LINE_LEN, MAX_LINES}
 use Rattle.hk_drill.specs.declared.call.Header.{Header}
 use Rattle.hk_drill.specs.declared.call.Call.{Call}
 use Rattle.hk_drill.specs.declared.call.Command.TheVariants.{Get, Set}
@@ -45,7 +46,7 @@ call_of_words words = None
 
 -- the call that a line is; a line has at most 4,096 bytes
 unfoldable pub call_of : List ℕ → Option Call
-call_of line = if nat_lt 4096 (length line) then None else call_of_words (fields line)
+call_of line = if nat_lt MAX_LINE_LEN (length line) then None else call_of_words (fields line)
 
 -- `group 1 managers 0 lease L skew E`
 unfoldable pub limits_of : List ℕ → List ℕ → Option Header
@@ -65,7 +66,7 @@ header_of_words (a ∷ b ∷ c ∷ d ∷ e ∷ l ∷ f ∷ s ∷ []) = if is_gro
 header_of_words words = None
 
 unfoldable pub header_of : List ℕ → Option Header
-header_of line = if nat_lt 4096 (length line) then None else header_of_words (fields line)
+header_of line = if nat_lt MAX_LINE_LEN (length line) then None else header_of_words (fields line)
 
 abbrev pub is_feed : ℕ → Bool
 is_feed b = b == 10
@@ -89,7 +90,7 @@ onto_calls (Some c) n rest = record { calls = c ∷ rest.calls; bad = rest.bad }
 
 -- the call that line n is; a script has at most 1,000,000 lines
 abbrev pub call_at : ℕ → List ℕ → Option Call
-call_at n line = if nat_lt 1000000 n then None else call_of line
+call_at n line = if nat_lt MAX_LINES n then None else call_of line
 
 -- the calls of the lines from line n on
 unfoldable pub calls_from : ℕ → List (List ℕ) → Calls

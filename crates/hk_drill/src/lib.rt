@@ -18,5 +18,7 @@ mod words;
 pub use call::{Call, Command, Header, Script};
 pub use key_run::{Calls, KeyRun};
 pub use row::Row;
-pub use script::{calls_are_read_exactly, headers_are_read_exactly, read_script};
+pub use script::{
+    MAX_LINE_LEN, MAX_LINES, calls_are_read_exactly, headers_are_read_exactly, read_script,
+};
 pub use top::{Written, drill, transcribe};

@@ -1,9 +1,10 @@
 //! The reader of scripts.
 
-ghost use Rattle.std.specs.Prelude.{◌≡◌, ◌≤◌, ◌<◌, ◌+◌, ◌^◌, IfOk, map, length};
+ghost use Rattle.std.specs.Prelude.{◌≡◌, ◌≤◌, ◌<◌, ◌+◌, ◌^◌, IfOk, map, length, nat_lt};
 ghost use Rattle.hk_drill.specs.Reads.{Reads, AllShort};
 ghost use Rattle.hk_drill.specs.Script.{call_at, key_of, get_call_of, set_call_of, call_of, call_of_words, is_call_of, is_group_of, is_limits_of, header_of, header_of_words, limits_of, calls_from, parsed, lines_of, without_last_feed, is_feed};
 ghost use Rattle.hk_drill.specs.Words.{bytes_of};
+ghost use Rattle.hk_drill.specs.declared.script.TheConstants.{MAX_LINE_LEN};
 ghost use Rattle.hk_drill.specs.Grammar.{HeadersAreReadExactly, CallsAreReadExactly};
 ghost use Rattle.std.specs.List.{slice_split};
 
@@ -11,6 +12,12 @@ use crate::call::{Call, Command, Header, Script};
 use crate::words;
 use hk_base::{Content, Data, Key, KeyFault, Memory};
 use std::alloc::{AllocError, Global};
+
+/// The greatest length of a line, in bytes, without its line feed.
+pub const MAX_LINE_LEN: usize = 4_096;
+
+/// The greatest number of lines.
+pub const MAX_LINES: u64 = 1_000_000;
 
 // The key that a word is.
 #[tactic(auto, unfolding(crate::specs::Script::key_of))]
@@ -29,7 +36,7 @@ fn key(alloc: Global, word: &[u8]) -> Result<Option<Key>, Memory>
 
 // The data that a word of a short line is.
 fn data(alloc: Global, word: &[u8]) -> Result<Option<Data>, Memory>
-    requires { length word.now ≤ 4096 }
+    requires { length word.now ≤ MAX_LINE_LEN }
     ensures { Reads result (bytes_of word.now) }
 {
     let Some(bytes) = words::bytes(word) else {
@@ -56,7 +63,7 @@ fn get_call(alloc: Global, word: &[u8]) -> Result<Option<Call>, Memory>
 
 #[tactic(auto, unfolding(crate::specs::Script::set_call_of))]
 fn set_call(alloc: Global, word: &[u8], flags: &[u8], bytes: &[u8]) -> Result<Option<Call>, Memory>
-    requires { length bytes.now ≤ 4096 }
+    requires { length bytes.now ≤ MAX_LINE_LEN }
     ensures { Reads result (set_call_of word.now flags.now bytes.now) }
 {
     let Some(key) = key(alloc, word)? else {
@@ -109,12 +116,18 @@ fn call_of_words(alloc: Global, words: &[&[u8]]) -> Result<Option<Call>, Memory>
     }
 }
 
+fn is_too_long(line: &[u8]) -> bool
+    ensures { result ≡ nat_lt MAX_LINE_LEN (length line.now) }
+{
+    line.len() > MAX_LINE_LEN
+}
+
 // The call that a line is.
 #[tactic(auto, unfolding(crate::specs::Script::call_of))]
 fn call(alloc: Global, line: &[u8]) -> Result<Option<Call>, Memory>
     ensures { Reads result (call_of line.now) }
 {
-    if line.len() > 4096 {
+    if is_too_long(line) {
         return Ok(None);
     }
     let words = words::split(alloc, line)?;
@@ -171,7 +184,7 @@ fn header_of_words(words: &[&[u8]]) -> Option<Header>
 fn header(alloc: Global, line: &[u8]) -> Result<Option<Header>, Memory>
     ensures { Reads result (header_of line.now) }
 {
-    if line.len() > 4096 {
+    if is_too_long(line) {
         return Ok(None);
     }
     let words = words::split(alloc, line)?;
@@ -182,7 +195,7 @@ fn header(alloc: Global, line: &[u8]) -> Result<Option<Header>, Memory>
 fn call_at(alloc: Global, number: u64, line: &[u8]) -> Result<Option<Call>, Memory>
     ensures { Reads result (call_at number line.now) }
 {
-    if number > 1_000_000 {
+    if number > MAX_LINES {
         return Ok(None);
     }
     call(alloc, line)

@@ -1,0 +1,74 @@
+//! Keys, data, stamps and tags at their limits.
+
+use hk_base::{Data, DataFault, Key, KeyFault, NodeId, Stamp};
+use std::test::Fail;
+
+#[test]
+fn keys_at_their_limits(rt: HostRuntime) {
+    let alloc = rt.alloc();
+    let rows: [(&[u8], KeyFault); 6] = [
+        (b"", KeyFault::Empty),
+        (&[b'k'; 251], KeyFault::TooLong { len: 251 }),
+        (&[b' '; 251], KeyFault::TooLong { len: 251 }),
+        (b"a b", KeyFault::BadByte { at: 1 }),
+        (b"\x7f", KeyFault::BadByte { at: 0 }),
+        (b"ab\x1f", KeyFault::BadByte { at: 2 }),
+    ];
+    for (bytes, fault) in rows {
+        match Key::read(alloc, bytes) {
+            Ok(_) => panic!(rt; "a key"),
+            Err(told) => assert_eq!(rt; told, fault),
+        }
+    }
+    assert!(rt; Key::read(alloc, &[b'k'; 250]).is_ok());
+    assert!(rt; Key::read(alloc, b"\x21\x80\xff").is_ok());
+}
+
+#[test]
+fn data_at_its_limit(rt: HostRuntime) -> Result<(), Fail> {
+    let alloc = rt.alloc();
+    let bytes = vec![in alloc; 0u8; 1_048_577]?;
+    match Data::read(alloc, bytes.as_slice()) {
+        Ok(_) => panic!(rt; "data"),
+        Err(told) => assert_eq!(rt; told, DataFault::TooLarge { len: 1_048_577 }),
+    }
+    assert!(rt; Data::read(alloc, &bytes[..1_048_576]).is_ok());
+    assert!(rt; Data::read(alloc, b"").is_ok());
+    Ok(())
+}
+
+#[test]
+fn stamps_at_the_last_version(rt: HostRuntime) {
+    let last: u64 = 281_474_976_710_655;
+    let node = NodeId(3);
+    let rows = [
+        (last - 2, Some(last), Some(last - 1)),
+        (last - 1, None, Some(last)),
+        (last, None, None),
+    ];
+    for (version, write, rmw) in rows {
+        let stamp = Stamp { version, node: 3 };
+        assert_eq!(rt;
+            stamp.after_write(node),
+            write.map(|version| Stamp { version, node: 3 })
+        );
+        assert_eq!(rt;
+            stamp.after_rmw(node),
+            rmw.map(|version| Stamp { version, node: 3 })
+        );
+    }
+    let greatest = Stamp {
+        version: last,
+        node: 65_535,
+    };
+    assert_eq!(rt; greatest.tag(), u64::MAX);
+    assert!(rt;
+        Stamp {
+            version: 2,
+            node: 9
+        } < Stamp {
+            version: 3,
+            node: 0
+        }
+    );
+}

@@ -1,0 +1,7 @@
+//! The tests that cross crates, most of them tables: what goes in, and what must come out.
+#![tactic(auto)]
+
+#[cfg(test)]
+mod drill;
+#[cfg(test)]
+mod keys;
