@@ -1,0 +1,10 @@
+pub mod Machine
+pub mod Facts
+pub mod Effects
+pub mod Parts
+pub mod Runs
+pub mod Laws
+pub mod Calls
+pub mod Printed
+pub mod Tags
+pub mod Worked
