@@ -1,4 +1,5 @@
-//! What every layer speaks of: keys and what they hold, stamps, operations and answers, views and ballots.
+//! What every layer speaks of: keys and what they hold, stamps, operations and answers, views,
+//! ballots and letters.
 //!
 //! A *register* is what one key is to its clients: a content or nothing, and a tag. What an operation answers and
 //! leaves is a definition, `act` in `specs/Register.antt`; all that the other crates promise comes down to it.
@@ -9,6 +10,7 @@
 mod call;
 mod data;
 mod key;
+mod letter;
 mod memory;
 mod sequence;
 mod stamp;
@@ -19,6 +21,7 @@ mod view;
 pub use call::{Answer, CallNo, Content, Op, Reply, State, Why};
 pub use data::{Data, DataFault, MAX_DATA_LEN};
 pub use key::{Key, KeyFault, MAX_KEY_LEN};
+pub use letter::{Actor, Body, CopyItem, CopyItems, Letter};
 pub use memory::Memory;
 pub use sequence::Sequence;
 pub use stamp::{Kind, MAX_VERSION, NodeId, Stamp};
