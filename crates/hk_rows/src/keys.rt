@@ -1,6 +1,7 @@
 //! Keys, data, stamps and tags at their limits.
 
 use hk_base::{Data, DataFault, Key, KeyFault, NodeId, Stamp};
+use std::alloc::{AllocError, Global};
 use std::test::Fail;
 
 #[test]
@@ -24,16 +25,22 @@ fn keys_at_their_limits(rt: HostRuntime) {
     assert!(rt; Key::read(alloc, b"\x21\x80\xff").is_ok());
 }
 
+fn zeros(alloc: Global, count: usize) -> Result<Vec<u8>, AllocError> {
+    vec![in alloc; 0u8; count]
+}
+
 #[test]
 fn data_at_its_limit(rt: HostRuntime) -> Result<(), Fail> {
     let alloc = rt.alloc();
-    let bytes = vec![in alloc; 0u8; 1_048_577]?;
-    match Data::read(alloc, bytes.as_slice()) {
-        Ok(_) => panic!(rt; "data"),
-        Err(told) => assert_eq!(rt; told, DataFault::TooLarge { len: 1_048_577 }),
+    let rows = [
+        (0, None),
+        (1_048_576, None),
+        (1_048_577, Some(DataFault::TooLarge { len: 1_048_577 })),
+    ];
+    for (count, fault) in rows {
+        let bytes = zeros(alloc, count)?;
+        assert_eq!(rt; Data::read(alloc, bytes.as_slice()).err(), fault);
     }
-    assert!(rt; Data::read(alloc, &bytes[..1_048_576]).is_ok());
-    assert!(rt; Data::read(alloc, b"").is_ok());
     Ok(())
 }
 
