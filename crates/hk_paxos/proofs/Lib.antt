@@ -1,0 +1,4 @@
+pub mod Order
+pub mod Quorums
+pub mod Parts
+pub mod Events
