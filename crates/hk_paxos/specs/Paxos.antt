@@ -54,13 +54,14 @@ is_higher None known = false
 is_higher (Some told) None = true
 is_higher (Some told) (Some known) = is_below known.ballot told.ballot
 
--- what the proposer is to propose: the view that was accepted at the highest ballot, as far as it was told, or its own
+-- the view that was accepted at the highest ballot, as far as the proposer was told, or its own
+abbrev pub value_or : Option Voted → View → View
+value_or None own = own
+value_or (Some highest) own = highest.view
+
+-- what the proposer is to propose
 abbrev pub value_of : Proposer → View
 value_of p = value_or p.highest p.own
-  where
-    value_or : Option Voted → View → View
-    value_or None own = own
-    value_or (Some highest) own = highest.view
 
 -- Phase 1a: a proposal begins, and asks for promises at its ballot.
 abbrev pub proposer_new : ℕ → Ballot → View → ℕ → Proposer
