@@ -1,0 +1,21 @@
+-- Whether what was granted outside a view is past.
+use Rattle.std.specs.Prelude.{◌≡◌, ℕ, List, Option, None, Some, Bool, nat_le, ◌==◌, ◌&&◌, not, Result, Ok, Err}
+use Rattle.std.specs.List.{list_any, find}
+use Rattle.hk_base.specs.declared.stamp.NodeId.{NodeId}
+use Rattle.hk_base.specs.declared.view.View.{View}
+use Rattle.hk_lease.specs.declared.grants.NotPast.{NotPast}
+
+abbrev pub is_member : View → NodeId → Bool
+is_member view node = list_any (λ member. member.0 == node.0) view.members
+
+-- the end is not below now, and its node is outside the view
+abbrev pub may_run : View → ℕ → NodeId × ℕ → Bool
+may_run view now grant = nat_le now grant.1 && not (is_member view grant.0)
+
+-- the first that may run, in rising order of the nodes
+abbrev pub past_answer : List (NodeId × ℕ) → View → ℕ → Result Unit NotPast
+past_answer grants view now = answer (find (may_run view now) grants)
+  where
+    answer : Option (NodeId × ℕ) → Result Unit NotPast
+    answer None = Ok tt
+    answer (Some grant) = Err (record { node = grant.0; end = grant.1 })
