@@ -1,1 +1,4 @@
 pub mod Middle
+pub mod Noted
+pub mod Majorities
+pub mod Guard

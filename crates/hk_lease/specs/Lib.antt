@@ -1,3 +1,4 @@
 pub mod Ends
 pub mod Grants
 pub mod Past
+pub mod Run

@@ -13,9 +13,13 @@ abbrev pub may_run : View → ℕ → NodeId × ℕ → Bool
 may_run view now grant = nat_le now grant.1 && not (is_member view grant.0)
 
 -- the first that may run, in rising order of the nodes
+abbrev pub first_running : List (NodeId × ℕ) → View → ℕ → Option (NodeId × ℕ)
+first_running grants view now = find (may_run view now) grants
+
+-- Ok where none may run; else the first
+abbrev pub past_or : Option (NodeId × ℕ) → Result Unit NotPast
+past_or None = Ok tt
+past_or (Some grant) = Err (record { node = grant.0; end = grant.1 })
+
 abbrev pub past_answer : List (NodeId × ℕ) → View → ℕ → Result Unit NotPast
-past_answer grants view now = answer (find (may_run view now) grants)
-  where
-    answer : Option (NodeId × ℕ) → Result Unit NotPast
-    answer None = Ok tt
-    answer (Some grant) = Err (record { node = grant.0; end = grant.1 })
+past_answer grants view now = past_or (first_running grants view now)

@@ -9,8 +9,10 @@
 
 mod end;
 mod grants;
+mod law;
 #[cfg(test)]
 mod tests;
 
 pub use end::node_end;
 pub use grants::{Grants, NotPast};
+pub use law::guarded;
