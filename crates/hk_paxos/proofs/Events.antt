@@ -1,19 +1,18 @@
 -- Each event keeps what holds at every moment of a run.
-use Rattle.std.proofs.Common.{◌≡◌, ◌≢◌, ◌⊎◌, ℕ, ◌+◌, ◌*◌, ◌<◌, ◌≤◌, Bool, true, false, not, ◌&&◌, cond, List, [], ◌∷◌, ◌++◌, length, Option, None, Some, nat_eq, refl, sym, ap, subst, ◌∙◌, inl, inr, ⊎_elim, arith}
-use Rattle.std.specs.List.{IsDistinct}
+use Rattle.std.proofs.Common.{◌≡◌, ◌≢◌, ◌⊎◌, ℕ, ◌*◌, ◌<◌, Bool, true, false, cond, List, [], ◌∷◌, ◌++◌, length, Option, None, Some, nat_eq, refl, sym, ap, subst, ◌∙◌, inl, inr, ⊎_elim, arith}
 use Rattle.std.specs.Option.{option_map, option_to_list}
-use Rattle.std.proofs.lemmas.Bool.{ltb-true, true≢false, false≢true, eqb-true, eqb-false, and_parts, not-true}
+use Rattle.std.proofs.lemmas.Bool.{ltb-true, false≢true, eqb-true, eqb-false, and_parts, not-true}
 use Rattle.hk_base.specs.declared.view.Ballot.{Ballot}
 use Rattle.hk_base.specs.declared.view.View.{View}
 use Rattle.hk_base.specs.declared.view.Voted.{Voted}
 use Rattle.hk_paxos.specs.declared.acceptor.Promise.{Promise}
 use Rattle.hk_paxos.specs.declared.acceptor.Acceptor.{Acceptor}
 use Rattle.hk_paxos.specs.declared.proposer.Proposer.{Proposer}
-use Rattle.hk_paxos.specs.Paxos.{Step, stays, is_refused, is_higher, is_same, is_noted, acceptor_new, acceptor_on_prepare, acceptor_on_accept, proposer_new, proposer_on_promise, proposer_on_accepted, has_promises, has_acceptances, value_of, counts_promise, counts_acceptance, with_promise, with_acceptance}
-use Rattle.hk_paxos.specs.Run.{Letter, State, Event, In, put, with_acceptor, with_proposer, on_promise, on_accepted, delivered, next, IsUp, MayHappen, IsRun, last_state, IsQuorum, IsChosen, start, Agrees}
+use Rattle.hk_paxos.specs.Paxos.{stays, is_refused, is_higher, is_noted, acceptor_on_prepare, acceptor_on_accept, proposer_new, proposer_on_promise, proposer_on_accepted, has_promises, has_acceptances, value_of, counts_promise, counts_acceptance, with_promise, with_acceptance}
+use Rattle.hk_paxos.specs.Run.{Letter, State, Event, In, put, with_acceptor, with_proposer, on_promise, on_accepted, next, MayHappen, IsRun, last_state, IsQuorum, start, Agrees}
 use Rattle.hk_paxos.specs.Run.Letter.{PrepareLetter, PromiseLetter, AcceptLetter, AcceptedLetter, ChosenLetter}
 use Rattle.hk_paxos.specs.Run.Event.{Propose, Deliver, Stop}
-use Rattle.hk_paxos.proofs.Order.{level, Le, Lt, le_same, le_then, lt_then, lt_not_le, order, same_ballot, not_refused, higher_told, higher_known}
+use Rattle.hk_paxos.proofs.Order.{level, Le, Lt, le_same, le_then, same_ballot, not_refused, higher_told, higher_known}
 use Rattle.hk_paxos.proofs.Quorums.{in_right, in_either, none_twice, distinct_with}
 use Rattle.hk_paxos.proofs.Parts.{Safe, PromiseOk, AcceptOk, AcceptedOk, LetterOk, AcceptorOk, ProposerOk, promise_of, voted_of, Parts, Growth, keep, acceptor_grows, proposer_grows, safe_grows, offer_safe, agree}
 
@@ -74,9 +73,12 @@ module _ (managers : ℕ) where
       (λ (e : (j ≡ m) × (put m (Some p) st.proposer j ≡ Some p)). let s : p ≡ q = same_some p q (sym e.1 ∙ is) in inr (rw (e.0, ← s) (ok growth)))
       (λ (d : (j ≢ m) × (put m (Some p) st.proposer j ≡ st.proposer j)).
       let was : st.proposer j ≡ Some q = sym d.1 ∙ is in
-      inl (was, λ w h. ⊎_elim
-      (λ (a : In ls (AcceptLetter q.ballot w)). absurd (d.0 (sym (parts.proposers j q was).its ∙ (fresh q.ballot w a).0)))
-      (λ (s : In st.sent (AcceptLetter q.ballot w)). s) (in_either ls st.sent (AcceptLetter q.ballot w) h)))
+      inl (
+        was,
+        λ w h. ⊎_elim
+            (λ (a : In ls (AcceptLetter q.ballot w)). absurd (d.0 (sym (parts.proposers j q was).its ∙ (fresh q.ballot w a).0)))
+            (λ (s : In st.sent (AcceptLetter q.ballot w)). s) (in_either ls st.sent (AcceptLetter q.ballot w) h),
+      ))
       (put_cases m (Some p) st.proposer j))
     where
       new : State

@@ -1,14 +1,14 @@
 -- What holds at every moment of a run, and outlasts each event.
-use Rattle.std.proofs.Common.{◌≡◌, ◌≢◌, ◌⊎◌, ℕ, ◌+◌, ◌*◌, ◌<◌, ◌≤◌, Bool, true, false, List, [], ◌∷◌, ◌++◌, length, Option, None, Some, nat_eq, refl, sym, ap, subst, ◌∙◌, inl, inr, ⊎_elim, arith}
+use Rattle.std.proofs.Common.{◌≡◌, ◌⊎◌, ℕ, ◌<◌, true, false, List, Option, None, Some, nat_eq, refl, sym, subst, ◌∙◌, ⊎_elim}
 use Rattle.std.specs.List.{IsDistinct}
-use Rattle.std.proofs.lemmas.Bool.{ltb-true, true≢false, false≢true}
+use Rattle.std.proofs.lemmas.Bool.{true≢false}
 use Rattle.hk_base.specs.declared.view.Ballot.{Ballot}
 use Rattle.hk_base.specs.declared.view.View.{View}
 use Rattle.hk_base.specs.declared.view.Voted.{Voted}
 use Rattle.hk_paxos.specs.declared.acceptor.Promise.{Promise}
 use Rattle.hk_paxos.specs.declared.acceptor.Acceptor.{Acceptor}
 use Rattle.hk_paxos.specs.declared.proposer.Proposer.{Proposer}
-use Rattle.hk_paxos.specs.Paxos.{has_promises, value_of, is_majority}
+use Rattle.hk_paxos.specs.Paxos.{has_promises, value_of}
 use Rattle.hk_paxos.specs.Run.{Letter, State, In, IsQuorum, IsChosen}
 use Rattle.hk_paxos.specs.Run.Letter.{PrepareLetter, PromiseLetter, AcceptLetter, AcceptedLetter, ChosenLetter}
 use Rattle.hk_paxos.proofs.Order.{level, Le, Lt, le_then, lt_then, lt_not_le, order}

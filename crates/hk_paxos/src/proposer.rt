@@ -103,18 +103,14 @@ impl Proposer {
     fn counts_acceptance(&self, from: u8, ballot: Ballot) -> bool
         ensures { result ≡ counts_acceptance self.now from ballot }
     {
-        ballot == self.ballot
+        self.ballot == ballot
             && is_more_than_half(self.promised.len(), self.managers)
             && !is_more_than_half(self.accepted.len(), self.managers)
             && !self.accepted.as_slice().contains(&from)
     }
 
     // The view to propose where one more promise, which tells this, makes a majority.
-    fn view_to_propose(
-        &self,
-        alloc: Global,
-        told: &Option<Voted>,
-    ) -> Result<Option<View>, Memory>
+    fn view_to_propose(&self, alloc: Global, told: &Option<Voted>) -> Result<Option<View>, Memory>
         ensures { IfOk result (λ view. view ≡ (if is_majority self.now.managers (length self.now.promised + 1)
             then Some (value_or (if is_higher told.now self.now.highest then told.now else self.now.highest) self.now.own) else None)) }
     {
