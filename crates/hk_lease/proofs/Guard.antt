@@ -1,14 +1,14 @@
 -- The lease of each live node that a view leaves out has ended.
-use Rattle.std.proofs.Common.{◌≡◌, ◌≢◌, ◌⊎◌, ℕ, zero, suc, ◌+◌, ◌<◌, ◌≤◌, Bool, true, false, cond, List, [], ◌∷◌, Ok, max, nat_eq, nat_le, refl, sym, ap, subst, ◌∙◌, inl, inr, ⊎_elim, arith, le_trans, le_refl, IsTrue}
+use Rattle.std.proofs.Common.{◌≡◌, ◌≢◌, ◌⊎◌, ℕ, ◌+◌, ◌<◌, ◌≤◌, Bool, true, false, cond, List, [], ◌∷◌, nat_eq, nat_le, refl, sym, ◌∙◌, inl, inr, ⊎_elim, arith, le_trans, le_refl, IsTrue}
 use Rattle.std.specs.List.{list_any}
-use Rattle.std.proofs.lemmas.Bool.{cases_eq, cases_Bool, eqb-true, eqb-false, or_cases, leb-true, cases_lt, false≢true}
+use Rattle.std.proofs.lemmas.Bool.{cases_eq, eqb-true, eqb-false, or_cases, leb-true, cases_lt, false≢true}
 use Rattle.hk_base.specs.declared.stamp.NodeId.{NodeId}
 use Rattle.hk_base.specs.declared.view.View.{View}
 use Rattle.hk_lease.specs.Grants.{end_of, with_grant}
-use Rattle.hk_lease.specs.Past.{is_member, past_answer}
-use Rattle.hk_lease.specs.Run.{Manager, Node, State, Event, put, with_manager, with_node, manager_ticked, node_ticked, next, IsUp, IsLive, MayHappen, IsNear, IsRun, IsGranted, MayInstall, IsStart, last_state, NeverReturns, IsMajority}
+use Rattle.hk_lease.specs.Past.{is_member}
+use Rattle.hk_lease.specs.Run.{Manager, Node, State, Event, put, with_manager, with_node, next, IsLive, MayHappen, IsNear, IsRun, IsGranted, MayInstall, IsStart, last_state, NeverReturns}
 use Rattle.hk_lease.specs.Run.Event.{TickManager, TickNode, TickAll, StopManager, StopNode, Start, Learn, Grant, Activate}
-use Rattle.hk_lease.proofs.Noted.{granted_other, granted_same, past}
+use Rattle.hk_lease.proofs.Noted.{granted_other, past}
 use Rattle.hk_lease.proofs.Majorities.{meet}
 
 by_put : {X : Type 0} (Q : X → Type 0) (m : ℕ) (x : X) (f : ℕ → X) (j : ℕ) → (j ≡ m → Q x) → (j ≢ m → Q (f j)) → Q (put m x f j)

@@ -2,3 +2,4 @@ pub mod Middle
 pub mod Noted
 pub mod Majorities
 pub mod Guard
+pub mod Least

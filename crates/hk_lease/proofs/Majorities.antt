@@ -1,5 +1,5 @@
 -- Two majorities share a manager.
-use Rattle.std.proofs.Common.{◌≡◌, ℕ, zero, suc, ◌+◌, ◌*◌, ◌<◌, ◌≤◌, Bool, true, false, ◌&&◌, cond, refl, arith}
+use Rattle.std.proofs.Common.{◌≡◌, ℕ, zero, suc, ◌+◌, ◌<◌, ◌≤◌, Bool, true, false, ◌&&◌, cond, refl, arith}
 use Rattle.std.proofs.lemmas.Bool.{and_parts}
 use Rattle.hk_lease.specs.Run.{count_managers, IsMajority}
 

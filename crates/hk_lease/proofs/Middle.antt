@@ -1,6 +1,5 @@
 -- The middle of a sorted list is the greatest end that a majority granted at least.
-use Rattle.std.proofs.Common.{◌≡◌, ℕ, zero, suc, ◌+◌, ◌-◌, ◌*◌, ◌/◌, ◌<◌, ◌≤◌, Bool, true, false, cond, List, [], ◌∷◌, length, take, drop, slice_index_or, refl, sym, ap, ◌∙◌, ⊎_elim, nat_lt, nat_le, arith, length-take, length-drop}
-use Rattle.std.specs.List.{count_by, sum_by, All}
+use Rattle.std.proofs.Common.{◌≡◌, ℕ, zero, suc, ◌+◌, ◌-◌, ◌*◌, ◌/◌, ◌<◌, ◌≤◌, Bool, cond, List, [], ◌∷◌, length, slice_index_or, ap, ◌∙◌, ⊎_elim, nat_le, arith}
 use Rattle.std.specs.List.Sorted.{IsPermutation, IsSorted, IsNonDecreasing}
 use Rattle.std.specs.Ordering.{nat_cmp}
 use Rattle.std.proofs.lemmas.List.Sorted.{IsNonDecreasingBy-from_sort, sum_by-IsPermutation, length_permutation}

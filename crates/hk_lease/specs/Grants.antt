@@ -1,5 +1,5 @@
 -- The greatest end that was granted to each node: nodes and ends, in rising order of the nodes.
-use Rattle.std.specs.Prelude.{ℕ, List, Option, unwrap_or, max, nat_lt, if◌then◌else◌}
+use Rattle.std.specs.Prelude.{ℕ, List, unwrap_or, max}
 use Rattle.std.specs.declared.cmp.Ordering.{Ordering}
 use Rattle.std.specs.Ordering.{nat_cmp}
 use Rattle.std.specs.BTreeMap.{is_at, insert_entry}

@@ -1,6 +1,6 @@
 -- Whether what was granted outside a view is past.
-use Rattle.std.specs.Prelude.{◌≡◌, ℕ, List, Option, None, Some, Bool, nat_le, ◌==◌, ◌&&◌, not, Result, Ok, Err}
-use Rattle.std.specs.List.{list_any, find}
+use Rattle.std.specs.Prelude.{◌≡◌, ◌⊎◌, ◌<◌, ◌≤◌, ℕ, List, [], ◌∷◌, Option, None, Some, Bool, false, nat_le, ◌==◌, ◌&&◌, not, Result, Ok, Err}
+use Rattle.std.specs.List.{list_any, find, AllByRecursion}
 use Rattle.hk_base.specs.declared.stamp.NodeId.{NodeId}
 use Rattle.hk_base.specs.declared.view.View.{View}
 use Rattle.hk_lease.specs.declared.grants.NotPast.{NotPast}
@@ -23,3 +23,16 @@ past_or (Some grant) = Err (record { node = grant.0; end = grant.1 })
 
 abbrev pub past_answer : List (NodeId × ℕ) → View → ℕ → Result Unit NotPast
 past_answer grants view now = past_or (first_running grants view now)
+
+-- it stands in the list
+abbrev pub Among : {X : Type 0} → List X → X → Type 0
+Among [] x = ⊥
+Among (y ∷ ys) x = (x ≡ y) ⊎ Among ys x
+
+-- Ok exactly where every end that was granted outside the view is below now. Else a node outside whose end is not, and no
+-- lower node is one.
+abbrev pub IsAllPast : Result Unit NotPast → List (NodeId × ℕ) → View → ℕ → Type 0
+IsAllPast (Ok _) grants view now = AllByRecursion (λ grant. is_member view grant.0 ≡ false → grant.1 < now) grants
+IsAllPast (Err fault) grants view now =
+    Among grants (fault.node, fault.end) × (is_member view fault.node ≡ false) × (now ≤ fault.end)
+    × AllByRecursion (λ grant. is_member view grant.0 ≡ false → now ≤ grant.1 → fault.node.0 ≤ grant.0.0) grants

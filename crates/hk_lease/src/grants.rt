@@ -2,7 +2,7 @@
 
 ghost use Rattle.std.specs.Prelude.{◌≡◌, [], OnOk, OnErr};
 ghost use Rattle.hk_lease.specs.Grants.{with_grant};
-ghost use Rattle.hk_lease.specs.Past.{may_run, past_answer};
+ghost use Rattle.hk_lease.specs.Past.{may_run, past_answer, IsAllPast};
 
 use hk_base::{Memory, NodeId, View};
 use std::alloc::Global;
@@ -64,8 +64,9 @@ impl Grants {
     /// not, and that end. It takes no memory.
     pub fn all_past(&self, view: &View, now: u64) -> Result<(), NotPast>
         ensures exact { result ≡ past_answer self.now view.now now }
+        ensures least { IsAllPast result self.now view.now now }
     {
-        for (node, end) in &self.ends {
+        for (node, end) in self.ends.iter() {
             if may_run(view, now, *node, *end) {
                 return Err(NotPast {
                     node: *node,

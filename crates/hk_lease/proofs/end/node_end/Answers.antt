@@ -1,4 +1,4 @@
-use Rattle.std.proofs.Common.{◌≡◌, ℕ, ◌-◌, ◌/◌, slice_index_or, sym, subst, ◌∙◌, arith}
+use Rattle.std.proofs.Common.{ℕ, ◌-◌, ◌/◌, slice_index_or, sym, subst, ◌∙◌, arith}
 use Rattle.hk_lease.specs.Ends.{IsNodeEnd}
 use Rattle.hk_lease.proofs.Middle.{middle}
 use Rattle.hk_lease.proofs.end.node_end.Goals as goal
