@@ -1,11 +1,12 @@
 -- The middle of a sorted list is the greatest end that a majority granted at least.
-use Rattle.std.proofs.Common.{◌≡◌, ℕ, zero, suc, ◌+◌, ◌-◌, ◌*◌, ◌/◌, ◌<◌, ◌≤◌, Bool, cond, List, [], ◌∷◌, length, slice_index_or, ap, ◌∙◌, ⊎_elim, nat_le, arith}
+use Rattle.std.proofs.Common.{◌≡◌, ℕ, zero, suc, ◌+◌, ◌-◌, ◌*◌, ◌/◌, ◌<◌, ◌≤◌, Bool, true, false, cond, List, [], ◌∷◌, length, slice_index_or, refl, ap, subst, ◌∙◌, ⊎_elim, nat_le, nat_lt, arith, max}
+use Rattle.std.specs.List.{Contains}
 use Rattle.std.specs.List.Sorted.{IsPermutation, IsSorted, IsNonDecreasing}
 use Rattle.std.specs.Ordering.{nat_cmp}
-use Rattle.std.proofs.lemmas.List.Sorted.{IsNonDecreasingBy-from_sort, sum_by-IsPermutation, length_permutation}
+use Rattle.std.proofs.lemmas.List.Sorted.{IsNonDecreasingBy-from_sort, sum_by-IsPermutation, length_permutation, IsPermutation-sym, Contains-permutation}
 use Rattle.std.proofs.lemmas.List.Sums.{sum_by-cons, count_by-le-length}
-use Rattle.std.proofs.lemmas.Bool.{le-leb, lt-leb, cases_lt}
-use Rattle.hk_lease.specs.Ends.{granting, IsNodeEnd}
+use Rattle.std.proofs.lemmas.Bool.{le-leb, lt-leb, lt-ltb, ltb-true, cases_lt}
+use Rattle.hk_lease.specs.Ends.{granting, IsNodeEnd, greatest_passing, granted_end}
 
 counted : (x end : ℕ) (xs : List ℕ) → end ≤ x → granting (x ∷ xs) end ≡ 1 + granting xs end
 counted x end xs h = sum_by-cons _ x xs ∙ ap (λ (b : Bool). cond b 1 0 + granting xs end) (le-leb end x h)
@@ -64,3 +65,36 @@ middle ends copied rising same moved sorted some = record { granted = granted; g
         let few = at_most rising later ((length ends - 1) / 2 + 1) (omega (arith, inside)) (λ j below. omega (arith, up j ((length ends - 1) / 2) 0 (omega arith) inside, l)) in
         absurd (omega (arith, few, long, like later, h)))
         (λ (g : later ≤ slice_index_or rising ((length ends - 1) / 2) 0). g) (cases_lt (slice_index_or rising ((length ends - 1) / 2) 0) later)
+
+upto : (test : ℕ → Bool) (end : ℕ) (ends : List ℕ) → ((x : ℕ) → test x ≡ true → x ≤ end) → greatest_passing test ends ≤ end
+upto test end [] h = omega arith
+upto test end (x ∷ xs) h = at (test x) refl (upto test end xs h)
+  where
+    at : (b : Bool) → test x ≡ b → greatest_passing test xs ≤ end → cond b (max x (greatest_passing test xs)) (greatest_passing test xs) ≤ end
+    at true e ih = omega (arith, h x e)
+    at false e ih = ih
+
+from : (test : ℕ → Bool) (ends : List ℕ) (i : ℕ) → i < length ends → test (slice_index_or ends i 0) ≡ true → slice_index_or ends i 0 ≤ greatest_passing test ends
+from test [] i h t = absurd (omega arith)
+from test (x ∷ xs) zero h t = rw t (omega arith)
+from test (x ∷ xs) (suc i) h t = at (test x) (from test xs i (omega arith) t)
+  where
+    at : (b : Bool) → slice_index_or xs i 0 ≤ greatest_passing test xs → slice_index_or xs i 0 ≤ cond b (max x (greatest_passing test xs)) (greatest_passing test xs)
+    at true ih = omega arith
+    at false ih = ih
+
+any_default : (ends : List ℕ) (i d e : ℕ) → i < length ends → slice_index_or ends i d ≡ slice_index_or ends i e
+any_default [] i d e h = absurd (omega arith)
+any_default (x ∷ xs) zero d e h = refl
+any_default (x ∷ xs) (suc i) d e h = any_default xs i d e (omega arith)
+
+-- the end of a majority is the greatest of those that pass
+pub found : (ends copied rising : List ℕ) (place : ℕ) → copied ≡ ends → IsPermutation copied rising → place < length rising → IsNodeEnd ends (slice_index_or rising place 0) → slice_index_or rising place 0 ≡ granted_end ends
+found ends copied rising place same moved inside is =
+    let passes : nat_lt (length ends) (2 * granting ends (slice_index_or rising place 0)) ≡ true = lt-ltb (length ends) (2 * granting ends (slice_index_or rising place 0)) is.granted in
+    let there : Contains rising (slice_index_or rising place 0) = (place, inside, any_default rising place (slice_index_or rising place 0) 0 inside) in
+    let was : Contains ends (slice_index_or rising place 0) = subst (λ (xs : List ℕ). Contains xs (slice_index_or rising place 0)) same (Contains-permutation rising copied (slice_index_or rising place 0) (IsPermutation-sym copied rising moved) there) in
+    let at : slice_index_or ends was.0 0 ≡ slice_index_or rising place 0 = any_default ends was.0 0 (slice_index_or rising place 0) was.1 ∙ was.2 in
+    let low = upto (λ (end : ℕ). nat_lt (length ends) (2 * granting ends end)) (slice_index_or rising place 0) ends (λ x h. is.greatest x (ltb-true (length ends) (2 * granting ends x) h)) in
+    let high = from (λ (end : ℕ). nat_lt (length ends) (2 * granting ends end)) ends was.0 was.1 (rw at passes) in
+    omega (arith, low, high, at)
