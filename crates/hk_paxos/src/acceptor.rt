@@ -38,7 +38,7 @@ fn copy_of_vote(alloc: Global, voted: &Option<Voted>) -> Result<Option<Voted>, M
 }
 
 // Whether a promise forbids the ballot.
-fn is_forbidden(promised: Option<Ballot>, ballot: Ballot) -> bool
+fn is_refused(promised: Option<Ballot>, ballot: Ballot) -> bool
     ensures { result ≡ is_refused promised ballot }
 {
     match promised {
@@ -65,7 +65,7 @@ impl Acceptor {
         ensures after { OnOk result (self.new ≡ (acceptor_on_prepare self.old ballot).after) }
         ensures err { OnErr result (self.new ≡ self.old) }
     {
-        if is_forbidden(self.promised, ballot) {
+        if is_refused(self.promised, ballot) {
             return Ok(None);
         }
         let accepted = copy_of_vote(alloc, &self.accepted)?;
@@ -79,7 +79,7 @@ impl Acceptor {
         ensures answer { result ≡ (acceptor_on_accept self.old ballot view).answer }
         ensures after { self.new ≡ (acceptor_on_accept self.old ballot view).after }
     {
-        if is_forbidden(self.promised, ballot) {
+        if is_refused(self.promised, ballot) {
             return None;
         }
         self.promised = Some(ballot);

@@ -25,14 +25,14 @@ pub struct Proposer {
 }
 
 // Whether so many are more than half of the managers.
-fn is_more_than_half(count: usize, managers: u8) -> bool
+fn is_majority(managers: u8, count: usize) -> bool
     ensures { result ≡ is_majority managers count }
 {
     count > usize::from(managers) / 2
 }
 
 // Whether what was told was accepted at a higher ballot than what is known.
-fn is_news(told: &Option<Voted>, known: &Option<Voted>) -> bool
+fn is_higher(told: &Option<Voted>, known: &Option<Voted>) -> bool
     ensures { result ≡ is_higher told.now known.now }
 {
     match (told, known) {
@@ -43,7 +43,7 @@ fn is_news(told: &Option<Voted>, known: &Option<Voted>) -> bool
 }
 
 // The view of the highest vote, or the proposer's own where there is none.
-fn value<'a>(highest: &'a Option<Voted>, own: &'a View) -> &'a View
+fn value_or<'a>(highest: &'a Option<Voted>, own: &'a View) -> &'a View
     ensures { result.now ≡ value_or highest.now own.now }
 {
     match highest {
@@ -95,7 +95,7 @@ impl Proposer {
         ensures { result ≡ counts_promise self.now from ballot }
     {
         ballot == self.ballot
-            && !is_more_than_half(self.promised.len(), self.managers)
+            && !is_majority(self.managers, self.promised.len())
             && !self.promised.as_slice().contains(&from)
     }
 
@@ -104,8 +104,8 @@ impl Proposer {
         ensures { result ≡ counts_acceptance self.now from ballot }
     {
         self.ballot == ballot
-            && is_more_than_half(self.promised.len(), self.managers)
-            && !is_more_than_half(self.accepted.len(), self.managers)
+            && is_majority(self.managers, self.promised.len())
+            && !is_majority(self.managers, self.accepted.len())
             && !self.accepted.as_slice().contains(&from)
     }
 
@@ -114,15 +114,15 @@ impl Proposer {
         ensures { IfOk result (λ view. view ≡ (if is_majority self.now.managers (length self.now.promised + 1)
             then Some (value_or (if is_higher told.now self.now.highest then told.now else self.now.highest) self.now.own) else None)) }
     {
-        if !is_more_than_half(self.promised.as_slice().len() + 1, self.managers) {
+        if !is_majority(self.managers, self.promised.as_slice().len() + 1) {
             return Ok(None);
         }
-        let highest = if is_news(told, &self.highest) {
+        let highest = if is_higher(told, &self.highest) {
             told
         } else {
             &self.highest
         };
-        let view = value(highest, &self.own).copy(alloc)?;
+        let view = value_or(highest, &self.own).copy(alloc)?;
         Ok(Some(view))
     }
 
@@ -130,10 +130,10 @@ impl Proposer {
     fn view_chosen(&self, alloc: Global) -> Result<Option<View>, Memory>
         ensures { IfOk result (λ view. view ≡ (if is_majority self.now.managers (length self.now.accepted + 1) then Some (value_of self.now) else None)) }
     {
-        if !is_more_than_half(self.accepted.as_slice().len() + 1, self.managers) {
+        if !is_majority(self.managers, self.accepted.as_slice().len() + 1) {
             return Ok(None);
         }
-        let view = value(&self.highest, &self.own).copy(alloc)?;
+        let view = value_or(&self.highest, &self.own).copy(alloc)?;
         Ok(Some(view))
     }
 
@@ -157,7 +157,7 @@ impl Proposer {
         }
         let view = self.view_to_propose(alloc, &accepted)?;
         self.promised.push(from)?;
-        if is_news(&accepted, &self.highest) {
+        if is_higher(&accepted, &self.highest) {
             self.highest = accepted;
         }
         Ok(view)
