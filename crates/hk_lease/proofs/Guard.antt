@@ -184,8 +184,8 @@ module _ (views : ℕ → View) (managers skew : ℕ) (chain : NeverReturns view
     node_clocks = s.node_clocks;
     held = λ m epoch h. absurd (false≢true (rw (s.activated m) at h));
     ended = λ m epoch node h l. absurd (false≢true (rw (s.activated m) at h));
-    near = λ m node some running. s.near m node.0 (s.running m) (record { started = s.founders m node some; running = running });
-    started = s.founders;
+    near = λ m node some running. let f = s.founders m node some in s.near m node.0 f.0 (record { started = f.1; running = running });
+    started = λ m node some. (s.founders m node some).1;
   }
 
   pub guarded : (st : State) → IsStart views managers skew st → (events : List Event) → IsRun views managers skew st events → (epoch lower : ℕ) (node : NodeId) (end : ℕ) →

@@ -3,3 +3,4 @@ pub mod Noted
 pub mod Majorities
 pub mod Guard
 pub mod Least
+pub mod Runs

@@ -113,13 +113,12 @@ module _ (views : ℕ → View) (managers skew : ℕ) where
   abbrev pub MayInstall : State → ℕ → Type 0
   MayInstall st epoch = IsMajority managers (λ m. list_any (λ sent. sent == epoch) (st.manager m).activated)
 
-  -- All managers run, and no ACTIVATE was sent. Clocks are at least 1. Founders may have been granted ends.
+  -- Clocks are at least 1, and no ACTIVATE was sent. Ends may have been granted to founders, by managers that run.
   pub record IsStart (st : State) : Type 0 where
-    pub running : (m : ℕ) → IsUp st m
     pub clocks : (m : ℕ) → 1 ≤ (st.manager m).clock
     pub node_clocks : (n : ℕ) → (st.node n).started ≡ true → 1 ≤ (st.node n).clock
     pub near : IsNear st
-    pub founders : (m : ℕ) (node : NodeId) → 1 ≤ end_of (st.manager m).granted node → (st.node node.0).started ≡ true
+    pub founders : (m : ℕ) (node : NodeId) → 1 ≤ end_of (st.manager m).granted node → IsUp st m × ((st.node node.0).started ≡ true)
     pub activated : (m : ℕ) → (st.manager m).activated ≡ []
 
 abbrev pub last_state : State → List Event → State

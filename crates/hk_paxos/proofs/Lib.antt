@@ -2,3 +2,4 @@ pub mod Order
 pub mod Quorums
 pub mod Parts
 pub mod Events
+pub mod Runs
