@@ -11,6 +11,7 @@ pub fn node_end(ends: &[u64], managers: u8) -> u64
     ensures majority { IsNodeEnd ends.now result }
     ensures value { result ≡ granted_end ends.now }
 {
+    // a place for each manager, of whom there are at most 255
     let mut room = [0; 255];
     let rising = &mut room[..ends.len()];
     rising.copy_from_slice(ends);

@@ -1,7 +1,8 @@
 //! What one manager granted.
 
-ghost use Rattle.std.specs.Prelude.{◌≡◌, [], OnOk, OnErr};
-ghost use Rattle.hk_lease.specs.Grants.{with_grant};
+ghost use Rattle.std.specs.Prelude.{◌≡◌, ◌≢◌, [], max, OnOk, OnErr};
+ghost use Rattle.hk_base.specs.declared.stamp.NodeId.{NodeId};
+ghost use Rattle.hk_lease.specs.Grants.{end_of, with_grant};
 ghost use Rattle.hk_lease.specs.Past.{may_run, past_answer, IsAllPast};
 
 use hk_base::{Memory, NodeId, View};
@@ -51,8 +52,11 @@ impl Grants {
     }
 
     /// Notes that the node was granted the end. The greatest end per node is kept. After `Memory` nothing has changed.
+    #[tactic(auto, using(crate::proofs::Noted::granted_same))]
     pub fn grant(&mut self, node: NodeId, end: u64) -> Result<(), Memory>
         ensures ok { OnOk result (self.new ≡ with_grant self.old node end) }
+        ensures greatest { OnOk result (end_of self.new node ≡ max (end_of self.old node) end) }
+        ensures others { OnOk result ((other : NodeId) → other.0 ≢ node.0 → end_of self.new other ≡ end_of self.old other) }
         ensures err { OnErr result (self.new ≡ self.old) }
     {
         let granted = self.ends.get(&node).copied().unwrap_or(0);
