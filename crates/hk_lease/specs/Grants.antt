@@ -1,0 +1,18 @@
+-- The greatest end that was granted to each node: nodes and ends, in rising order of the nodes.
+use Rattle.std.specs.Prelude.{ℕ, List, unwrap_or, max}
+use Rattle.std.specs.declared.cmp.Ordering.{Ordering}
+use Rattle.std.specs.Ordering.{nat_cmp}
+use Rattle.std.specs.BTreeMap.{is_at, insert_entry}
+use Rattle.std.specs.Map.{lookup}
+use Rattle.hk_base.specs.declared.stamp.NodeId.{NodeId}
+
+abbrev pub by_number : NodeId → NodeId → Ordering
+by_number a b = nat_cmp a.0 b.0
+
+-- the end of a node, 0 where it was granted nothing
+abbrev pub end_of : List (NodeId × ℕ) → NodeId → ℕ
+end_of grants node = unwrap_or (lookup (is_at (by_number node)) grants) 0
+
+-- the node was granted the end too
+abbrev pub with_grant : List (NodeId × ℕ) → NodeId → ℕ → List (NodeId × ℕ)
+with_grant grants node end = insert_entry by_number grants node (max (end_of grants node) end)

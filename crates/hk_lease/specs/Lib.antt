@@ -1,0 +1,4 @@
+pub mod Ends
+pub mod Grants
+pub mod Past
+pub mod Run

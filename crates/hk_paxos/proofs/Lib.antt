@@ -1,0 +1,5 @@
+pub mod Order
+pub mod Quorums
+pub mod Parts
+pub mod Events
+pub mod Runs

@@ -1,0 +1,2 @@
+pub mod Paxos
+pub mod Run

@@ -1,0 +1,20 @@
+//! Single-decree Paxos, by which managers agree on one view.
+//!
+//! Each manager is an *acceptor* and, where it wants a view, a *proposer*. A proposer asks for promises at a ballot of
+//! its own, proposes the view that the promises of a majority leave it, and reports a view once a majority accepted
+//! it. All of it is one instance, which is named by the epoch of the view that is agreed on. The calls are exactly the
+//! functions of `specs/Paxos.antt`. Of these a *run* is made, in `specs/Run.antt`: managers that propose, stop, and are
+//! delivered any letter that was ever sent, in any order, once, often or never. `agreement` is the law over all runs.
+//!
+//! The algorithm is Lamport's, "Paxos made simple" (2001); the phases 1a to 2b are named as in his TLA+ of Paxos.
+#![tactic(auto)]
+
+mod acceptor;
+mod law;
+mod proposer;
+#[cfg(test)]
+mod tests;
+
+pub use acceptor::{Acceptor, Promise};
+pub use law::agreement;
+pub use proposer::Proposer;
