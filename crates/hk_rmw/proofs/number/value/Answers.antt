@@ -1,5 +1,5 @@
 -- The digits are a text, and std reads their value where it is below 2^64.
-use Rattle.std.proofs.Common.{◌∙◌, rules}
+use Rattle.std.proofs.Common.{◌∙◌}
 use Rattle.hk_rmw.proofs.Digits.{parsed_value, are_text}
 use Rattle.hk_rmw.proofs.number.value.Goals as goal
 
