@@ -1,6 +1,6 @@
 -- What a history says of a call, which goes by its number.
-use Rattle.std.specs.Prelude.{ℕ, ◌<◌, List, [], ◌∷◌, Option, None, Some, ◌==◌, Bool, true, false, if◌then◌else◌}
-use Rattle.std.specs.List.{position_or_len}
+use Rattle.std.specs.Prelude.{ℕ, ◌<◌, ◌≤◌, List, [], ◌∷◌, Option, None, Some, ◌==◌, Bool, true, false, if◌then◌else◌, IsTrue, count_by}
+use Rattle.std.specs.List.{position_or_len, list_any}
 use Rattle.hk_base.specs.declared.call.Op.{Op}
 use Rattle.hk_base.specs.declared.call.Answer.{Answer}
 use Rattle.hk_base.specs.declared.call.Answer.TheVariants.{Busy, Aborted, Exhausted}
@@ -52,3 +52,9 @@ is_answered (Some (Busy why)) = false
 is_answered (Some (Exhausted s)) = false
 is_answered (Some (Aborted s)) = false
 is_answered (Some answer) = true
+
+-- Each number is called once, and has at most one reply, which follows its call.
+pub record IsHistory (history : List Event) : Type 0 where
+  pub called_once : (n : ℕ) → count_by (is_call n) history ≤ 1
+  pub replied_once : (n : ℕ) → count_by (is_reply n) history ≤ 1
+  pub follows : (n : ℕ) → IsTrue (list_any (is_reply n) history) → Before (is_call n) (is_reply n) history

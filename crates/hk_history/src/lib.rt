@@ -6,6 +6,20 @@
 //! knows of nodes, letters or time.
 #![tactic(auto)]
 
+mod case;
+mod check;
+mod early;
 mod event;
+mod fault;
+mod folding;
+mod history;
+mod index;
+mod kind;
+mod rules;
+#[cfg(test)]
+mod tests;
 
+pub use check::check_order;
 pub use event::{Entries, Entry, Event, Items};
+pub use fault::{CheckFault, Rule};
+pub use history::is_history;

@@ -1,0 +1,10 @@
+pub mod Found
+pub mod FoundRules
+pub mod Folds
+pub mod Least
+pub mod Standing
+pub mod Rising
+pub mod Overtaking
+pub mod Ruled
+pub mod Verdict
+pub mod Singles

@@ -1,0 +1,2 @@
+pub mod AllDigits
+pub mod Digits

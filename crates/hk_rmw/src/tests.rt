@@ -1,0 +1,53 @@
+use super::*;
+use hk_base::{Answer, Content, Data, DataFault, Op};
+use std::alloc::Global;
+use std::test::*;
+
+fn content(alloc: Global, flags: u32, bytes: &[u8]) -> Result<Content, DataFault> {
+    let bytes = Data::read(alloc, bytes)?;
+    Ok(Content { flags, bytes })
+}
+
+// What the operation writes over these bytes, under flags 7, and whether it answers this number.
+fn writes(alloc: Global, op: &Op, held: &[u8], written: &[u8], number: u64) -> bool {
+    let Ok(held) = content(alloc, 7, held) else {
+        return false;
+    };
+    match turn(alloc, op, Some((&held, 131_072))) {
+        Ok(Turn::Change { content, answer }) => {
+            content.flags == 7
+                && content.bytes.bytes() == written
+                && answer == Answer::Number(number)
+        }
+        Ok(Turn::Stay(_)) | Err(_) => false,
+    }
+}
+
+// Whether an incr of these bytes is told that they are no number.
+fn is_no_number(alloc: Global, held: &[u8]) -> bool {
+    let Ok(held) = content(alloc, 0, held) else {
+        return false;
+    };
+    matches!(
+        turn(alloc, &Op::Incr(1), Some((&held, 131_072))),
+        Ok(Turn::Stay(Answer::NotNumber))
+    )
+}
+
+#[test]
+fn numbers(rt: HostRuntime) {
+    let alloc = rt.alloc();
+    assert!(rt; writes(alloc, &Op::Decr(9), b"5", b"0", 0));
+    assert!(rt; writes(alloc, &Op::Incr(1), b"007", b"8", 8));
+    assert!(rt; writes(alloc, &Op::Incr(1), b"18446744073709551615", b"0", 0));
+    assert!(rt; writes(alloc, &Op::Incr(0), b"5", b"5", 5));
+    assert!(rt; is_no_number(alloc, b"18446744073709551616"));
+    assert!(rt; is_no_number(alloc, b"000000000000000000005"));
+    assert!(rt; is_no_number(alloc, b""));
+    assert!(rt;
+        matches!(
+            turn(alloc, &Op::Incr(1), None),
+            Ok(Turn::Stay(Answer::NotFound))
+        )
+    );
+}
