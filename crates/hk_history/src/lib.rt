@@ -16,8 +16,6 @@ mod history;
 mod index;
 mod kind;
 mod rules;
-#[cfg(test)]
-mod tests;
 
 pub use check::check_order;
 pub use event::{Entries, Entry, Event, Items};

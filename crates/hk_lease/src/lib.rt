@@ -10,8 +10,6 @@
 mod end;
 mod grants;
 mod law;
-#[cfg(test)]
-mod tests;
 
 pub use end::node_end;
 pub use grants::{Grants, NotPast};

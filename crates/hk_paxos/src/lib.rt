@@ -12,8 +12,6 @@
 mod acceptor;
 mod law;
 mod proposer;
-#[cfg(test)]
-mod tests;
 
 pub use acceptor::{Acceptor, Promise};
 pub use law::agreement;

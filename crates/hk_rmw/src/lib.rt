@@ -7,8 +7,6 @@
 mod number;
 mod outcome;
 mod register;
-#[cfg(test)]
-mod tests;
 
 pub use outcome::Turn;
 pub use register::turn;

@@ -5,3 +5,11 @@
 mod drill;
 #[cfg(test)]
 mod keys;
+#[cfg(test)]
+mod leases;
+#[cfg(test)]
+mod orders;
+#[cfg(test)]
+mod paxos;
+#[cfg(test)]
+mod turns;

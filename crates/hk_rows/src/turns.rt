@@ -1,7 +1,8 @@
-use super::*;
+//! Turns of an operation on a register.
+
 use hk_base::{Answer, Content, Data, DataFault, Op};
+use hk_rmw::{Turn, turn};
 use std::alloc::Global;
-use std::test::*;
 
 fn content(alloc: Global, flags: u32, bytes: &[u8]) -> Result<Content, DataFault> {
     let bytes = Data::read(alloc, bytes)?;
@@ -35,15 +36,38 @@ fn is_no_number(alloc: Global, held: &[u8]) -> bool {
 }
 
 #[test]
-fn numbers(rt: HostRuntime) {
+fn numbers_wrap_stop_and_lose_their_zeros(rt: HostRuntime) {
     let alloc = rt.alloc();
-    assert!(rt; writes(alloc, &Op::Decr(9), b"5", b"0", 0));
-    assert!(rt; writes(alloc, &Op::Incr(1), b"007", b"8", 8));
-    assert!(rt; writes(alloc, &Op::Incr(1), b"18446744073709551615", b"0", 0));
-    assert!(rt; writes(alloc, &Op::Incr(0), b"5", b"5", 5));
-    assert!(rt; is_no_number(alloc, b"18446744073709551616"));
-    assert!(rt; is_no_number(alloc, b"000000000000000000005"));
-    assert!(rt; is_no_number(alloc, b""));
+    let rows: [(Op, &[u8], &[u8], u64); 5] = [
+        (Op::Decr(9), b"5", b"0", 0),
+        (Op::Incr(1), b"007", b"8", 8),
+        (Op::Incr(1), b"18446744073709551615", b"0", 0),
+        (Op::Incr(0), b"5", b"5", 5),
+        (
+            Op::Decr(1),
+            b"18446744073709551615",
+            b"18446744073709551614",
+            u64::MAX - 1,
+        ),
+    ];
+    for (op, held, written, number) in rows {
+        assert!(rt; writes(alloc, &op, held, written, number));
+    }
+}
+
+#[test]
+fn other_bytes_are_no_numbers(rt: HostRuntime) {
+    let alloc = rt.alloc();
+    let rows: [&[u8]; 5] = [
+        b"18446744073709551616",
+        b"000000000000000000005",
+        b"",
+        b"-1",
+        b"5 ",
+    ];
+    for held in rows {
+        assert!(rt; is_no_number(alloc, held));
+    }
     assert!(rt;
         matches!(
             turn(alloc, &Op::Incr(1), None),

@@ -1,7 +1,9 @@
-use super::*;
-use hk_base::{Ballot, NodeId, Sequence, View, Voted};
+//! An acceptor and a proposer, letter by letter.
+
+use hk_base::{Ballot, Sequence, View, Voted};
+use hk_paxos::{Acceptor, Promise, Proposer};
 use std::alloc::Global;
-use std::test::*;
+use std::test::Fail;
 
 fn ballot(round: u32, manager: u8) -> Ballot {
     Ballot { round, manager }
@@ -16,7 +18,7 @@ fn view(alloc: Global, epoch: u64, next: u32) -> View {
 }
 
 #[test]
-fn acceptor_refuses_below_its_promise(rt: HostRuntime) {
+fn an_acceptor_refuses_below_its_promise(rt: HostRuntime) {
     let alloc = rt.alloc();
     let mut acceptor = Acceptor::new();
     assert!(rt; matches!(acceptor.on_prepare(alloc, ballot(2, 0)), Ok(Some(_))));
@@ -42,7 +44,7 @@ fn acceptor_refuses_below_its_promise(rt: HostRuntime) {
 }
 
 #[test]
-fn promise_tells_what_was_accepted(rt: HostRuntime) {
+fn a_promise_tells_what_was_accepted(rt: HostRuntime) {
     let alloc = rt.alloc();
     let mut acceptor = Acceptor::new();
     let at = acceptor.on_accept(ballot(1, 1), view(alloc, 2, 3));
@@ -74,12 +76,10 @@ fn promise() -> Promise {
 }
 
 #[test]
-fn proposer_of_three(rt: HostRuntime) {
+fn a_proposer_of_three_counts_each_manager_once(rt: HostRuntime) -> Result<(), Fail> {
     let alloc = rt.alloc();
     let at = ballot(2, 0);
-    let Ok(mut proposer) = Proposer::new(alloc, 2, at, view(alloc, 2, 3), 3) else {
-        return;
-    };
+    let mut proposer = Proposer::new(alloc, 2, at, view(alloc, 2, 3), 3)?;
     assert!(rt; matches!(proposer.on_accepted(alloc, 0, at), Ok(None)));
     assert!(rt; matches!(proposer.on_promise(alloc, 0, promise()), Ok(None)));
     assert!(rt; matches!(proposer.on_promise(alloc, 0, promise()), Ok(None)));
@@ -91,15 +91,14 @@ fn proposer_of_three(rt: HostRuntime) {
     let chosen = proposer.on_accepted(alloc, 1, at);
     assert!(rt; matches!(chosen, Ok(Some(View { next: 3, .. }))));
     assert!(rt; matches!(proposer.on_accepted(alloc, 2, at), Ok(None)));
+    Ok(())
 }
 
 #[test]
-fn proposer_takes_what_was_accepted(rt: HostRuntime) {
+fn a_proposer_takes_what_was_accepted(rt: HostRuntime) -> Result<(), Fail> {
     let alloc = rt.alloc();
     let at = ballot(2, 0);
-    let Ok(mut proposer) = Proposer::new(alloc, 2, at, view(alloc, 2, 3), 3) else {
-        return;
-    };
+    let mut proposer = Proposer::new(alloc, 2, at, view(alloc, 2, 3), 3)?;
     let told = Promise {
         ballot: at,
         accepted: Some(Voted {
@@ -110,4 +109,5 @@ fn proposer_takes_what_was_accepted(rt: HostRuntime) {
     assert!(rt; matches!(proposer.on_promise(alloc, 1, told), Ok(None)));
     let proposed = proposer.on_promise(alloc, 2, promise());
     assert!(rt; matches!(proposed, Ok(Some(View { next: 7, .. }))));
+    Ok(())
 }

@@ -1,7 +1,9 @@
-use super::*;
+//! Given orders, and what the checker tells of them.
+
 use hk_base::{Answer, CallNo, Content, Data, Memory, Op, Sequence};
+use hk_history::{CheckFault, Entry, Event, Items, Rule, check_order, is_history};
 use std::alloc::Global;
-use std::test::{Fail, *};
+use std::test::Fail;
 
 fn content(alloc: Global, bytes: &[u8]) -> Result<Content, Memory> {
     match Data::read(alloc, bytes) {
@@ -60,7 +62,7 @@ fn breach(rule: Rule, first: u64, second: u64) -> Result<(), CheckFault> {
 }
 
 #[test]
-fn given_orders(rt: HostRuntime) -> Result<(), Fail> {
+fn the_first_broken_rule_is_told(rt: HostRuntime) -> Result<(), Fail> {
     let alloc = rt.alloc();
     let written = entry(1, Some(131_072));
     let read = entry(2, None);
