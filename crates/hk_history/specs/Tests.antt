@@ -1,4 +1,5 @@
--- Tests of one call against a history and an order, as they are computed.
+-- Tests of one call against a history and an order, as the code makes them. What they mean stands in History, Legal
+-- and Breach, and is proved of them.
 use Rattle.std.specs.Prelude.{◌≡◌, ◌≤◌, slice_index, ℕ, List, ◌&&◌, ◌||◌, not, count_by, nat_lt, nat_le, min, length, drop, Bool, [], ◌∷◌, ◌+◌}
 use Rattle.std.specs.List.{list_any, position_or_len}
 use Rattle.hk_history.specs.declared.event.Event.{Event}

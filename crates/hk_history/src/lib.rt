@@ -4,6 +4,9 @@
 //! happened. An *order* puts calls one after the other. It is legal where a single register, asked in that order,
 //! gives each call its reply, and where no call stands before one that was answered before it began. Nothing here
 //! knows of nodes, letters or time.
+//!
+//! [`check_order`] tells whether an order is legal, and else the first rule that it breaks and where. It asks for a
+//! history, which [`is_history`] tests. Both sort by ordered maps, and take time in n log n.
 #![tactic(auto)]
 
 mod case;
