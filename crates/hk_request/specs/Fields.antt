@@ -26,12 +26,12 @@ abbrev pub key_of : List ℕ → Result (List ℕ) RequestCause
 key_of word = if is_some (key_fault word) then Err BadKey else Ok word
 
 -- the number that the word at a place is, the command being at place 1
+abbrev pub number_or_fault : ℕ → Option ℕ → Result ℕ RequestCause
+number_or_fault place None = Err (BadNumber place)
+number_or_fault place (Some n) = Ok n
+
 abbrev pub number_at : ℕ → ℕ → List ℕ → Result ℕ RequestCause
-number_at place limit word = at_place (number_of limit word)
-  where
-    at_place : Option ℕ → Result ℕ RequestCause
-    at_place None = Err (BadNumber place)
-    at_place (Some n) = Ok n
+number_at place limit word = number_or_fault place (number_of limit word)
 
 -- no time of expiry is kept but 0, which means never
 abbrev pub never : ℕ → Result (Unit {0}) RequestCause

@@ -1,5 +1,5 @@
 -- The grammar of a line: which words are which request. It is memcached's `protocol.txt`, as far as it is kept here.
-use Rattle.std.specs.Prelude.{◌≡◌, ◌≢◌, ◌≤◌, ℕ, ◌-◌, ◌^◌, List, [], ◌∷◌, length, Bool, true, false, Option, None, Some, codes, if◌then◌else◌}
+use Rattle.std.specs.Prelude.{◌≡◌, ◌≢◌, ◌≤◌, ℕ, ◌-◌, ◌^◌, List, [], ◌∷◌, length, Bool, true, false, Option, None, Some, codes, if◌then◌else◌, Result, Ok, Err}
 use Rattle.std.specs.List.{list_all, AllByRecursion}
 use Rattle.std.specs.Char.{is_ascii_digit}
 use Rattle.std.specs.Str.Parse.{digits_value}
@@ -12,6 +12,8 @@ use Rattle.hk_request.specs.declared.request.Request.TheVariants.{Get, Update, Q
 use Rattle.hk_request.specs.declared.request.StoreHead.{StoreHead}
 use Rattle.hk_request.specs.declared.request.Head.{Head}
 use Rattle.hk_request.specs.declared.request.Head.TheVariants.{Whole, Store}
+use Rattle.hk_request.specs.declared.request.RequestCause.TheVariants as cause
+use Rattle.hk_request.specs.declared.request.RequestFault.{RequestFault}
 use Rattle.hk_request.specs.Words.{words_of}
 
 -- 1 to 20 decimal digits of this value, at most the limit; there may be zeros in front
@@ -83,3 +85,8 @@ IsWhole words Version = words ≡ codes "version" ∷ []
 abbrev pub IsHead : List (List ℕ) → Head → Type 0
 IsHead words (Whole request) = IsWhole words request
 IsHead words (Store head) = IsStore words head
+
+-- reading gave this, unless an allocation was refused
+abbrev pub IsReadAs : Result Head RequestFault → Head → Type 0
+IsReadAs (Ok read) head = read ≡ head
+IsReadAs (Err fault) head = fault.cause ≡ cause.Memory

@@ -73,14 +73,14 @@ asked_of command.Decr words = change_of words >>= λ c. Ok (Whole (Update c.key 
 asked_of command.Quit words = alone_of words Quit
 asked_of command.Version words = alone_of words Version
 
+abbrev pub asked_by : Option Command → List (List ℕ) → Result Head RequestCause
+asked_by None words = Err cause.Unknown
+asked_by (Some command) words = asked_of command words
+
 -- what words are, the first of which is the command
 unfoldable pub head_of_words : List (List ℕ) → Result Head RequestCause
 head_of_words [] = Err cause.Unknown
-head_of_words (word ∷ words) = asked (command_of word)
-  where
-    asked : Option Command → Result Head RequestCause
-    asked None = Err cause.Unknown
-    asked (Some command) = asked_of command words
+head_of_words (word ∷ words) = asked_by (command_of word) words
 
 -- the length of a refused block with its end, where the fifth word of a store tells it; else nothing
 unfoldable pub skip_of : List (List ℕ) → ℕ

@@ -4,7 +4,7 @@ ghost use Rattle.std.specs.Prelude.{◌≡◌, ◌<◌, ◌^◌, map, IfOk};
 ghost use Rattle.std.specs.Option.{option_map};
 ghost use Rattle.hk_request.specs.Fields.{Gives};
 ghost use Rattle.hk_request.specs.Words.{words_of};
-ghost use Rattle.hk_request.specs.Grammar.{IsHead};
+ghost use Rattle.hk_request.specs.Grammar.{IsHead, IsReadAs};
 ghost use Rattle.hk_request.specs.Reading.{ReadsHead, IsWithin, IsWithinHead, head_of, head_of_words, asked_of, keys_of, get_of, store_of, set_of, cas_of, change_of, step_of, alone_of, skip_of};
 
 use crate::command::{Command, find_command, has_block};
@@ -19,8 +19,20 @@ use std::alloc::Global;
 
 /// Reads a line, which is given without the two bytes that end it. The answer is what the grammar makes of its words,
 /// or the first fault of them in the order of the tests, with the length of the block that comes behind a refused store.
-#[tactic(auto, unfolding(crate::specs::Reading::head_of))]
 pub fn read_request(alloc: Global, line: &[u8]) -> Result<Head, RequestFault>
+    // What is read is in the grammar.
+    ensures found { IfOk result (λ head. IsHead (words_of line.now) head) }
+    // What is in the grammar is read, unless an allocation is refused.
+    ensures only { (head : Head) → IsHead (words_of line.now) head → IsReadAs result head }
+    // Which fault it is, and how much is to be skipped.
+    ensures exact { ReadsHead result (head_of line.now) }
+    ensures within { IsWithin result }
+{
+    read_line(alloc, line)
+}
+
+#[tactic(auto, unfolding(crate::specs::Reading::head_of))]
+fn read_line(alloc: Global, line: &[u8]) -> Result<Head, RequestFault>
     ensures exact { ReadsHead result (head_of line.now) }
     ensures within { IsWithin result }
 {
