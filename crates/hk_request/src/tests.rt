@@ -74,12 +74,14 @@ fn stores(rt: HostRuntime) {
     match read_request(alloc, b"cas k 7 0 2 18446744073709551615 noreply") {
         Ok(Head::Store(head)) => {
             assert!(rt; head.flags == 7 && head.tag == Some(u64::MAX) && head.noreply);
+            assert!(rt; head.bytes == 2);
             assert!(rt; matches!(finish(alloc, head, b"abc\r"), Err(BlockFault::BadEnd)));
         }
         _ => panic!(rt; "no store"),
     }
     match read_request(alloc, b"set k 0 0 2") {
         Ok(Head::Store(head)) => {
+            assert!(rt; head.bytes == 2);
             assert!(rt;
                 matches!(
                     finish(alloc, head, b"ab\r\n"),
