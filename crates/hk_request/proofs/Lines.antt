@@ -173,14 +173,35 @@ first_of false x y o h = inr h
 command_found : (w : List ℕ) (c : Command) → command_of w ≡ Some c → w ≡ name_of c
 unfolding command_of
 command_found w c h =
-    elim (first_of (is_text w (codes "get")) command.Get c _ h) [ inl p ↦ ap_name command.Get p | inr h1 ↦
-    elim (first_of (is_text w (codes "gets")) command.Gets c _ h1) [ inl p ↦ ap_name command.Gets p | inr h2 ↦
-    elim (first_of (is_text w (codes "set")) command.Set c _ h2) [ inl p ↦ ap_name command.Set p | inr h3 ↦
-    elim (first_of (is_text w (codes "cas")) command.Cas c _ h3) [ inl p ↦ ap_name command.Cas p | inr h4 ↦
-    elim (first_of (is_text w (codes "incr")) command.Incr c _ h4) [ inl p ↦ ap_name command.Incr p | inr h5 ↦
-    elim (first_of (is_text w (codes "decr")) command.Decr c _ h5) [ inl p ↦ ap_name command.Decr p | inr h6 ↦
-    elim (first_of (is_text w (codes "quit")) command.Quit c _ h6) [ inl p ↦ ap_name command.Quit p | inr h7 ↦
-    elim (first_of (is_text w (codes "version")) command.Version c _ h7) [ inl p ↦ ap_name command.Version p | inr h8 ↦ absurd (cc) ] ] ] ] ] ] ] ]
+    elim (first_of (is_text w (codes "get")) command.Get c _ h) [
+      | inl p ↦ ap_name command.Get p
+      | inr h1 ↦
+          elim (first_of (is_text w (codes "gets")) command.Gets c _ h1) [
+            | inl p ↦ ap_name command.Gets p
+            | inr h2 ↦
+                elim (first_of (is_text w (codes "set")) command.Set c _ h2) [
+                  | inl p ↦ ap_name command.Set p
+                  | inr h3 ↦
+                      elim (first_of (is_text w (codes "cas")) command.Cas c _ h3) [
+                        | inl p ↦ ap_name command.Cas p
+                        | inr h4 ↦
+                            elim (first_of (is_text w (codes "incr")) command.Incr c _ h4) [
+                              | inl p ↦ ap_name command.Incr p
+                              | inr h5 ↦
+                                  elim (first_of (is_text w (codes "decr")) command.Decr c _ h5) [
+                                    | inl p ↦ ap_name command.Decr p
+                                    | inr h6 ↦
+                                        elim (first_of (is_text w (codes "quit")) command.Quit c _ h6) [
+                                          | inl p ↦ ap_name command.Quit p
+                                          | inr h7 ↦
+                                              elim (first_of (is_text w (codes "version")) command.Version c _ h7) [ inl p ↦ ap_name command.Version p | inr h8 ↦ absurd (cc) ]
+                                        ]
+                                  ]
+                            ]
+                      ]
+                ]
+          ]
+    ]
   where
     ap_name : (d : Command) → (is_text w (name_of d) ≡ true) × (d ≡ c) → w ≡ name_of c
     ap_name d p = text_same w (name_of d) p.0 ∙ ap name_of p.1

@@ -1,0 +1,5 @@
+pub mod Exact
+pub mod Parts
+pub mod Simple
+pub mod Keys
+pub mod Numbers

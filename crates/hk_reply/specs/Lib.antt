@@ -1,0 +1,5 @@
+pub mod Texts
+pub mod Scans
+pub mod Openings
+pub mod Stops
+pub mod Reading
