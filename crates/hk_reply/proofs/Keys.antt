@@ -47,7 +47,7 @@ key_found n (b ∷ bs) k rest l h = at_tests (ends_key n b) (stops_key n b) refl
         let w = both_are (Ok (b ∷ x.0.0, x.0.1)) (b ∷ x.0.0) k x.0.1 rest refl x.2 in
         (b ∷ t.0, subst (λ z. IsKeyText n z (b ∷ t.0)) w.0 (one_more n b x.0.0 t.0 (stops_is n b q).0 t.1), ap (λ z. b ∷ z) (t.2 ∙ ap (λ z. t.0 ++ z) w.1))
 
-key_goes : (n : ℕ) → n ≤ MAX_KEY_LEN → Begins (IsKeyText n) []
+pub key_goes : (n : ℕ) → n ≤ MAX_KEY_LEN → Begins (IsKeyText n) []
 key_goes zero l = (107 ∷ [], 107 ∷ 32 ∷ [], record { is = refl; clean = refl; some = omega arith; short = omega arith })
 key_goes (suc n) l = ([], 32 ∷ [], record { is = refl; clean = refl; some = grind arith; short = grind (arith, l) })
 

@@ -3,3 +3,5 @@ pub mod Parts
 pub mod Simple
 pub mod Keys
 pub mod Numbers
+pub mod Joining
+pub mod Values

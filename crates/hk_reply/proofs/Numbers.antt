@@ -91,12 +91,12 @@ rest_found limit tail v (b ∷ bs) x rest l h = at_tests (ends_at tail b) (longe
     at_tests false None p q ih h = absurd (cc)
     at_tests false (Some m) p q ih h = let t = ih m (longer_is limit v b m q).3 h in (b ∷ t.0, rest_more limit v b m tail x t.0 q t.1, ap (λ z. b ∷ z) t.2)
 
-end_of : Tail → ℕ
+pub end_of : Tail → ℕ
 end_of Space = 32
 end_of Return = 13
 end_of Either = 32
 
-end_of_ends : (tail : Tail) → ends_at tail (end_of tail) ≡ true
+pub end_of_ends : (tail : Tail) → ends_at tail (end_of tail) ≡ true
 unfolding ends_at end_of
 end_of_ends Space = refl
 end_of_ends Return = refl

@@ -3,3 +3,4 @@ pub mod Scans
 pub mod Openings
 pub mod Stops
 pub mod Reading
+pub mod Replies

@@ -11,6 +11,17 @@ use crate::scan::{Stop, Tail, data, key, literal, number};
 use hk_base::{Data, Key, MAX_DATA_LEN};
 use std::alloc::Global;
 
+/// Why bytes are no reply.
+#[derive(Clone, Copy, Debug, PartialEq, Eq)]
+pub enum ReplyFault {
+    /// An allocation was refused.
+    Memory,
+    /// The bytes are less than a whole reply, and some reply goes on from them.
+    Need,
+    /// No reply goes on with the byte at place `at`, counted from 0; one does up to it.
+    Bad { at: usize },
+}
+
 #[tactic(auto, unfolding(crate::specs::Reading::reply_at))]
 fn reply(alloc: Global, bytes: &[u8]) -> Result<(Reply, &[u8]), Stop>
     ensures { Gives (λ x. (x.0, x.1.now)) result (reply_at bytes.now) }
