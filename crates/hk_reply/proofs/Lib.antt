@@ -5,3 +5,4 @@ pub mod Keys
 pub mod Numbers
 pub mod Joining
 pub mod Values
+pub mod Items

@@ -3,7 +3,7 @@
 ghost use Rattle.std.specs.Prelude.{◌≡◌, ◌+◌, ◌≤◌, length, IfOk, OnErr, Err, ◌∷◌, []};
 ghost use Rattle.hk_base.specs.declared.data.TheConstants.{MAX_DATA_LEN};
 ghost use Rattle.hk_reply.specs.Scans.{Gives};
-ghost use Rattle.hk_reply.specs.Reading.{tag_at, body_at, item_at, more_at, tail_of, turn_by, turn_at, items_at, with_items, values_at, behind_at, count_at, reply_at};
+ghost use Rattle.hk_reply.specs.Reading.{tag_at, body_at, item_at, more_at, tail_of, turn_by, turn_at, items_at, with_items, values_at, behind_at, count_at, reply_at, GivesReply};
 
 use crate::opening::{Opening, read_opening};
 use crate::reply::{Item, Reply, ValueItems};
@@ -20,6 +20,21 @@ pub enum ReplyFault {
     Need,
     /// No reply goes on with the byte at place `at`, counted from 0; one does up to it.
     Bad { at: usize },
+}
+
+/// Reads the reply that begins the bytes, and tells how many bytes it takes. What its text does not tell is read as
+/// nothing: a value without a tag has tag 0, and a reply without values has `tags` false.
+pub fn read_reply(alloc: Global, bytes: &[u8]) -> Result<(Reply, usize), ReplyFault>
+    ensures exact { GivesReply result bytes.now }
+{
+    match reply(alloc, bytes) {
+        Ok((reply, rest)) => Ok((reply, bytes.len() - rest.len())),
+        Err(Stop::Memory) => Err(ReplyFault::Memory),
+        Err(Stop::Need) => Err(ReplyFault::Need),
+        Err(Stop::Bad { left }) => Err(ReplyFault::Bad {
+            at: bytes.len() - left,
+        }),
+    }
 }
 
 #[tactic(auto, unfolding(crate::specs::Reading::reply_at))]
