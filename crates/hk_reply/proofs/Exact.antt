@@ -54,7 +54,7 @@ pair_is p q e = (ap (λ x. x.0) e, ap (λ x. x.1) e)
 ok_is : {A : Type 0} (r : Result (A × List ℕ) Stop) (a b : A) (xs ys : List ℕ) → r ≡ Ok (a, xs) → r ≡ Ok (b, ys) → (a ≡ b) × (xs ≡ ys)
 ok_is r a b xs ys h k = pair_is (a, xs) (b, ys) (ok_inj r (a, xs) (b, ys) h k)
 
-ok_not_err : {A : Type 0} (r : Result A Stop) (x : A) (e : Stop) → r ≡ Ok x → r ≡ Err e → ⊥
+pub ok_not_err : {A : Type 0} (r : Result A Stop) (x : A) (e : Stop) → r ≡ Ok x → r ≡ Err e → ⊥
 ok_not_err r x e h k = cc
 
 pub goes_first : {A B : Type 0} (L : A → List ℕ → Type 0) (M : A → B → List ℕ → Type 0) → ((a : A) (t : List ℕ) → L a t → Begins (M a) []) → (bs : List ℕ) → Begins L bs → Begins (Seq L M) bs

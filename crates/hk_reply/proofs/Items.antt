@@ -44,7 +44,7 @@ abbrev pub IsTag : Bool → ℕ → List ℕ → Type 0
 IsTag false t text = IsNothing 0 t text
 IsTag true t text = (text ≡ decimal t ++ 13 ∷ []) × (t ≤ 2 ^ 64 - 1)
 
-return_is : (c : ℕ) → ends_at Return c ≡ true → c ≡ 13
+pub return_is : (c : ℕ) → ends_at Return c ≡ true → c ≡ 13
 unfolding ends_at
 return_is c h = true_eq c 13 h
 
@@ -52,7 +52,7 @@ space_is : (c : ℕ) → ends_at Space c ≡ true → c ≡ 32
 unfolding ends_at
 space_is c h = true_eq c 32 h
 
-return_ends : ends_at Return 13 ≡ true
+pub return_ends : ends_at Return 13 ≡ true
 unfolding ends_at
 return_ends = refl
 
@@ -169,3 +169,8 @@ item_read tail = same_language (ItemSeq tail) (IsValue tail) (item_at tail) (to_
     then_read (IsNumber MAX_DATA_LEN tail) (λ n. Seq (IsTag (n.1 == 32)) (λ t. Seq (IsBody n.0) (λ d. IsNothing (made k f.0 d t (n.1 == 32))))) (number_at MAX_DATA_LEN tail) (λ n rest. tag_at (n.1 == 32) rest >>= λ t. (body_at n.0 t.1 >>= λ d. Ok (made k f.0 d.0 t.0 (n.1 == 32), d.1))) (number_read MAX_DATA_LEN tail (omega arith) (omega arith)) (λ n.
     then_read (IsTag (n.1 == 32)) (λ t. Seq (IsBody n.0) (λ d. IsNothing (made k f.0 d t (n.1 == 32)))) (tag_at (n.1 == 32)) (λ t rest. body_at n.0 rest >>= λ d. Ok (made k f.0 d.0 t (n.1 == 32), d.1)) (tag_read (n.1 == 32)) (λ t.
     then_read (IsBody n.0) (λ d. IsNothing (made k f.0 d t (n.1 == 32))) (body_at n.0) (λ d rest. Ok (made k f.0 d t (n.1 == 32), rest)) (body_read n.0) (λ d. nothing (made k f.0 d t (n.1 == 32))))))))
+
+pub either_ends : (tags : Bool) → ends_at Either (end_by tags) ≡ true
+unfolding ends_at
+either_ends true = refl
+either_ends false = refl

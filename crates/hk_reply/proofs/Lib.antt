@@ -6,3 +6,6 @@ pub mod Numbers
 pub mod Joining
 pub mod Values
 pub mod Items
+pub mod Lists
+pub mod Whole
+pub mod Told

@@ -50,18 +50,18 @@ goes_text v (d ∷ ds) n l g =
     let made : decimal (v * 10 + (d - 48)) ≡ decimal v ++ d ∷ [] = step ∙ ap (λ x. decimal x ++ (48 + (v * 10 + (d - 48)) % 10) ∷ []) (tenth v (d - 48) k1) ∙ ap (λ x. decimal v ++ x ∷ []) last in
     goes_text (v * 10 + (d - 48)) ds n l g.2 ∙ ap (λ x. x ++ ds) made ∙ append_assoc (decimal v) (d ∷ []) ds
 
-record HasDigits (n : ℕ) (text : List ℕ) : Type 0 where
-  first : ℕ
-  others : List ℕ
-  is : text ≡ first ∷ others
-  digit : is_ascii_digit first ≡ true
-  goes : Goes (first - 48) others n
+pub record HasDigits (n : ℕ) (text : List ℕ) : Type 0 where
+  pub first : ℕ
+  pub others : List ℕ
+  pub is : text ≡ first ∷ others
+  pub digit : is_ascii_digit first ≡ true
+  pub goes : Goes (first - 48) others n
 
 goes_snoc : (v : ℕ) (ds : List ℕ) (m k : ℕ) → 0 < m → k < 10 → Goes v ds m → Goes v (ds ++ (48 + k) ∷ []) (m * 10 + k)
 goes_snoc v [] m k z l g = let e : 48 + k - 48 ≡ k = omega arith in let d : is_ascii_digit (48 + k) ≡ true = grind (arith, nat_tests, l) in (d, rw (sym g) z, rw (e, sym g) refl)
 goes_snoc v (d ∷ ds) m k z l g = (g.0, g.1, goes_snoc (v * 10 + (d - 48)) ds m k z l g.2)
 
-has_digits : (n : ℕ) → n < 2 ^ 64 → HasDigits n (decimal n)
+pub has_digits : (n : ℕ) → n < 2 ^ 64 → HasDigits n (decimal n)
 has_digits n l = decimal_by_steps HasDigits (λ n l. one n l) (λ n ds l p. more n ds l p) n l
   where
     one : (n : ℕ) → n < 10 → HasDigits n ((48 + n) ∷ [])

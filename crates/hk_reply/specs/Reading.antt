@@ -3,9 +3,7 @@ use Rattle.std.specs.Prelude.{◌≡◌, ℕ, zero, suc, ◌+◌, ◌-◌, ◌^�
 use Rattle.std.specs.Char.{is_ascii_digit}
 use Rattle.hk_base.specs.declared.data.TheConstants.{MAX_DATA_LEN}
 use Rattle.hk_reply.specs.declared.scan.Stop.{Stop}
-use Rattle.hk_reply.specs.declared.scan.Stop.TheVariants.{Need, Bad}
-use Rattle.hk_reply.specs.declared.read.ReplyFault.{ReplyFault}
-use Rattle.hk_reply.specs.declared.read.ReplyFault.TheVariants as fault
+use Rattle.hk_reply.specs.declared.scan.Stop.TheVariants.{Need}
 use Rattle.hk_reply.specs.declared.scan.Tail.{Tail}
 use Rattle.hk_reply.specs.declared.scan.Tail.TheVariants.{Space, Return, Either}
 use Rattle.hk_reply.specs.declared.reply.Item.{Item}
@@ -97,10 +95,3 @@ count_at bytes = do
 unfoldable pub reply_at : List ℕ → Result (Reply × List ℕ) Stop
 reply_at [] = Err Need
 reply_at (b ∷ bs) = if is_ascii_digit b then count_at (b ∷ bs) else (opening_at (b ∷ bs) >>= λ o. behind_at o.0 o.1)
-
--- what reading a reply gives: places are counted from the front
-abbrev pub GivesReply : Result (Reply × ℕ) ReplyFault → List ℕ → Type 0
-GivesReply (Ok x) bytes = (rest : List ℕ) × (reply_at bytes ≡ Ok (x.0, rest)) × (x.1 ≡ length bytes - length rest)
-GivesReply (Err fault.Memory) bytes = Unit {0}
-GivesReply (Err fault.Need) bytes = reply_at bytes ≡ Err Need
-GivesReply (Err (fault.Bad at)) bytes = (left : ℕ) × (reply_at bytes ≡ Err (Bad left)) × (at ≡ length bytes - left)

@@ -1,9 +1,11 @@
 //! Reading replies.
 
-ghost use Rattle.std.specs.Prelude.{◌≡◌, ◌+◌, ◌≤◌, length, IfOk, OnErr, Err, ◌∷◌, []};
+ghost use Rattle.std.specs.Prelude.{◌≡◌, ◌++◌, List, ℕ, ◌+◌, ◌≤◌, length, IfOk, OnErr, Err, ◌∷◌, []};
 ghost use Rattle.hk_base.specs.declared.data.TheConstants.{MAX_DATA_LEN};
 ghost use Rattle.hk_reply.specs.Scans.{Gives};
-ghost use Rattle.hk_reply.specs.Reading.{tag_at, body_at, item_at, more_at, tail_of, turn_by, turn_at, items_at, with_items, values_at, behind_at, count_at, reply_at, GivesReply};
+ghost use Rattle.hk_reply.specs.Texts.{text_of};
+ghost use Rattle.hk_reply.specs.Replies.{IsRead, IsPlain, IsReadAs};
+ghost use Rattle.hk_reply.specs.Reading.{tag_at, body_at, item_at, more_at, tail_of, turn_by, turn_at, items_at, with_items, values_at, behind_at, count_at, reply_at};
 
 use crate::opening::{Opening, read_opening};
 use crate::reply::{Item, Reply, ValueItems};
@@ -25,7 +27,10 @@ pub enum ReplyFault {
 /// Reads the reply that begins the bytes, and tells how many bytes it takes. What its text does not tell is read as
 /// nothing: a value without a tag has tag 0, and a reply without values has `tags` false.
 pub fn read_reply(alloc: Global, bytes: &[u8]) -> Result<(Reply, usize), ReplyFault>
-    ensures exact { GivesReply result bytes.now }
+    // The reply whose text begins the bytes; Need exactly in front of a whole one; Bad exactly where none goes on.
+    ensures exact { IsRead result bytes.now }
+    // A reply whose text begins the bytes is read, whatever follows, unless an allocation is refused.
+    ensures only { (reply : Reply) (rest : List ℕ) → IsPlain reply → bytes.now ≡ text_of reply ++ rest → IsReadAs result reply }
 {
     match reply(alloc, bytes) {
         Ok((reply, rest)) => Ok((reply, bytes.len() - rest.len())),
