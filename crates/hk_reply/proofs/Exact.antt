@@ -88,13 +88,14 @@ ends_second L M s e a t rest left l st g =
 
 pub seq : {A B : Type 0} (n m : ℕ) (L : A → List ℕ → Type 0) (M : A → B → List ℕ → Type 0) (s : List ℕ → Result (A × List ℕ) Stop) (f : A → List ℕ → Result (B × List ℕ) Stop) → IsExact L s → ((a : A) → IsExactBelow m (M a) (f a)) → ((a : A) (text rest : List ℕ) → L a text → length (text ++ rest) < n → length rest < m) → ((a : A) (t : List ℕ) → L a t → Begins (M a) []) → IsExactBelow n (Seq L M) (λ bs. s bs >>= λ x. f x.0 x.1)
 seq {A} {B} n m L M s f e d shrinks live = record {
-    found = λ bs b rest lt h. (let x = bind_ok (s bs) _ (b, rest) h in
+  found = λ bs b rest lt h. (let x = bind_ok (s bs) _ (b, rest) h in
       let p = (e n).found bs x.0.0 x.0.1 lt x.1 in
       let q = (d x.0.0).found x.0.1 b rest (shrinks x.0.0 p.0 x.0.1 p.1 (subst (λ z. length z < n) p.2 lt)) x.2 in
       (p.0 ++ q.0, record { value = x.0.0; first = p.0; second = q.0; is_first = p.1; is_second = q.1; whole = refl }, p.2 ∙ ap (λ z. p.0 ++ z) q.2 ∙ sym (append_assoc p.0 q.0 rest)));
-    need = λ bs lt h. elim (bind_err (s bs) _ Need h) [ inl k ↦ goes_first L M live bs ((e n).need bs lt k) | inr x ↦ (let p = (e n).found bs x.0.0 x.0.1 lt x.1 in subst (λ z. Begins (Seq L M) z) (sym p.2) (goes_second L M x.0.0 p.0 x.0.1 p.1 ((d x.0.0).need x.0.1 (shrinks x.0.0 p.0 x.0.1 p.1 (subst (λ z. length z < n) p.2 lt)) x.2))) ];
-    bad = λ bs left lt h. elim (bind_err (s bs) _ (Bad left) h) [ inl k ↦ first_bad bs left k ((e n).bad bs left lt k) | inr x ↦ (let p = (e n).found bs x.0.0 x.0.1 lt x.1 in second_bad bs left x.0.0 p.0 x.0.1 p.1 p.2 ((d x.0.0).bad x.0.1 left (shrinks x.0.0 p.0 x.0.1 p.1 (subst (λ z. length z < n) p.2 lt)) x.2)) ];
-    again = λ b text rest lt q. read_again b text rest lt q }
+  need = λ bs lt h. elim (bind_err (s bs) _ Need h) [ inl k ↦ goes_first L M live bs ((e n).need bs lt k) | inr x ↦ (let p = (e n).found bs x.0.0 x.0.1 lt x.1 in subst (λ z. Begins (Seq L M) z) (sym p.2) (goes_second L M x.0.0 p.0 x.0.1 p.1 ((d x.0.0).need x.0.1 (shrinks x.0.0 p.0 x.0.1 p.1 (subst (λ z. length z < n) p.2 lt)) x.2))) ];
+  bad = λ bs left lt h. elim (bind_err (s bs) _ (Bad left) h) [ inl k ↦ first_bad bs left k ((e n).bad bs left lt k) | inr x ↦ (let p = (e n).found bs x.0.0 x.0.1 lt x.1 in second_bad bs left x.0.0 p.0 x.0.1 p.1 p.2 ((d x.0.0).bad x.0.1 left (shrinks x.0.0 p.0 x.0.1 p.1 (subst (λ z. length z < n) p.2 lt)) x.2)) ];
+  again = λ b text rest lt q. read_again b text rest lt q;
+}
   where
     first_bad : (bs : List ℕ) (left : ℕ) → s bs ≡ Err (Bad left) → StopsAt L bs left → StopsAt (Seq L M) bs left
     first_bad bs left k st = record { front = st.front; bad = st.bad; back = st.back; is = st.is; at = st.at; goes = goes_first L M live st.front st.goes; ends = ends_first L M s e bs left k st }
@@ -104,6 +105,6 @@ seq {A} {B} n m L M s f e d shrinks live = record {
 
     read_again : (b : B) (text rest : List ℕ) → length (text ++ rest) < n → Seq L M b text → (s (text ++ rest) >>= λ x. f x.0 x.1) ≡ Ok (b, rest)
     read_again b text rest lt q =
-      let w : text ++ rest ≡ q.first ++ (q.second ++ rest) = ap (λ z. z ++ rest) q.whole ∙ append_assoc q.first q.second rest in
-      let p : s (q.first ++ (q.second ++ rest)) ≡ Ok (q.value, q.second ++ rest) = (e (suc (length (q.first ++ (q.second ++ rest))))).again q.value q.first (q.second ++ rest) (omega arith) q.is_first in
-      ap (λ r. r >>= λ x. f x.0 x.1) (ap s w ∙ p) ∙ (d q.value).again b q.second rest (shrinks q.value q.first (q.second ++ rest) q.is_first (subst (λ z. length z < n) w lt)) q.is_second
+        let w : text ++ rest ≡ q.first ++ (q.second ++ rest) = ap (λ z. z ++ rest) q.whole ∙ append_assoc q.first q.second rest in
+        let p : s (q.first ++ (q.second ++ rest)) ≡ Ok (q.value, q.second ++ rest) = (e (suc (length (q.first ++ (q.second ++ rest))))).again q.value q.first (q.second ++ rest) (omega arith) q.is_first in
+        ap (λ r. r >>= λ x. f x.0 x.1) (ap s w ∙ p) ∙ (d q.value).again b q.second rest (shrinks q.value q.first (q.second ++ rest) q.is_first (subst (λ z. length z < n) w lt)) q.is_second

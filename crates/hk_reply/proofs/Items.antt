@@ -125,9 +125,10 @@ value_of tail k f n c t d g text kk fl nl ce tg dl is =
     let some = kk.some in
     let short = kk.short in
     record {
-    is = is ∙ glued (c == 32) c (end_is tail c (c == 32) refl ce) k (decimal f) (decimal n) g d t tg ∙ ap (λ z. k ++ 32 ∷ (decimal f ++ 32 ∷ (decimal z ++ tail_text (c == 32) t (d ++ 13 ∷ 10 ∷ [])))) (sym dl);
-    plain = record { key = record { some = grind (arith, some); short = grind (arith, short); clean = kk.clean }; flags = fl; bytes = rw dl nl; tag = tag_within (c == 32) t g tg; untold = tag_untold (c == 32) t g tg };
-    ends = rw (end_is tail c (c == 32) refl ce) ce }
+      is = is ∙ glued (c == 32) c (end_is tail c (c == 32) refl ce) k (decimal f) (decimal n) g d t tg ∙ ap (λ z. k ++ 32 ∷ (decimal f ++ 32 ∷ (decimal z ++ tail_text (c == 32) t (d ++ 13 ∷ 10 ∷ [])))) (sym dl);
+      plain = record { key = record { some = grind (arith, some); short = grind (arith, short); clean = kk.clean }; flags = fl; bytes = rw dl nl; tag = tag_within (c == 32) t g tg; untold = tag_untold (c == 32) t g tg };
+      ends = rw (end_is tail c (c == 32) refl ce) ce;
+    }
 
 to_item : (tail : Tail) (x : Item × Bool) (text : List ℕ) → ItemSeq tail x text → IsValue tail x text
 to_item tail x text q =
@@ -148,14 +149,35 @@ from_parts : (tail : Tail) (i : Item) (c : ℕ) (g text : List ℕ) → ends_at 
 from_parts tail i c g text ce p tg is =
     let some = p.key.some in
     let short = p.key.short in
-    record { value = i.key; first = i.key ++ 32 ∷ []; second = (decimal i.flags ++ 32 ∷ []) ++ ((decimal (length i.bytes) ++ c ∷ []) ++ (g ++ 10 ∷ (i.bytes ++ 13 ∷ 10 ∷ [])));
-    is_first = record { is = refl; clean = p.key.clean; some = grind (arith, some); short = grind (arith, short) };
-    is_second = record { value = (i.flags, 32); first = decimal i.flags ++ 32 ∷ []; second = (decimal (length i.bytes) ++ c ∷ []) ++ (g ++ 10 ∷ (i.bytes ++ 13 ∷ 10 ∷ []));
-    is_first = record { is = refl; within = p.flags; ends = space_ends };
-    is_second = record { value = (length i.bytes, c); first = decimal (length i.bytes) ++ c ∷ []; second = g ++ 10 ∷ (i.bytes ++ 13 ∷ 10 ∷ []);
-    is_first = record { is = refl; within = p.bytes; ends = ce };
-    is_second = record { value = i.tag; first = g; second = 10 ∷ (i.bytes ++ 13 ∷ 10 ∷ []); is_first = tg;
-    is_second = record { value = i.bytes; first = 10 ∷ (i.bytes ++ 13 ∷ 10 ∷ []); second = []; is_first = (refl, refl); is_second = (refl, refl); whole = sym (append-nil (10 ∷ (i.bytes ++ 13 ∷ 10 ∷ []))) }; whole = refl }; whole = refl }; whole = refl }; whole = is }
+    record {
+      value = i.key;
+      first = i.key ++ 32 ∷ [];
+      second = (decimal i.flags ++ 32 ∷ []) ++ ((decimal (length i.bytes) ++ c ∷ []) ++ (g ++ 10 ∷ (i.bytes ++ 13 ∷ 10 ∷ [])));
+      is_first = record { is = refl; clean = p.key.clean; some = grind (arith, some); short = grind (arith, short) };
+      is_second = record {
+        value = (i.flags, 32);
+        first = decimal i.flags ++ 32 ∷ [];
+        second = (decimal (length i.bytes) ++ c ∷ []) ++ (g ++ 10 ∷ (i.bytes ++ 13 ∷ 10 ∷ []));
+        is_first = record { is = refl; within = p.flags; ends = space_ends };
+        is_second = record {
+          value = (length i.bytes, c);
+          first = decimal (length i.bytes) ++ c ∷ [];
+          second = g ++ 10 ∷ (i.bytes ++ 13 ∷ 10 ∷ []);
+          is_first = record { is = refl; within = p.bytes; ends = ce };
+          is_second = record {
+            value = i.tag;
+            first = g;
+            second = 10 ∷ (i.bytes ++ 13 ∷ 10 ∷ []);
+            is_first = tg;
+            is_second = record { value = i.bytes; first = 10 ∷ (i.bytes ++ 13 ∷ 10 ∷ []); second = []; is_first = (refl, refl); is_second = (refl, refl); whole = sym (append-nil (10 ∷ (i.bytes ++ 13 ∷ 10 ∷ []))) };
+            whole = refl;
+          };
+          whole = refl;
+        };
+        whole = refl;
+      };
+      whole = is;
+    }
 
 from_item : (tail : Tail) (i : Item) (b : Bool) (text : List ℕ) → IsValue tail (i, b) text → ItemSeq tail (i, b) text
 from_item tail i true text q = let tg : IsTag true i.tag (decimal i.tag ++ 13 ∷ []) = (refl, q.plain.tag) in from_parts tail i 32 (decimal i.tag ++ 13 ∷ []) text q.ends q.plain tg (q.is ∙ sym (glued true 32 refl i.key (decimal i.flags) (decimal (length i.bytes)) (decimal i.tag ++ 13 ∷ []) i.bytes i.tag tg))

@@ -25,15 +25,17 @@ shorter n text rest h = let e : length (text ++ rest) ≡ length text + length r
 
 pub then_read : {A B : Type 0} (L : A → List ℕ → Type 0) (M : A → B → List ℕ → Type 0) (s : List ℕ → Result (A × List ℕ) Stop) (f : A → List ℕ → Result (B × List ℕ) Stop) → IsReader L s → ((a : A) → IsReader (M a) (f a)) → IsReader (Seq L M) (λ bs. s bs >>= λ x. f x.0 x.1)
 then_read L M s f r d = record {
-    exact = λ n. seq n n L M s f r.exact (λ a. (d a).exact n) (λ a text rest l h. shorter n text rest h) (λ a t l. (d a).lives);
-    lives = goes_first L M (λ a t l. (d a).lives) [] r.lives }
+  exact = λ n. seq n n L M s f r.exact (λ a. (d a).exact n) (λ a text rest l h. shorter n text rest h) (λ a t l. (d a).lives);
+  lives = goes_first L M (λ a t l. (d a).lives) [] r.lives;
+}
 
 pub same_below : {A : Type 0} (n : ℕ) (L M : A → List ℕ → Type 0) (s : List ℕ → Result (A × List ℕ) Stop) → ((a : A) (t : List ℕ) → L a t → M a t) → ((a : A) (t : List ℕ) → M a t → L a t) → IsExactBelow n L s → IsExactBelow n M s
 same_below n L M s to from e = record {
-    found = λ bs a rest lt h. (let t = e.found bs a rest lt h in (t.0, to a t.0 t.1, t.2));
-    need = λ bs lt h. (let g = e.need bs lt h in (g.0, g.1, to g.0 (bs ++ g.1) g.2));
-    bad = λ bs left lt h. (let st = e.bad bs left lt h in let g = st.goes in record { front = st.front; bad = st.bad; back = st.back; is = st.is; at = st.at; goes = (g.0, g.1, to g.0 (st.front ++ g.1) g.2); ends = λ k. st.ends (k.0, k.1, from k.0 ((st.front ++ st.bad ∷ []) ++ k.1) k.2) });
-    again = λ a text rest lt q. e.again a text rest lt (from a text q) }
+  found = λ bs a rest lt h. (let t = e.found bs a rest lt h in (t.0, to a t.0 t.1, t.2));
+  need = λ bs lt h. (let g = e.need bs lt h in (g.0, g.1, to g.0 (bs ++ g.1) g.2));
+  bad = λ bs left lt h. (let st = e.bad bs left lt h in let g = st.goes in record { front = st.front; bad = st.bad; back = st.back; is = st.is; at = st.at; goes = (g.0, g.1, to g.0 (st.front ++ g.1) g.2); ends = λ k. st.ends (k.0, k.1, from k.0 ((st.front ++ st.bad ∷ []) ++ k.1) k.2) });
+  again = λ a text rest lt q. e.again a text rest lt (from a text q);
+}
 
 pub same_language : {A : Type 0} (L M : A → List ℕ → Type 0) (s : List ℕ → Result (A × List ℕ) Stop) → ((a : A) (t : List ℕ) → L a t → M a t) → ((a : A) (t : List ℕ) → M a t → L a t) → IsReader L s → IsReader M s
 same_language L M s to from r = record { exact = λ n. same_below n L M s to from (r.exact n); lives = (let g = r.lives in (g.0, g.1, to g.0 g.1 g.2)) }
@@ -43,12 +45,15 @@ abbrev pub IsNothing : {A : Type 0} → A → A → List ℕ → Type 0
 IsNothing v a text = (v ≡ a) × (text ≡ [])
 
 pub nothing : {A : Type 0} (v : A) → IsReader (IsNothing v) (λ bs. Ok (v, bs))
-nothing {A} v = record { exact = λ n. record {
+nothing {A} v = record {
+  exact = λ n. record {
     found = λ bs a rest lt h. (let w = both_are (whole bs) v a bs rest refl h in ([], (w.0, refl), w.1));
     need = λ bs lt h. absurd (cc);
     bad = λ bs left lt h. absurd (cc);
-    again = λ a text rest lt q. rw (q.1, sym q.0) refl };
-    lives = (v, [], (refl, refl)) }
+    again = λ a text rest lt q. rw (q.1, sym q.0) refl;
+  };
+  lives = (v, [], (refl, refl));
+}
   where
     whole : List ℕ → Result (A × List ℕ) Stop
     whole bs = Ok (v, bs)
@@ -193,9 +198,12 @@ opening_stops bs left w = elim w.one [ inl e ↦ absurd (too_long e) | inr o ↦
 
 pub opening_read : IsReader IsOpening opening_at
 unfolding opening_at
-opening_read = record { exact = λ n. record {
+opening_read = record {
+  exact = λ n. record {
     found = λ bs o rest lt h. (opening_text o, refl, opening_found openings (length bs + 1) bs o rest h);
     need = λ bs lt h. opening_need openings (length bs + 1) bs h;
     bad = λ bs left lt h. opening_stops bs left (opening_bad openings (length bs + 1) bs left h);
-    again = λ o text rest lt q. rw q (opening_again o rest) };
-    lives = (Value, opening_text Value, refl) }
+    again = λ o text rest lt q. rw q (opening_again o rest);
+  };
+  lives = (Value, opening_text Value, refl);
+}

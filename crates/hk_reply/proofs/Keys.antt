@@ -94,7 +94,8 @@ key_again n k text rest q = rw q.is (at_key n k rest q.clean q.some q.short)
 
 pub key_exact : IsExact (IsKeyText 0) (key_from 0)
 key_exact n = record {
-    found = λ bs k rest lt h. key_found 0 bs k rest (omega arith) h;
-    need = λ bs lt h. key_need 0 bs (omega arith) h;
-    bad = λ bs left lt h. key_bad 0 bs left (omega arith) h;
-    again = λ k text rest lt q. key_again 0 k text rest q }
+  found = λ bs k rest lt h. key_found 0 bs k rest (omega arith) h;
+  need = λ bs lt h. key_need 0 bs (omega arith) h;
+  bad = λ bs left lt h. key_bad 0 bs left (omega arith) h;
+  again = λ k text rest lt q. key_again 0 k text rest q;
+}

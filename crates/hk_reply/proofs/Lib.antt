@@ -9,3 +9,4 @@ pub mod Items
 pub mod Lists
 pub mod Whole
 pub mod Told
+pub mod Apart

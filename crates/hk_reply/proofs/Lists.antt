@@ -22,10 +22,11 @@ Mapped {A} f L b text = (a : A) × (f a ≡ b) × L a text
 
 pub mapped : {A B : Type 0} (n : ℕ) (f : A → B) (L : A → List ℕ → Type 0) (s : List ℕ → Result (A × List ℕ) Stop) → IsExactBelow n L s → IsExactBelow n (Mapped f L) (λ bs. s bs >>= λ x. Ok (f x.0, x.1))
 mapped {A} {B} n f L s e = record {
-    found = λ bs b rest lt h. (let x = bind_ok (s bs) _ (b, rest) h in let w = both_are (whole (f x.0.0) x.0.1) (f x.0.0) b x.0.1 rest refl x.2 in let t = e.found bs x.0.0 x.0.1 lt x.1 in (t.0, (x.0.0, w.0, t.1), t.2 ∙ ap (λ z. t.0 ++ z) w.1));
-    need = λ bs lt h. elim (bind_err (s bs) _ Need h) [ inl k ↦ (let g = e.need bs lt k in (f g.0, g.1, (g.0, refl, g.2))) | inr x ↦ absurd (let z : whole (f x.0.0) x.0.1 ≡ Err Need = x.2 in cc) ];
-    bad = λ bs left lt h. elim (bind_err (s bs) _ (Bad left) h) [ inl k ↦ (let st = e.bad bs left lt k in let g = st.goes in record { front = st.front; bad = st.bad; back = st.back; is = st.is; at = st.at; goes = (f g.0, g.1, (g.0, refl, g.2)); ends = λ k. st.ends (k.2.0, k.1, k.2.2) }) | inr x ↦ absurd (let z : whole (f x.0.0) x.0.1 ≡ Err (Bad left) = x.2 in cc) ];
-    again = λ b text rest lt q. ap (λ r. r >>= λ x. Ok (f x.0, x.1)) (e.again q.0 text rest lt q.2) ∙ ap (λ z. Ok (z, rest)) q.1 }
+  found = λ bs b rest lt h. (let x = bind_ok (s bs) _ (b, rest) h in let w = both_are (whole (f x.0.0) x.0.1) (f x.0.0) b x.0.1 rest refl x.2 in let t = e.found bs x.0.0 x.0.1 lt x.1 in (t.0, (x.0.0, w.0, t.1), t.2 ∙ ap (λ z. t.0 ++ z) w.1));
+  need = λ bs lt h. elim (bind_err (s bs) _ Need h) [ inl k ↦ (let g = e.need bs lt k in (f g.0, g.1, (g.0, refl, g.2))) | inr x ↦ absurd (let z : whole (f x.0.0) x.0.1 ≡ Err Need = x.2 in cc) ];
+  bad = λ bs left lt h. elim (bind_err (s bs) _ (Bad left) h) [ inl k ↦ (let st = e.bad bs left lt k in let g = st.goes in record { front = st.front; bad = st.bad; back = st.back; is = st.is; at = st.at; goes = (f g.0, g.1, (g.0, refl, g.2)); ends = λ k. st.ends (k.2.0, k.1, k.2.2) }) | inr x ↦ absurd (let z : whole (f x.0.0) x.0.1 ≡ Err (Bad left) = x.2 in cc) ];
+  again = λ b text rest lt q. ap (λ r. r >>= λ x. Ok (f x.0, x.1)) (e.again q.0 text rest lt q.2) ∙ ap (λ z. Ok (z, rest)) q.1;
+}
   where
     whole : B → List ℕ → Result (B × List ℕ) Stop
     whole b rest = Ok (b, rest)
@@ -74,12 +75,15 @@ word_by t bs = if t then (literal_at (codes "VALUE ") bs >>= λ x. Ok (true, x.1
 
 pub more_read : IsReader IsMore more_at
 unfolding more_at
-more_read = record { exact = λ n. record {
+more_read = record {
+  exact = λ n. record {
     found = λ bs a rest lt h. found_at n bs a rest lt h;
     need = λ bs lt h. need_at n bs lt h;
     bad = λ bs left lt h. bad_at n bs left lt h;
-    again = λ a text rest lt q. again_at a text rest q };
-    lives = (true, codes "VALUE ", refl) }
+    again = λ a text rest lt q. again_at a text rest q;
+  };
+  lives = (true, codes "VALUE ", refl);
+}
   where
     found_at : (n : ℕ) (bs : List ℕ) (a : Bool) (rest : List ℕ) → length bs < n → more_at bs ≡ Ok (a, rest) → (text : List ℕ) × IsMore a text × (bs ≡ text ++ rest)
     found_at n [] a rest lt h = absurd (cc)

@@ -151,10 +151,11 @@ first_by limit tail b bs t = if t then number_from limit tail (b - 48) bs else b
 
 pub number_exact : (limit : ℕ) (tail : Tail) → 9 ≤ limit → IsExact (IsDigits limit tail) (number_at limit tail)
 number_exact limit tail l n = record {
-    found = λ bs x rest lt h. found_at bs x rest h;
-    need = λ bs lt h. need_at bs h;
-    bad = λ bs left lt h. bad_at bs left h;
-    again = λ x text rest lt q. again_at x text rest q }
+  found = λ bs x rest lt h. found_at bs x rest h;
+  need = λ bs lt h. need_at bs h;
+  bad = λ bs left lt h. bad_at bs left h;
+  again = λ x text rest lt q. again_at x text rest q;
+}
   where
     low : (b : ℕ) → is_ascii_digit b ≡ true → b - 48 ≤ limit
     low b h = let s = small b h in omega (arith, s, l)

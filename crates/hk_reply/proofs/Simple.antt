@@ -81,10 +81,11 @@ literal_again (c ∷ cs) rest = let e : (c == c) ≡ true = grind (arith, nat_te
 
 pub literal_exact : (t : List ℕ) → IsExact (IsThis t) (literal_at t)
 literal_exact t n = record {
-    found = λ bs a rest lt h. (t, refl, literal_found t bs a rest h);
-    need = λ bs lt h. (let m = literal_need t bs h in (tt, m.0, m.1));
-    bad = λ bs left lt h. literal_bad t bs left h;
-    again = λ a text rest lt q. rw q (literal_again t rest) }
+  found = λ bs a rest lt h. (t, refl, literal_found t bs a rest h);
+  need = λ bs lt h. (let m = literal_need t bs h in (tt, m.0, m.1));
+  bad = λ bs left lt h. literal_bad t bs left h;
+  again = λ a text rest lt q. rw q (literal_again t rest);
+}
 
 -- data
 abbrev pub IsLong : ℕ → List ℕ → List ℕ → Type 0
@@ -118,10 +119,11 @@ data_by len bs t = if t then Err Need else Ok (take len bs, drop len bs)
 pub data_exact : (len : ℕ) → IsExact (IsLong len) (data_at len)
 unfolding data_at
 data_exact len n = record {
-    found = λ bs d rest lt h. found_at bs d rest (nat_lt (length bs) len) refl h;
-    need = λ bs lt h. need_at bs (nat_lt (length bs) len) refl h;
-    bad = λ bs left lt h. absurd (bad_at bs left (nat_lt (length bs) len) h);
-    again = λ d text rest lt q. again_at d text rest q }
+  found = λ bs d rest lt h. found_at bs d rest (nat_lt (length bs) len) refl h;
+  need = λ bs lt h. need_at bs (nat_lt (length bs) len) refl h;
+  bad = λ bs left lt h. absurd (bad_at bs left (nat_lt (length bs) len) h);
+  again = λ d text rest lt q. again_at d text rest q;
+}
   where
     found_at : (bs d rest : List ℕ) (t : Bool) → nat_lt (length bs) len ≡ t → data_by len bs t ≡ Ok (d, rest) → (text : List ℕ) × IsLong len d text × (bs ≡ text ++ rest)
     found_at bs d rest true e h = absurd (cc)

@@ -30,10 +30,11 @@ use Rattle.hk_reply.proofs.Lists.{Mapped, mapped, IsItems, items_exact, first_by
 
 items_whole : (tags : Bool) → IsExact (IsItems tags) (λ bs. items_at (length bs + 1) tags bs)
 items_whole tags n = record {
-    found = λ bs a rest lt h. (items_exact tags (length bs + 1)).found bs a rest (omega arith) h;
-    need = λ bs lt h. (items_exact tags (length bs + 1)).need bs (omega arith) h;
-    bad = λ bs left lt h. (items_exact tags (length bs + 1)).bad bs left (omega arith) h;
-    again = λ a text rest lt q. (items_exact tags (length (text ++ rest) + 1)).again a text rest (omega arith) q }
+  found = λ bs a rest lt h. (items_exact tags (length bs + 1)).found bs a rest (omega arith) h;
+  need = λ bs lt h. (items_exact tags (length bs + 1)).need bs (omega arith) h;
+  bad = λ bs left lt h. (items_exact tags (length bs + 1)).bad bs left (omega arith) h;
+  again = λ a text rest lt q. (items_exact tags (length (text ++ rest) + 1)).again a text rest (omega arith) q;
+}
 
 abbrev IsOthers : Item × Bool → Reply → List ℕ → Type 0
 IsOthers x = Mapped (λ is. reply.Values is x.1) (Mapped (λ is. (x.0 ∷ []) ++ is) (IsItems x.1))
@@ -146,12 +147,15 @@ reply_cons c cs rest text t e h = rw (e, h) refl
 
 either_read : IsReader IsEither reply_at
 unfolding reply_at
-either_read = record { exact = λ n. record {
+either_read = record {
+  exact = λ n. record {
     found = λ bs r rest lt h. found_at n bs r rest lt h;
     need = λ bs lt h. need_at n bs lt h;
     bad = λ bs left lt h. bad_at n bs left lt h;
-    again = λ r text rest lt q. again_at n r text rest lt q };
-    lives = (let g = count_read.lives in (g.0, g.1, inl g.2)) }
+    again = λ r text rest lt q. again_at n r text rest lt q;
+  };
+  lives = (let g = count_read.lives in (g.0, g.1, inl g.2));
+}
   where
     found_at : (n : ℕ) (bs : List ℕ) (r : Reply) (rest : List ℕ) → length bs < n → reply_at bs ≡ Ok (r, rest) → (text : List ℕ) × IsEither r text × (bs ≡ text ++ rest)
     found_at n [] r rest lt h = absurd (cc)

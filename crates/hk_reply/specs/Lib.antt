@@ -4,3 +4,4 @@ pub mod Openings
 pub mod Stops
 pub mod Reading
 pub mod Replies
+pub mod Laws

@@ -54,4 +54,3 @@ IsRead (Err fault) bytes = IsFault fault bytes
 abbrev pub IsReadAs : Result (Reply × ℕ) ReplyFault → Reply → Type 0
 IsReadAs (Ok x) reply = x ≡ (reply, length (text_of reply))
 IsReadAs (Err fault) reply = fault ≡ Memory
-

@@ -99,12 +99,7 @@ fn values(alloc: Global, bytes: &[u8]) -> Result<(Reply, &[u8]), Stop>
 }
 
 // Reads the values behind the first one.
-fn items(
-    alloc: Global,
-    first: Item,
-    tags: bool,
-    bytes: &[u8],
-) -> Result<(ValueItems, &[u8]), Stop>
+fn items(alloc: Global, first: Item, tags: bool, bytes: &[u8]) -> Result<(ValueItems, &[u8]), Stop>
     ensures { Gives (λ x. (x.0, x.1.now)) result (with_items (first ∷ []) (items_at (length bytes.now + 1) tags bytes.now)) }
 {
     let mut items = ValueItems::new(alloc);

@@ -88,12 +88,7 @@ pub fn number(limit: u64, tail: Tail, bytes: &[u8]) -> Result<((u64, u8), &[u8])
     number_from(limit, tail, u64::from(*first - b'0'), rest)
 }
 
-fn number_from(
-    limit: u64,
-    tail: Tail,
-    front: u64,
-    bytes: &[u8],
-) -> Result<((u64, u8), &[u8]), Stop>
+fn number_from(limit: u64, tail: Tail, front: u64, bytes: &[u8]) -> Result<((u64, u8), &[u8]), Stop>
     requires { front ≤ limit }
     ensures exact { Gives (λ x. (x.0, x.1.now)) result (number_from limit tail front bytes.now) }
     ensures within { IfOk result (λ x. x.0.0 ≤ limit) }
