@@ -1,14 +1,13 @@
 -- That the texts of replies stand apart, and what they tell.
-use Rattle.std.proofs.Common.{◌≡◌, ℕ, suc, List, [], ◌∷◌, ◌++◌, length, Bool, true, false, refl, ap, ◌∙◌, sym, arith, rules, subst, append-nil}
-use Rattle.std.specs.Prelude.{Result, Ok, Err, map, codes}
+use Rattle.std.proofs.Common.{◌≡◌, List, [], ◌∷◌, ◌++◌, true, false, refl, ap, ◌∙◌, sym, arith, append-nil}
+use Rattle.std.specs.Prelude.{map, codes}
 use Rattle.std.specs.List.{AllByRecursion}
 use Rattle.hk_reply.specs.declared.reply.Item.{Item}
-use Rattle.hk_reply.specs.declared.reply.Reply.{Reply}
 use Rattle.hk_reply.specs.declared.reply.Reply.TheVariants.{Values, Stored, Exists, NotFound, Number, Error, ClientError, ServerError, Version}
 use Rattle.hk_reply.specs.Reading.{reply_at}
 use Rattle.hk_reply.specs.Texts.{text_of, values_text, value_text, head_text}
-use Rattle.hk_reply.specs.Replies.{IsPlainItem, IsPlain, told, untagged}
-use Rattle.hk_reply.specs.Laws.{NoneBegins, TextsTell, IsInRange}
+use Rattle.hk_reply.specs.Replies.{IsPlainItem, untagged}
+use Rattle.hk_reply.specs.Laws.{NoneBegins, TextsTell}
 use Rattle.hk_reply.proofs.Simple.{both_are}
 use Rattle.hk_reply.proofs.Told.{read_as}
 

@@ -1,8 +1,8 @@
 -- What it is to read a language exactly, and that two such readers, one behind the other, read what the two make.
-use Rattle.std.proofs.Common.{◌≡◌, ◌≢◌, ℕ, zero, suc, ◌+◌, ◌-◌, ◌<◌, ◌≤◌, List, [], ◌∷◌, ◌++◌, length, refl, ap, ◌∙◌, sym, arith, rules, subst, ◌⊎◌, inl, inr, append_assoc, append-nil, length-append}
+use Rattle.std.proofs.Common.{◌≡◌, ℕ, suc, ◌<◌, List, [], ◌∷◌, ◌++◌, length, refl, ap, ◌∙◌, sym, arith, subst, ◌⊎◌, inl, inr, append_assoc}
 use Rattle.std.specs.Prelude.{Result, Ok, Err}
 use Rattle.hk_reply.specs.declared.scan.Stop.{Stop}
-use Rattle.hk_reply.specs.declared.scan.Stop.TheVariants.{Memory, Need, Bad}
+use Rattle.hk_reply.specs.declared.scan.Stop.TheVariants.{Need, Bad}
 use Rattle.hk_reply.specs.Scans.{◌>>=◌}
 use Rattle.hk_reply.specs.Stops.{Begins, StopsAt}
 

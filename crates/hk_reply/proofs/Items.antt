@@ -1,22 +1,16 @@
 -- That a value and the values behind it are read exactly, by their texts.
-use Rattle.std.proofs.Common.{◌≡◌, ◌≢◌, ℕ, zero, suc, ◌+◌, ◌-◌, ◌^◌, ◌<◌, ◌≤◌, List, [], ◌∷◌, ◌++◌, length, Bool, true, false, Option, Some, None, refl, ap, ◌∙◌, sym, arith, rules, subst, ◌⊎◌, inl, inr, append_assoc, append-nil, length-append}
-use Rattle.std.specs.Prelude.{Result, Ok, Err, ◌==◌, nat_lt, if◌then◌else◌, decimal, codes}
-use Rattle.std.specs.List.{AllByRecursion}
-use Rattle.std.proofs.lemmas.Bool.Decides.{nat_tests}
-use Rattle.hk_base.specs.Key.{IsKey}
+use Rattle.std.proofs.Common.{◌≡◌, ℕ, ◌-◌, ◌^◌, ◌≤◌, List, [], ◌∷◌, ◌++◌, length, Bool, true, false, refl, ap, ◌∙◌, sym, arith, subst, append_assoc, append-nil}
+use Rattle.std.specs.Prelude.{Ok, ◌==◌, if◌then◌else◌, decimal, codes}
 use Rattle.hk_base.specs.declared.data.TheConstants.{MAX_DATA_LEN}
-use Rattle.hk_reply.specs.declared.scan.Stop.{Stop}
-use Rattle.hk_reply.specs.declared.scan.Stop.TheVariants.{Memory, Need, Bad}
 use Rattle.hk_reply.specs.declared.scan.Tail.{Tail}
 use Rattle.hk_reply.specs.declared.scan.Tail.TheVariants.{Space, Return, Either}
 use Rattle.hk_reply.specs.declared.reply.Item.{Item}
-use Rattle.hk_reply.specs.Scans.{◌>>=◌, and_then, ends_at, number_at, key_from, data_at, literal_at}
-use Rattle.hk_reply.specs.Reading.{tag_at, body_at, item_at, more_at, tail_of, turn_by, turn_at, items_at}
+use Rattle.hk_reply.specs.Scans.{◌>>=◌, ends_at, number_at, key_from, data_at, literal_at}
+use Rattle.hk_reply.specs.Reading.{tag_at, body_at, item_at}
 use Rattle.hk_reply.specs.Replies.{IsPlainItem}
-use Rattle.hk_reply.specs.Stops.{Begins, StopsAt}
-use Rattle.hk_reply.proofs.Exact.{IsExactBelow, IsExact, Seq, seq, bind_ok, bind_err}
-use Rattle.hk_reply.proofs.Simple.{IsKeyText, IsLong, IsThis, both_are, heads, true_eq, false_ne}
-use Rattle.hk_reply.proofs.Joining.{IsReader, then_read, same_language, same_below, IsNothing, nothing, this}
+use Rattle.hk_reply.proofs.Exact.{Seq}
+use Rattle.hk_reply.proofs.Simple.{IsKeyText, IsLong, IsThis, true_eq}
+use Rattle.hk_reply.proofs.Joining.{IsReader, then_read, same_language, IsNothing, nothing, this}
 use Rattle.hk_reply.proofs.Values.{IsNumber, number_read, key_read, data_read}
 
 -- the end of a line, data, and its end

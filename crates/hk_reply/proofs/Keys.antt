@@ -1,14 +1,14 @@
 -- That keys are read exactly.
-use Rattle.std.proofs.Common.{◌≡◌, ◌≢◌, ℕ, zero, suc, ◌+◌, ◌-◌, ◌<◌, ◌≤◌, List, [], ◌∷◌, ◌++◌, length, Bool, true, false, Option, Some, None, refl, ap, ◌∙◌, sym, arith, rules, subst, ◌⊎◌, inl, inr, append_assoc, append-nil, length-append}
-use Rattle.std.specs.Prelude.{Result, Ok, Err, ◌==◌, ◌&&◌, ◌||◌, nat_lt, position, if◌then◌else◌}
+use Rattle.std.proofs.Common.{◌≡◌, ℕ, zero, suc, ◌+◌, ◌<◌, ◌≤◌, List, [], ◌∷◌, ◌++◌, length, Bool, true, false, None, refl, ap, ◌∙◌, sym, arith, subst, inl, inr}
+use Rattle.std.specs.Prelude.{Result, Ok, Err, ◌==◌, nat_lt, position, if◌then◌else◌}
 use Rattle.std.proofs.lemmas.Bool.Decides.{nat_tests}
 use Rattle.hk_base.specs.KeyBytes.{is_bad_byte}
 use Rattle.hk_base.specs.declared.key.TheConstants.{MAX_KEY_LEN}
 use Rattle.hk_reply.specs.declared.scan.Stop.{Stop}
-use Rattle.hk_reply.specs.declared.scan.Stop.TheVariants.{Memory, Need, Bad}
+use Rattle.hk_reply.specs.declared.scan.Stop.TheVariants.{Need, Bad}
 use Rattle.hk_reply.specs.Scans.{◌>>=◌, bad, key_from}
 use Rattle.hk_reply.specs.Stops.{Begins, StopsAt}
-use Rattle.hk_reply.proofs.Exact.{IsExactBelow, IsExact, bind_ok, bind_err}
+use Rattle.hk_reply.proofs.Exact.{IsExact, bind_ok, bind_err}
 use Rattle.hk_reply.proofs.Parts.{key_short}
 use Rattle.hk_reply.proofs.Simple.{heads, tails, both_are, IsKeyText, ends_key, stops_key, ends_is, ends_not, stops_is, stops_not, not_bad_not_end, clean_split, clean_cons}
 

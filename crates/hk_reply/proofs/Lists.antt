@@ -1,17 +1,14 @@
 -- That the values behind the first one are read exactly, by their texts.
-use Rattle.std.proofs.Common.{◌≡◌, ◌≢◌, ℕ, zero, suc, ◌+◌, ◌-◌, ◌^◌, ◌<◌, ◌≤◌, List, [], ◌∷◌, ◌++◌, length, Bool, true, false, Option, Some, None, refl, ap, ◌∙◌, sym, arith, rules, subst, ◌⊎◌, inl, inr, append_assoc, append-nil, length-append}
+use Rattle.std.proofs.Common.{◌≡◌, ℕ, zero, suc, ◌<◌, List, [], ◌∷◌, ◌++◌, length, Bool, true, false, Option, Some, None, refl, ap, ◌∙◌, sym, arith, subst, ◌⊎◌, inl, inr, append-nil, length-append}
 use Rattle.std.specs.Prelude.{Result, Ok, Err, ◌==◌, if◌then◌else◌, codes}
-use Rattle.std.proofs.lemmas.Bool.Decides.{nat_tests}
 use Rattle.hk_reply.specs.declared.scan.Stop.{Stop}
-use Rattle.hk_reply.specs.declared.scan.Stop.TheVariants.{Memory, Need, Bad}
-use Rattle.hk_reply.specs.declared.scan.Tail.{Tail}
-use Rattle.hk_reply.specs.declared.scan.Tail.TheVariants.{Space, Return, Either}
+use Rattle.hk_reply.specs.declared.scan.Stop.TheVariants.{Need, Bad}
 use Rattle.hk_reply.specs.declared.reply.Item.{Item}
 use Rattle.hk_reply.specs.Scans.{◌>>=◌, and_then, ends_at, literal_at}
 use Rattle.hk_reply.specs.Reading.{item_at, more_at, tail_of, turn_by, turn_at, items_at}
 use Rattle.hk_reply.specs.Replies.{IsPlainItem}
 use Rattle.hk_reply.specs.Stops.{Begins, StopsAt}
-use Rattle.hk_reply.proofs.Exact.{IsExactBelow, IsExact, Seq, seq, bind_ok, bind_err}
+use Rattle.hk_reply.proofs.Exact.{IsExactBelow, Seq, seq, bind_ok, bind_err}
 use Rattle.hk_reply.proofs.Simple.{IsThis, both_are, heads, true_eq, false_ne}
 use Rattle.hk_reply.proofs.Joining.{IsReader, then_read, same_language, same_below, IsNothing, nothing, this}
 use Rattle.hk_reply.proofs.Items.{IsValue, item_read, item_text, end_by}

@@ -1,17 +1,16 @@
 -- That numbers are read exactly.
-use Rattle.std.proofs.Common.{◌≡◌, ◌≢◌, ℕ, zero, suc, ◌+◌, ◌-◌, ◌*◌, ◌/◌, ◌%◌, ◌^◌, ◌<◌, ◌≤◌, List, [], ◌∷◌, ◌++◌, length, Bool, true, false, Option, Some, None, refl, ap, ◌∙◌, sym, arith, rules, subst, ◌⊎◌, inl, inr, append_assoc, append-nil}
-use Rattle.std.specs.Prelude.{Result, Ok, Err, ◌==◌, ◌&&◌, ◌||◌, not, nat_lt, nat_le, if◌then◌else◌, decimal}
+use Rattle.std.proofs.Common.{◌≡◌, ℕ, suc, ◌+◌, ◌-◌, ◌*◌, ◌<◌, ◌≤◌, List, [], ◌∷◌, ◌++◌, length, Bool, true, false, Option, Some, None, refl, ap, sym, arith, subst}
+use Rattle.std.specs.Prelude.{Result, Ok, Err, ◌==◌, not, nat_le, if◌then◌else◌}
 use Rattle.std.specs.Char.{is_ascii_digit}
 use Rattle.std.proofs.lemmas.Bool.Decides.{nat_tests}
-use Rattle.std.proofs.lemmas.Fmt.{decimal_step, decimal_digit, decimal_by_steps}
 use Rattle.hk_reply.specs.declared.scan.Stop.{Stop}
-use Rattle.hk_reply.specs.declared.scan.Stop.TheVariants.{Memory, Need, Bad}
+use Rattle.hk_reply.specs.declared.scan.Stop.TheVariants.{Need, Bad}
 use Rattle.hk_reply.specs.declared.scan.Tail.{Tail}
 use Rattle.hk_reply.specs.declared.scan.Tail.TheVariants.{Space, Return, Either}
-use Rattle.hk_reply.specs.Scans.{◌>>=◌, and_then, bad, longer, ends_at, number_from, number_at}
+use Rattle.hk_reply.specs.Scans.{and_then, bad, longer, ends_at, number_from, number_at}
 use Rattle.hk_reply.specs.Stops.{Begins, StopsAt}
-use Rattle.hk_reply.proofs.Exact.{IsExactBelow, IsExact, bind_ok, bind_err}
-use Rattle.hk_reply.proofs.Simple.{heads, tails, pair_of, ok_same, both_are}
+use Rattle.hk_reply.proofs.Exact.{IsExact}
+use Rattle.hk_reply.proofs.Simple.{heads, tails, both_are}
 
 -- the digits make a number of another
 abbrev pub Goes : ℕ → List ℕ → ℕ → Type 0

@@ -1,5 +1,5 @@
 -- How the parts of a text are read.
-use Rattle.std.proofs.Common.{◌≡◌, ℕ, zero, suc, ◌+◌, ◌<◌, ◌≤◌, List, [], ◌∷◌, length, drop, refl, arith, Bool, false, Option, Some, None, ◌++◌, take, true, ◌∙◌, ap, sym, append_assoc, append-nil, rules}
+use Rattle.std.proofs.Common.{◌≡◌, ℕ, zero, suc, ◌+◌, ◌<◌, ◌≤◌, List, [], ◌∷◌, length, drop, refl, arith, Bool, false, Some, ◌++◌, take, true, ◌∙◌, ap, sym, append_assoc, append-nil}
 use Rattle.std.specs.Prelude.{Result, Ok, Err}
 use Rattle.hk_reply.specs.declared.scan.Stop.TheVariants.{Need}
 use Rattle.hk_reply.specs.Scans.{◌>>=◌, key_from, literal_at, longer, ends_at, number_from}

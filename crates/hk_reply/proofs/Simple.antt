@@ -1,18 +1,16 @@
 -- That texts, data and keys are read exactly.
-use Rattle.std.proofs.Common.{◌≡◌, ◌≢◌, ℕ, zero, suc, ◌+◌, ◌-◌, ◌<◌, ◌≤◌, List, [], ◌∷◌, ◌++◌, length, take, drop, Bool, true, false, Option, Some, None, refl, ap, ◌∙◌, sym, arith, rules, subst, ◌⊎◌, inl, inr, append_assoc, append-nil, length-append}
+use Rattle.std.proofs.Common.{◌≡◌, ℕ, zero, suc, ◌+◌, ◌-◌, ◌<◌, ◌≤◌, List, [], ◌∷◌, ◌++◌, length, take, drop, Bool, true, false, Some, None, refl, ap, ◌∙◌, sym, arith, length-append}
 use Rattle.std.specs.Prelude.{Result, Ok, Err, ◌==◌, ◌&&◌, ◌||◌, not, nat_lt, position, if◌then◌else◌}
 use Rattle.std.specs.List.{position_or_len}
 use Rattle.std.proofs.lemmas.Bool.Decides.{nat_tests}
 use Rattle.std.proofs.lemmas.List.{take-append-drop}
-use Rattle.hk_base.specs.Key.{IsKey}
 use Rattle.hk_base.specs.KeyBytes.{is_bad_byte}
 use Rattle.hk_base.specs.declared.key.TheConstants.{MAX_KEY_LEN}
 use Rattle.hk_reply.specs.declared.scan.Stop.{Stop}
-use Rattle.hk_reply.specs.declared.scan.Stop.TheVariants.{Memory, Need, Bad}
-use Rattle.hk_reply.specs.Scans.{◌>>=◌, bad, literal_at, data_at, key_from}
+use Rattle.hk_reply.specs.declared.scan.Stop.TheVariants.{Need, Bad}
+use Rattle.hk_reply.specs.Scans.{bad, literal_at, data_at}
 use Rattle.hk_reply.specs.Stops.{Begins, StopsAt}
-use Rattle.hk_reply.proofs.Exact.{IsExactBelow, IsExact, bind_ok, bind_err}
-use Rattle.hk_reply.proofs.Parts.{key_short}
+use Rattle.hk_reply.proofs.Exact.{IsExact}
 
 pub heads : (x y : ℕ) (xs ys : List ℕ) → x ∷ xs ≡ y ∷ ys → x ≡ y
 heads x y xs ys h = cc

@@ -1,15 +1,14 @@
 -- What reading a reply gives, by the texts of replies.
-use Rattle.std.proofs.Common.{◌≡◌, ◌≢◌, ℕ, zero, suc, ◌+◌, ◌-◌, ◌<◌, ◌≤◌, List, [], ◌∷◌, ◌++◌, length, take, refl, ap, ◌∙◌, sym, arith, rules, subst, append_assoc, append-nil, length-append}
-use Rattle.std.specs.Prelude.{Result, Ok, Err}
+use Rattle.std.proofs.Common.{◌≡◌, ℕ, suc, ◌+◌, ◌-◌, ◌≤◌, List, [], ◌∷◌, ◌++◌, length, take, refl, ap, ◌∙◌, sym, arith, subst, append_assoc, append-nil, length-append}
+use Rattle.std.specs.Prelude.{Ok, Err}
 use Rattle.hk_reply.specs.declared.scan.Stop.{Stop}
 use Rattle.hk_reply.specs.declared.scan.Stop.TheVariants.{Need, Bad}
-use Rattle.hk_reply.specs.declared.read.ReplyFault.{ReplyFault}
 use Rattle.hk_reply.specs.declared.read.ReplyFault.TheVariants as fault
 use Rattle.hk_reply.specs.declared.reply.Reply.{Reply}
 use Rattle.hk_reply.specs.Reading.{reply_at}
 use Rattle.hk_reply.specs.Texts.{text_of}
-use Rattle.hk_reply.specs.Replies.{IsPlain, IsText, IsFault, IsReadAs}
-use Rattle.hk_reply.specs.Stops.{Begins, StopsAt}
+use Rattle.hk_reply.specs.Replies.{IsPlain, IsText, IsFault}
+use Rattle.hk_reply.specs.Stops.{Begins}
 use Rattle.hk_reply.proofs.Exact.{ok_not_err}
 use Rattle.hk_reply.proofs.Simple.{both_are, take_all}
 use Rattle.hk_reply.proofs.Whole.{reply_read}

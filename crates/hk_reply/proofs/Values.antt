@@ -1,27 +1,15 @@
 -- That numbers, values and lists of values are read exactly, by their texts.
-use Rattle.std.proofs.Common.{◌≡◌, ◌≢◌, ℕ, zero, suc, ◌+◌, ◌-◌, ◌*◌, ◌/◌, ◌%◌, ◌^◌, ◌<◌, ◌≤◌, List, [], ◌∷◌, ◌++◌, length, Bool, true, false, Option, Some, None, refl, ap, ◌∙◌, sym, arith, rules, subst, ◌⊎◌, inl, inr, append_assoc, append-nil, length-append}
-use Rattle.std.specs.Prelude.{Result, Ok, Err, ◌==◌, nat_lt, if◌then◌else◌, decimal, codes}
-use Rattle.std.specs.List.{AllByRecursion}
+use Rattle.std.proofs.Common.{◌≡◌, ℕ, zero, suc, ◌+◌, ◌-◌, ◌*◌, ◌/◌, ◌%◌, ◌^◌, ◌<◌, ◌≤◌, List, [], ◌∷◌, ◌++◌, length, true, refl, ap, ◌∙◌, sym, arith, append_assoc, append-nil}
+use Rattle.std.specs.Prelude.{decimal}
 use Rattle.std.specs.Char.{is_ascii_digit}
 use Rattle.std.proofs.lemmas.Bool.Decides.{nat_tests}
 use Rattle.std.proofs.lemmas.Fmt.{decimal_step, decimal_digit, decimal_by_steps}
-use Rattle.hk_base.specs.Key.{IsKey}
-use Rattle.hk_base.specs.declared.data.TheConstants.{MAX_DATA_LEN}
-use Rattle.hk_reply.specs.declared.scan.Stop.{Stop}
-use Rattle.hk_reply.specs.declared.scan.Stop.TheVariants.{Memory, Need, Bad}
 use Rattle.hk_reply.specs.declared.scan.Tail.{Tail}
-use Rattle.hk_reply.specs.declared.scan.Tail.TheVariants.{Space, Return, Either}
-use Rattle.hk_reply.specs.declared.reply.Item.{Item}
-use Rattle.hk_reply.specs.Scans.{◌>>=◌, ends_at, number_at, key_from, data_at, literal_at}
-use Rattle.hk_reply.specs.Reading.{tag_at, body_at, item_at}
-use Rattle.hk_reply.specs.Texts.{tag_text, head_text, value_text}
-use Rattle.hk_reply.specs.Replies.{IsPlainItem}
-use Rattle.hk_reply.specs.Stops.{Begins, StopsAt}
-use Rattle.hk_reply.proofs.Exact.{Seq}
-use Rattle.hk_reply.proofs.Simple.{IsKeyText, IsLong, IsThis, data_exact}
+use Rattle.hk_reply.specs.Scans.{ends_at, number_at, key_from, data_at}
+use Rattle.hk_reply.proofs.Simple.{IsKeyText, IsLong, data_exact}
 use Rattle.hk_reply.proofs.Keys.{key_exact, key_goes}
-use Rattle.hk_reply.proofs.Numbers.{Goes, IsRest, IsDigits, number_exact, end_of, end_of_ends}
-use Rattle.hk_reply.proofs.Joining.{IsReader, then_read, same_language, IsNothing, nothing, this}
+use Rattle.hk_reply.proofs.Numbers.{Goes, IsDigits, number_exact, end_of, end_of_ends}
+use Rattle.hk_reply.proofs.Joining.{IsReader, same_language}
 
 -- digits are the decimal text of what they make
 tenth : (v k : ℕ) → k < 10 → (v * 10 + k) / 10 ≡ v

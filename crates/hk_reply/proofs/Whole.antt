@@ -1,31 +1,29 @@
 -- That replies are read exactly, by their texts.
-use Rattle.std.proofs.Common.{◌≡◌, ◌≢◌, ℕ, zero, suc, ◌+◌, ◌-◌, ◌^◌, ◌<◌, ◌≤◌, List, [], ◌∷◌, ◌++◌, length, Bool, true, false, Option, Some, None, refl, ap, ◌∙◌, sym, arith, rules, subst, ◌⊎◌, inl, inr, append_assoc, append-nil, length-append}
-use Rattle.std.specs.Prelude.{Result, Ok, Err, ◌==◌, if◌then◌else◌, codes, decimal}
+use Rattle.std.proofs.Common.{◌≡◌, ℕ, ◌+◌, ◌-◌, ◌^◌, ◌<◌, List, [], ◌∷◌, ◌++◌, length, Bool, true, false, refl, ap, ◌∙◌, sym, arith, subst, ◌⊎◌, inl, inr, append_assoc}
+use Rattle.std.specs.Prelude.{Result, Ok, Err, if◌then◌else◌, codes, decimal}
 use Rattle.std.specs.List.{AllByRecursion}
 use Rattle.std.specs.Char.{is_ascii_digit}
 use Rattle.hk_reply.specs.declared.scan.Stop.{Stop}
-use Rattle.hk_reply.specs.declared.scan.Stop.TheVariants.{Memory, Need, Bad}
-use Rattle.hk_reply.specs.declared.scan.Tail.TheVariants.{Space, Return, Either}
+use Rattle.hk_reply.specs.declared.scan.Stop.TheVariants.{Need, Bad}
+use Rattle.hk_reply.specs.declared.scan.Tail.TheVariants.{Return, Either}
 use Rattle.hk_reply.specs.declared.reply.Item.{Item}
 use Rattle.hk_reply.specs.declared.reply.Reply.{Reply}
 use Rattle.hk_reply.specs.declared.reply.Reply.TheVariants as reply
-use Rattle.hk_reply.specs.declared.reply.ClientText.{ClientText}
-use Rattle.hk_reply.specs.declared.reply.ServerText.{ServerText}
 use Rattle.hk_reply.specs.declared.reply.ClientText.TheVariants as client
 use Rattle.hk_reply.specs.declared.reply.ServerText.TheVariants as server
 use Rattle.hk_reply.specs.declared.opening.Opening.{Opening}
 use Rattle.hk_reply.specs.declared.opening.Opening.TheVariants as opening
-use Rattle.hk_reply.specs.Scans.{◌>>=◌, ends_at, literal_at, number_at}
+use Rattle.hk_reply.specs.Scans.{◌>>=◌, literal_at, number_at}
 use Rattle.hk_reply.specs.Openings.{opening_text, opening_at}
 use Rattle.hk_reply.specs.Reading.{item_at, items_at, with_items, values_at, behind_at, count_at, reply_at}
 use Rattle.hk_reply.specs.Texts.{text_of, values_text, value_text, head_text, tag_text}
-use Rattle.hk_reply.specs.Replies.{IsPlainItem, IsPlain, IsText}
+use Rattle.hk_reply.specs.Replies.{IsPlainItem, IsText}
 use Rattle.hk_reply.specs.Stops.{Begins, StopsAt}
-use Rattle.hk_reply.proofs.Exact.{IsExactBelow, IsExact, Seq}
+use Rattle.hk_reply.proofs.Exact.{IsExact, Seq}
 use Rattle.hk_reply.proofs.Simple.{IsThis}
 use Rattle.hk_reply.proofs.Joining.{IsReader, then_read, same_language, IsNothing, nothing, this, IsOpening, opening_read}
-use Rattle.hk_reply.proofs.Values.{IsNumber, number_read, HasDigits, has_digits}
-use Rattle.hk_reply.proofs.Items.{IsValue, item_read, item_text, tail_text, return_is, return_ends, either_ends}
+use Rattle.hk_reply.proofs.Values.{IsNumber, number_read, has_digits}
+use Rattle.hk_reply.proofs.Items.{IsValue, item_read, item_text, return_is, return_ends, either_ends}
 use Rattle.hk_reply.proofs.Lists.{Mapped, mapped, IsItems, items_exact, first_byte}
 
 items_whole : (tags : Bool) → IsExact (IsItems tags) (λ bs. items_at (length bs + 1) tags bs)

@@ -5,7 +5,7 @@ use Rattle.hk_base.specs.Key.{IsKey}
 use Rattle.hk_base.specs.declared.data.TheConstants.{MAX_DATA_LEN}
 use Rattle.hk_reply.specs.declared.reply.Item.{Item}
 use Rattle.hk_reply.specs.declared.reply.Reply.{Reply}
-use Rattle.hk_reply.specs.declared.reply.Reply.TheVariants.{Values, Stored, Exists, NotFound, Number, Error, ClientError, ServerError, Version}
+use Rattle.hk_reply.specs.declared.reply.Reply.TheVariants.{Values, Number}
 use Rattle.hk_reply.specs.declared.read.ReplyFault.{ReplyFault}
 use Rattle.hk_reply.specs.declared.read.ReplyFault.TheVariants.{Memory, Need, Bad}
 use Rattle.hk_reply.specs.Texts.{text_of}

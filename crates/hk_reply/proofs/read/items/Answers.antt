@@ -1,4 +1,4 @@
-use Rattle.std.proofs.Common.{◌≡◌, ◌∙◌, ◌+◌, ◌-◌, suc, sym, rules, arith, length}
+use Rattle.std.proofs.Common.{◌∙◌, ◌+◌, ◌-◌, rules, arith, length}
 use Rattle.hk_reply.proofs.Parts.{items_more}
 use Rattle.hk_reply.proofs.read.items.Goals as goal
 

@@ -1,5 +1,5 @@
 use Rattle.std.proofs.Common.{◌≡◌, ◌+◌, ◌-◌, length}
-use Rattle.std.specs.Prelude.{Ok, ◌∷◌, []}
+use Rattle.std.specs.Prelude.{◌∷◌, []}
 use Rattle.hk_reply.specs.Reading.{items_at, with_items}
 use Rattle.hk_reply.proofs.read.items.Given as goal
 

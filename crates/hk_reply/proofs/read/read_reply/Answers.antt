@@ -1,4 +1,3 @@
-use Rattle.std.proofs.Common.{◌≡◌, ◌++◌, List, ℕ, length}
 use Rattle.hk_reply.specs.declared.scan.Stop.TheVariants.{Need, Bad}
 use Rattle.hk_reply.proofs.Told.{ok_within, bad_within, read_ok, read_need, read_bad, told_length, not_stopped}
 use Rattle.hk_reply.proofs.read.read_reply.Goals as goal

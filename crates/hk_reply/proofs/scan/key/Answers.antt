@@ -1,4 +1,4 @@
-use Rattle.std.proofs.Common.{◌≡◌, ◌∙◌, sym, rules, arith, length}
+use Rattle.std.proofs.Common.{◌∙◌, sym, rules, length}
 use Rattle.hk_reply.proofs.Parts.{key_turn, key_short, drop_turn, rest_turn}
 use Rattle.hk_reply.proofs.scan.key.Goals as goal
 

@@ -1,4 +1,4 @@
-use Rattle.std.proofs.Common.{◌≡◌, ◌≤◌, ◌+◌, drop, take, length, ℕ}
+use Rattle.std.proofs.Common.{◌≡◌, ◌≤◌, ◌+◌, drop, take, length}
 use Rattle.hk_reply.specs.Scans.{key_from}
 use Rattle.hk_reply.proofs.Parts.{with_front}
 use Rattle.hk_base.specs.declared.key.TheConstants.{MAX_KEY_LEN}

@@ -1,4 +1,4 @@
-use Rattle.std.proofs.Common.{◌≡◌, ◌∙◌, rules, arith, length}
+use Rattle.std.proofs.Common.{◌∙◌, rules}
 use Rattle.hk_reply.proofs.Parts.{needs}
 use Rattle.hk_reply.proofs.scan.literal.Goals as goal
 

@@ -1,4 +1,4 @@
-use Rattle.std.proofs.Common.{◌≡◌, ◌∙◌, sym, rules, arith}
+use Rattle.std.proofs.Common.{◌∙◌, sym, rules}
 use Rattle.hk_reply.proofs.Parts.{number_turn}
 use Rattle.hk_reply.proofs.scan.number_from.Goals as goal
 

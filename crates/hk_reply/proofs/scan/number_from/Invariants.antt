@@ -1,4 +1,4 @@
-use Rattle.std.proofs.Common.{◌≡◌, ◌≤◌, drop, length, ℕ}
+use Rattle.std.proofs.Common.{◌≡◌, ◌≤◌, length}
 use Rattle.hk_reply.specs.Scans.{number_from}
 use Rattle.hk_reply.proofs.scan.number_from.Given as goal
 
