@@ -1,5 +1,5 @@
 -- Keys that were read, and then the others.
-use Rattle.std.proofs.Common.{◌≡◌, ℕ, ◌+◌, ◌<◌, List, [], ◌∷◌, ◌++◌, length, drop, map, refl, ap, ◌∙◌, sym, append_assoc, append-nil}
+use Rattle.std.proofs.Common.{◌≡◌, ℕ, List, [], ◌∷◌, ◌++◌, refl, ap, sym, append_assoc}
 use Rattle.std.specs.Prelude.{Result, Ok, Err}
 use Rattle.hk_request.specs.Fields.{◌>>=◌}
 use Rattle.hk_request.specs.declared.request.RequestCause.{RequestCause}

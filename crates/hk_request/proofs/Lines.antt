@@ -1,5 +1,5 @@
 -- That the words of a line are read as the grammar has them, both ways.
-use Rattle.std.proofs.Common.{◌≡◌, ◌≢◌, ℕ, zero, suc, ◌+◌, ◌-◌, ◌^◌, ◌<◌, ◌≤◌, List, [], ◌∷◌, length, Bool, true, false, Option, Some, None, refl, ap, ◌∙◌, sym, arith, rules, cond, subst, ◌⊎◌, inl, inr}
+use Rattle.std.proofs.Common.{◌≡◌, ◌≢◌, ℕ, ◌≤◌, List, [], ◌∷◌, Bool, true, false, Option, Some, None, refl, ap, ◌∙◌, sym, arith, subst, ◌⊎◌, inl, inr}
 use Rattle.std.specs.Prelude.{Result, Ok, Err, if◌then◌else◌, codes, IfOk}
 use Rattle.std.specs.List.{AllByRecursion}
 use Rattle.hk_base.specs.Key.{IsKey}
@@ -11,7 +11,6 @@ use Rattle.hk_request.specs.declared.command.Command.TheVariants as command
 use Rattle.hk_request.specs.declared.line.Change.{Change}
 use Rattle.hk_request.specs.declared.request.Request.{Request}
 use Rattle.hk_request.specs.declared.request.Request.TheVariants.{Get, Update, Quit, Version}
-use Rattle.hk_request.specs.declared.request.StoreHead.{StoreHead}
 use Rattle.hk_request.specs.declared.request.Head.{Head}
 use Rattle.hk_request.specs.declared.request.Head.TheVariants.{Whole, Store}
 use Rattle.hk_request.specs.declared.request.RequestCause.{RequestCause}
@@ -19,9 +18,9 @@ use Rattle.hk_request.specs.declared.request.RequestCause.TheVariants as cause
 use Rattle.hk_request.specs.declared.request.RequestFault.{RequestFault}
 use Rattle.hk_request.specs.Words.{is_text, words_of}
 use Rattle.hk_request.specs.Commands.{command_of, name_of}
-use Rattle.hk_request.specs.Fields.{◌>>=◌, key_of, number_at, expiry_of, size_of, tag_of, noreply_of}
+use Rattle.hk_request.specs.Fields.{key_of, number_at, expiry_of, size_of, tag_of, noreply_of}
 use Rattle.hk_request.specs.Reading.{store_of, set_of, cas_of, step_of, change_of, keys_of, get_of, alone_of, asked_of, asked_by, head_of_words, head_of, with_skip, skip_of, ReadsHead, FailsHead}
-use Rattle.hk_request.specs.Grammar.{IsNumber, small, large, IsNoreply, IsChange, command_with, IsTagged, IsStore, IsUpdate, IsWhole, IsHead, IsReadAs}
+use Rattle.hk_request.specs.Grammar.{IsNumber, small, large, IsNoreply, IsChange, command_with, IsTagged, IsUpdate, IsWhole, IsHead, IsReadAs}
 use Rattle.hk_request.proofs.Single.{bind_ok, text_same, key_found, key_read, number_found, number_read, expiry_found, expiry_read, size_found, size_read, noreply_found}
 
 -- what a store is read as

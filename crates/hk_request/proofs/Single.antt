@@ -1,23 +1,21 @@
 -- That the words of a line are read as the grammar has them, each by itself, both ways.
-use Rattle.std.proofs.Common.{◌≡◌, ◌≢◌, ℕ, zero, suc, ◌+◌, ◌-◌, ◌^◌, ◌<◌, ◌≤◌, List, [], ◌∷◌, length, Bool, true, false, Option, Some, None, refl, ap, ◌∙◌, sym, arith, rules, cond, nat_lt, nat_le}
-use Rattle.std.specs.Prelude.{Result, Ok, Err, ◌==◌, ◌&&◌, ◌||◌, not, if◌then◌else◌, nat_eq, position, is_some, codes}
+use Rattle.std.proofs.Common.{◌≡◌, ℕ, ◌^◌, ◌<◌, ◌≤◌, List, [], ◌∷◌, length, Bool, true, false, Option, Some, None, refl, arith, nat_lt, nat_le}
+use Rattle.std.specs.Prelude.{Result, Ok, Err, ◌==◌, ◌&&◌, not, if◌then◌else◌, nat_eq, position, is_some, codes}
 use Rattle.std.specs.List.{list_all}
 use Rattle.std.specs.Option.{option_map}
-use Rattle.std.specs.Cmp.Lexicographic.{pointwise}
 use Rattle.std.specs.Char.{is_ascii_digit}
 use Rattle.std.specs.Str.Parse.{digits_value}
 use Rattle.std.proofs.lemmas.Bool.Decides.{nat_tests}
 use Rattle.hk_base.specs.Key.{IsKey}
 use Rattle.hk_base.specs.KeyBytes.{is_bad_byte}
 use Rattle.hk_base.specs.KeyFaults.{key_fault}
-use Rattle.hk_base.specs.declared.key.KeyFault.{KeyFault}
 use Rattle.hk_base.specs.declared.key.KeyFault.TheVariants as key_faults
 use Rattle.hk_base.specs.declared.key.TheConstants.{MAX_KEY_LEN}
 use Rattle.hk_base.specs.declared.data.TheConstants.{MAX_DATA_LEN}
 use Rattle.hk_request.specs.declared.request.RequestCause.{RequestCause}
 use Rattle.hk_request.specs.declared.request.RequestCause.TheVariants as cause
 use Rattle.hk_request.specs.Words.{is_text, number_of}
-use Rattle.hk_request.specs.Fields.{◌>>=◌, key_of, number_at, number_or_fault, never, expiry_of, size_of, tag_of, noreply_of}
+use Rattle.hk_request.specs.Fields.{◌>>=◌, key_of, number_at, number_or_fault, never, expiry_of, size_of, noreply_of}
 use Rattle.hk_request.specs.Grammar.{IsNumber, small, large}
 
 -- what a step was given, where both steps went well

@@ -5,7 +5,7 @@ use Rattle.std.specs.Char.{is_ascii_digit}
 use Rattle.std.specs.Str.Parse.{digits_value}
 use Rattle.hk_base.specs.Key.{IsKey}
 use Rattle.hk_base.specs.declared.call.Op.{Op}
-use Rattle.hk_base.specs.declared.call.Op.TheVariants.{Read, Write, Cas, Incr, Decr}
+use Rattle.hk_base.specs.declared.call.Op.TheVariants.{Incr, Decr}
 use Rattle.hk_base.specs.declared.data.TheConstants.{MAX_DATA_LEN}
 use Rattle.hk_request.specs.declared.request.Request.{Request}
 use Rattle.hk_request.specs.declared.request.Request.TheVariants.{Get, Update, Quit, Version}
@@ -14,7 +14,6 @@ use Rattle.hk_request.specs.declared.request.Head.{Head}
 use Rattle.hk_request.specs.declared.request.Head.TheVariants.{Whole, Store}
 use Rattle.hk_request.specs.declared.request.RequestCause.TheVariants as cause
 use Rattle.hk_request.specs.declared.request.RequestFault.{RequestFault}
-use Rattle.hk_request.specs.Words.{words_of}
 
 -- 1 to 20 decimal digits of this value, at most the limit; there may be zeros in front
 pub record IsNumber (limit : ℕ) (word : List ℕ) (n : ℕ) : Type 0 where

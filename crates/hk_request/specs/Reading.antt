@@ -7,7 +7,6 @@ use Rattle.hk_request.specs.declared.command.Command.TheVariants as command
 use Rattle.hk_request.specs.declared.line.Change.{Change}
 use Rattle.hk_request.specs.declared.request.Request.{Request}
 use Rattle.hk_request.specs.declared.request.Request.TheVariants.{Get, Update, Quit, Version}
-use Rattle.hk_request.specs.declared.request.StoreHead.{StoreHead}
 use Rattle.hk_request.specs.declared.request.Head.{Head}
 use Rattle.hk_request.specs.declared.request.Head.TheVariants.{Whole, Store}
 use Rattle.hk_request.specs.declared.request.RequestCause.{RequestCause}
