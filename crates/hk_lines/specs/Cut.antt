@@ -1,0 +1,79 @@
+-- What a cutter holds, and what its calls do to that. Lines are those of memcached's `protocol.txt`: they end in a
+-- carriage return and a line feed, 13 and 10. A block has a count that a line told, and two bytes that end it.
+use Rattle.std.specs.Prelude.{◌≡◌, ℕ, ◌+◌, ◌-◌, ◌<◌, List, [], ◌∷◌, ◌++◌, length, take, drop, Bool, false, Option, None, Some, nat_le, ◌==◌, ◌&&◌, if◌then◌else◌}
+use Rattle.std.specs.Option.{option_map}
+use Rattle.hk_lines.specs.declared.step.Step.{Step}
+use Rattle.hk_lines.specs.declared.step.Step.TheVariants.{Line, Block, Need, TooLong}
+
+-- whether the bytes begin with a line feed
+abbrev pub begins_with_feed : List ℕ → Bool
+begins_with_feed [] = false
+begins_with_feed (b ∷ bs) = b == 10
+
+-- how many bytes stand before the first carriage return that a line feed follows
+abbrev pub line_end : List ℕ → Option ℕ
+line_end [] = None
+line_end (b ∷ bs) = if (b == 13) && begins_with_feed bs then Some 0 else option_map (λ n. 1 + n) (line_end bs)
+
+pub record Cutting : Type 0 where
+  -- the bytes that came and were not given yet
+  pub unread : List ℕ
+  -- how many of those that come next are dropped
+  pub dropping : ℕ
+  -- how long a line may be, without the two bytes that end it
+  pub limit : ℕ
+  -- the count of the block that is due; none where a line is due
+  pub block : Option ℕ
+  -- the line or block that was given last; nothing where the last step gave none
+  pub given : List ℕ
+
+-- while bytes are to be dropped, nothing is unread
+abbrev pub IsCutting : Cutting → Type 0
+IsCutting c = 0 < c.dropping → c.unread ≡ []
+
+-- a piece comes
+abbrev pub fed : Cutting → List ℕ → Cutting
+fed c piece = record c { unread = c.unread ++ drop c.dropping piece; dropping = c.dropping - length piece; given = [] }
+
+-- the next bytes are dropped, as many as are there at once and the others as they come
+abbrev pub skipped : Cutting → ℕ → Cutting
+skipped c count = record c { unread = drop count c.unread; dropping = c.dropping + (count - length c.unread) }
+
+-- a block is due
+abbrev pub expecting : Cutting → ℕ → Cutting
+expecting c count = record c { block = Some count }
+
+-- a step, and what the cutter holds afterwards
+pub record Stepped : Type 0 where
+  pub step : Step
+  pub rest : Cutting
+
+-- the first n bytes are given, so many are gone, and a line is due
+abbrev pub giving : Cutting → ℕ → ℕ → Cutting
+giving c n gone = record c { unread = drop gone c.unread; block = None; given = take n c.unread }
+
+-- a step that gave what the cutter now shows
+abbrev pub gives : Step → Cutting → Stepped
+gives step c = record { step = step; rest = c }
+
+-- a step that gave nothing
+abbrev pub holding : Step → Cutting → Stepped
+holding step c = record { step = step; rest = record c { given = [] } }
+
+-- a line is due: it is given where it ends, and is too long where that many bytes are there without an end
+abbrev pub line_step : Cutting → Option ℕ → Stepped
+line_step c (Some n) = gives Line (giving c n (n + 2))
+line_step c None = if nat_le (c.limit + 2) (length c.unread) then holding TooLong c else holding Need c
+
+-- a block is due: it is given with the two bytes that end it, once all of it is there
+abbrev pub block_step : Cutting → ℕ → Stepped
+block_step c count = if nat_le (count + 2) (length c.unread) then gives Block (giving c (count + 2) (count + 2)) else holding Need c
+
+-- the next step of what is due; the end of a line is sought in the first limit + 2 bytes
+abbrev pub step_of : Option ℕ → Cutting → Stepped
+step_of None c = line_step c (line_end (take (c.limit + 2) c.unread))
+step_of (Some count) c = block_step c count
+
+-- the next step
+unfoldable pub stepped : Cutting → Stepped
+stepped c = step_of c.block c

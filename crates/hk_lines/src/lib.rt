@@ -1,0 +1,26 @@
+//! Cuts what comes off a socket into the lines and blocks of the memcached text protocol, however it arrived.
+//!
+//! Bytes are fed in the pieces in which they come. A line ends at the first carriage return that a line feed follows;
+//! either of the two alone is a byte like any other. A block has a length that was told before. What is given is a
+//! function of the bytes fed, and not of the pieces: that is the law `pieces_do_not_matter`.
+#![tactic(auto)]
+
+mod cutter;
+mod ends;
+mod step;
+#[cfg(test)]
+mod tests;
+
+ghost use Rattle.hk_lines.specs.Pieces.{PiecesJoin, SkipCommutes, ExpectCommutes, StepStays};
+
+pub use cutter::Cutter;
+pub use step::Step;
+
+/// How the bytes are cut into pieces makes no difference: two pieces do what the one does that they make, and each
+/// other call can as well be made before bytes come as after, `next` as soon as it gives a step.
+pub fn pieces_do_not_matter()
+    ensures join { PiecesJoin }
+    ensures skip { SkipCommutes }
+    ensures expect { ExpectCommutes }
+    ensures stays { StepStays }
+{}

@@ -1,0 +1,12 @@
+pub mod Exact
+pub mod Parts
+pub mod Simple
+pub mod Keys
+pub mod Numbers
+pub mod Joining
+pub mod Values
+pub mod Items
+pub mod Lists
+pub mod Whole
+pub mod Told
+pub mod Apart

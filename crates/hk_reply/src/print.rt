@@ -1,0 +1,158 @@
+//! The text of replies.
+
+ghost use Rattle.std.specs.Prelude.{◌≡◌, ◌++◌, OnOk, decimal, codes};
+ghost use Rattle.hk_reply.specs.Texts.{text_of, value_text, values_text, client_text, server_text, tag_text, head_text};
+
+use crate::reply::{ClientText, Item, Reply, ServerText};
+use hk_base::Memory;
+use itoa::Buffer;
+
+fn put(out: &mut Vec<u8>, text: &[u8]) -> Result<(), Memory>
+    ensures { OnOk result (out.new.items ≡ out.old.items ++ text.now) }
+{
+    out.extend_from_slice(text)?;
+    Ok(())
+}
+
+fn put_number(out: &mut Vec<u8>, n: u64) -> Result<(), Memory>
+    ensures { OnOk result (out.new.items ≡ out.old.items ++ decimal n) }
+{
+    let mut buffer = Buffer::new();
+    put(out, buffer.format(n).as_bytes())
+}
+
+/// Appends the text of the reply. After an `Err` a front of it may have been appended.
+#[tactic(auto, unfolding(crate::specs::Texts::text_of))]
+pub fn print_reply(reply: &Reply, out: &mut Vec<u8>) -> Result<(), Memory>
+    ensures { OnOk result (out.new.items ≡ out.old.items ++ text_of reply.now) }
+{
+    match reply {
+        Reply::Values { items, tags } => {
+            put_items(out, items.as_slice(), *tags)?;
+            put(out, b"END\r\n")
+        }
+        Reply::Stored => put(out, b"STORED\r\n"),
+        Reply::Exists => put(out, b"EXISTS\r\n"),
+        Reply::NotFound => put(out, b"NOT_FOUND\r\n"),
+        Reply::Number(n) => {
+            put_number(out, *n)?;
+            put(out, b"\r\n")
+        }
+        Reply::Error => put(out, b"ERROR\r\n"),
+        Reply::ClientError(text) => put_client(out, *text),
+        Reply::ServerError(text) => put_server_text(out, *text),
+        Reply::Version => put(out, b"VERSION hermes-1\r\n"),
+    }
+}
+
+fn put_client(out: &mut Vec<u8>, text: ClientText) -> Result<(), Memory>
+    ensures { OnOk result (out.new.items ≡ out.old.items ++ client_text text) }
+{
+    put(out, b"CLIENT_ERROR ")?;
+    match text {
+        ClientText::BadKey => put(out, b"bad key\r\n"),
+        ClientText::BadNumber => put(out, b"bad number\r\n"),
+        ClientText::BadChunk => put(out, b"bad data chunk\r\n"),
+        ClientText::NotNumber => put(out, b"not a number\r\n"),
+        ClientText::TooLong => put(out, b"line too long\r\n"),
+    }
+}
+
+fn put_server_text(out: &mut Vec<u8>, text: ServerText) -> Result<(), Memory>
+    ensures { OnOk result (out.new.items ≡ out.old.items ++ server_text text) }
+{
+    put(out, b"SERVER_ERROR ")?;
+    match text {
+        ServerText::TooLarge => put(out, b"object too large\r\n"),
+        ServerText::Expiry => put(out, b"expiry not kept\r\n"),
+        ServerText::Busy => put(out, b"busy\r\n"),
+        ServerText::Aborted => put(out, b"aborted\r\n"),
+        ServerText::Unknown => put(out, b"outcome unknown\r\n"),
+        ServerText::Spent => put(out, b"calls spent\r\n"),
+        ServerText::VersionLimit => put(out, b"version limit\r\n"),
+        ServerText::Memory => put(out, b"out of memory\r\n"),
+    }
+}
+
+fn put_items(out: &mut Vec<u8>, items: &[Item], tags: bool) -> Result<(), Memory>
+    ensures { OnOk result (out.new.items ≡ out.old.items ++ values_text tags items.now) }
+{
+    for item in items {
+        put_item(out, item, tags)?;
+    }
+    Ok(())
+}
+
+#[tactic(auto, unfolding(crate::specs::Texts::head_text))]
+fn put_head(
+    out: &mut Vec<u8>,
+    key: &[u8],
+    flags: u32,
+    bytes: &[u8],
+    tag: u64,
+    tags: bool,
+) -> Result<(), Memory>
+    ensures { OnOk result (out.new.items ≡ out.old.items ++ head_text tags (record { key = key.now; flags = flags; bytes = bytes.now; tag = tag })) }
+{
+    put(out, b"VALUE ")?;
+    put(out, key)?;
+    put(out, b" ")?;
+    put_number(out, u64::from(flags))?;
+    put(out, b" ")?;
+    put_number(out, bytes.len() as u64)?;
+    put_tag(out, tag, tags)?;
+    put(out, b"\r\n")
+}
+
+fn put_item(out: &mut Vec<u8>, item: &Item, tags: bool) -> Result<(), Memory>
+    ensures { OnOk result (out.new.items ≡ out.old.items ++ value_text tags item.now) }
+{
+    put_value(
+        out,
+        item.key.bytes(),
+        item.flags,
+        item.bytes.bytes(),
+        item.tag,
+        tags,
+    )
+}
+
+/// Appends the text of a value that is given in its parts, so that none has to be made an `Item` for it.
+pub fn put_value(
+    out: &mut Vec<u8>,
+    key: &[u8],
+    flags: u32,
+    bytes: &[u8],
+    tag: u64,
+    tags: bool,
+) -> Result<(), Memory>
+    ensures { OnOk result (out.new.items ≡ out.old.items ++ value_text tags (record { key = key.now; flags = flags; bytes = bytes.now; tag = tag })) }
+{
+    put_head(out, key, flags, bytes, tag, tags)?;
+    put(out, bytes)?;
+    put(out, b"\r\n")
+}
+
+/// Appends the text of an error of the server.
+pub fn put_server_error(out: &mut Vec<u8>, text: ServerText) -> Result<(), Memory>
+    ensures { OnOk result (out.new.items ≡ out.old.items ++ server_text text) }
+{
+    put_server_text(out, text)
+}
+
+/// Appends what ends the values of a get.
+pub fn put_end(out: &mut Vec<u8>) -> Result<(), Memory>
+    ensures { OnOk result (out.new.items ≡ out.old.items ++ codes "END\r\n") }
+{
+    put(out, b"END\r\n")
+}
+
+fn put_tag(out: &mut Vec<u8>, tag: u64, tags: bool) -> Result<(), Memory>
+    ensures { OnOk result (out.new.items ≡ out.old.items ++ tag_text tags tag) }
+{
+    if tags {
+        put(out, b" ")?;
+        put_number(out, tag)?;
+    }
+    Ok(())
+}

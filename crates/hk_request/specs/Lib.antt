@@ -1,0 +1,6 @@
+pub mod Words
+pub mod Commands
+pub mod Fields
+pub mod Reading
+pub mod Grammar
+pub mod Blocks

@@ -1,0 +1,32 @@
+//! The requests of the memcached text protocol, in the profile of this store.
+//!
+//! A line is read as its words, which spaces part. It is a request, or the head of a store whose block of data comes
+//! behind it; else it is refused for its first fault. A refused store tells how long its block is, so that a block is
+//! never taken for commands. The grammar is `IsHead` in `specs/Grammar.antt`; the tests, in their order, stand in
+//! `specs/Reading.antt`. `read_request` meets both.
+//!
+//! | Line | Words |
+//! |---|---|
+//! | `get` or `gets`, then one key or more | 2 or more |
+//! | `set KEY FLAGS EXPTIME BYTES [noreply]` | 5 or 6 |
+//! | `cas KEY FLAGS EXPTIME BYTES TAG [noreply]` | 6 or 7 |
+//! | `incr KEY NUMBER [noreply]`, `decr KEY NUMBER [noreply]` | 3 or 4 |
+//! | `quit`, `version` | 1 |
+//!
+//! FLAGS and BYTES are numbers of 32 bits, TAG and NUMBER of 64, all of 1 to 20 decimal digits. BYTES is at most
+//! 1,048,576. EXPTIME must be 0, since nothing expires here.
+#![tactic(auto)]
+
+mod block;
+mod command;
+mod fields;
+mod line;
+mod numbers;
+mod request;
+#[cfg(test)]
+mod tests;
+mod words;
+
+pub use block::finish;
+pub use line::read_request;
+pub use request::{BlockFault, Head, Keys, Request, RequestCause, RequestFault, StoreHead};

@@ -1,0 +1,239 @@
+//! The line of a request.
+
+ghost use Rattle.std.specs.Prelude.{◌≡◌, ◌<◌, ◌^◌, map, IfOk};
+ghost use Rattle.std.specs.Option.{option_map};
+ghost use Rattle.hk_request.specs.Fields.{Gives};
+ghost use Rattle.hk_request.specs.Words.{words_of};
+ghost use Rattle.hk_request.specs.Grammar.{IsHead, IsReadAs};
+ghost use Rattle.hk_request.specs.Reading.{ReadsHead, IsWithin, IsWithinHead, head_of, head_of_words, asked_of, keys_of, get_of, store_of, set_of, cas_of, change_of, step_of, alone_of, skip_of};
+
+use crate::command::{Command, find_command, has_block};
+use crate::fields::{
+    number_at, read_expiry, read_flags, read_key, read_noreply, read_size, read_tag,
+};
+use crate::numbers::number;
+use crate::request::{Head, Keys, Request, RequestCause, RequestFault, StoreHead};
+use crate::words::split;
+use hk_base::{Key, Op};
+use std::alloc::Global;
+
+/// Reads a line, which is given without the two bytes that end it. The answer is what the grammar makes of its words,
+/// or the first fault of them in the order of the tests, with the length of the block that comes behind a refused store.
+pub fn read_request(alloc: Global, line: &[u8]) -> Result<Head, RequestFault>
+    // What is read is in the grammar.
+    ensures found { IfOk result (λ head. IsHead (words_of line.now) head) }
+    // What is in the grammar is read, unless an allocation is refused.
+    ensures only { (head : Head) → IsHead (words_of line.now) head → IsReadAs result head }
+    // Which fault it is, and how much is to be skipped.
+    ensures exact { ReadsHead result (head_of line.now) }
+    ensures within { IsWithin result }
+{
+    read_line(alloc, line)
+}
+
+#[tactic(auto, unfolding(crate::specs::Reading::head_of))]
+fn read_line(alloc: Global, line: &[u8]) -> Result<Head, RequestFault>
+    ensures exact { ReadsHead result (head_of line.now) }
+    ensures within { IsWithin result }
+{
+    let Ok(words) = split(alloc, line) else {
+        return Err(RequestFault {
+            cause: RequestCause::Memory,
+            skip: 0,
+        });
+    };
+    match read_words(alloc, words.as_slice()) {
+        Ok(head) => Ok(head),
+        Err(cause) => Err(RequestFault {
+            cause,
+            skip: skip(words.as_slice()),
+        }),
+    }
+}
+
+// How long the block of a refused store is, with its end, where the fifth word tells it; else 0.
+#[tactic(auto, unfolding(crate::specs::Reading::skip_of))]
+fn skip(words: &[&[u8]]) -> u64
+    ensures exact { result ≡ skip_of (map (λ w. w.now) words.now) }
+    ensures below { result < 2 ^ 33 }
+{
+    let [command, _, _, _, bytes, ..] = words else {
+        return 0;
+    };
+    if !has_block(command) {
+        return 0;
+    }
+    match number(u64::from(u32::MAX), bytes) {
+        Some(n) => n + 2,
+        None => 0,
+    }
+}
+
+#[tactic(auto, unfolding(crate::specs::Reading::head_of_words))]
+fn read_words(alloc: Global, words: &[&[u8]]) -> Result<Head, RequestCause>
+    ensures exact { Gives result (head_of_words (map (λ w. w.now) words.now)) }
+    ensures within { IfOk result IsWithinHead }
+{
+    let Some((first, others)) = words.split_first() else {
+        return Err(RequestCause::Unknown);
+    };
+    match find_command(first) {
+        Some(command) => read_asked(alloc, command, others),
+        None => Err(RequestCause::Unknown),
+    }
+}
+
+#[tactic(auto, unfolding(crate::specs::Reading::asked_of))]
+fn read_asked(alloc: Global, command: Command, others: &[&[u8]]) -> Result<Head, RequestCause>
+    ensures exact { Gives result (asked_of command (map (λ w. w.now) others.now)) }
+    ensures within { IfOk result IsWithinHead }
+{
+    match command {
+        Command::Get => read_get(alloc, others, false),
+        Command::Gets => read_get(alloc, others, true),
+        Command::Set => read_set(alloc, others),
+        Command::Cas => read_cas(alloc, others),
+        Command::Incr => {
+            let change = read_change(alloc, others)?;
+            Ok(update(change.key, Op::Incr(change.by), change.noreply))
+        }
+        Command::Decr => {
+            let change = read_change(alloc, others)?;
+            Ok(update(change.key, Op::Decr(change.by), change.noreply))
+        }
+        Command::Quit => alone(others, Request::Quit),
+        Command::Version => alone(others, Request::Version),
+    }
+}
+
+fn alone(others: &[&[u8]], request: Request) -> Result<Head, RequestCause>
+    ensures exact { Gives result (alone_of (map (λ w. w.now) others.now) request) }
+    ensures within { IfOk result IsWithinHead }
+{
+    if others.is_empty() {
+        Ok(Head::Whole(request))
+    } else {
+        Err(RequestCause::WrongCount)
+    }
+}
+
+fn update(key: Key, op: Op, noreply: bool) -> Head
+    ensures { result ≡ Head.Whole (Request.Update key op noreply) }
+{
+    Head::Whole(Request::Update { key, op, noreply })
+}
+
+#[tactic(auto, unfolding(crate::specs::Reading::get_of))]
+fn read_get(alloc: Global, others: &[&[u8]], tags: bool) -> Result<Head, RequestCause>
+    ensures exact { Gives result (get_of tags (map (λ w. w.now) others.now)) }
+    ensures within { IfOk result IsWithinHead }
+{
+    if others.is_empty() {
+        return Err(RequestCause::WrongCount);
+    }
+    let keys = read_keys(alloc, others)?;
+    Ok(Head::Whole(Request::Get { keys, tags }))
+}
+
+fn read_keys(alloc: Global, others: &[&[u8]]) -> Result<Keys, RequestCause>
+    ensures { Gives result (keys_of (map (λ w. w.now) others.now)) }
+{
+    let mut keys = Keys::new(alloc);
+    for word in others {
+        let key = read_key(alloc, word)?;
+        if keys.push(key).is_err() {
+            return Err(RequestCause::Memory);
+        }
+    }
+    Ok(keys)
+}
+
+#[tactic(auto, unfolding(crate::specs::Reading::set_of))]
+fn read_set(alloc: Global, others: &[&[u8]]) -> Result<Head, RequestCause>
+    ensures exact { Gives result (set_of (map (λ w. w.now) others.now)) }
+    ensures within { IfOk result IsWithinHead }
+{
+    match others {
+        [key, flags, expiry, bytes] => { read_store(alloc, key, flags, expiry, bytes, None, false) }
+        [key, flags, expiry, bytes, last] => {
+            let noreply = read_noreply(last)?;
+            read_store(alloc, key, flags, expiry, bytes, None, noreply)
+        }
+        _ => Err(RequestCause::WrongCount),
+    }
+}
+
+#[tactic(auto, unfolding(crate::specs::Reading::cas_of))]
+fn read_cas(alloc: Global, others: &[&[u8]]) -> Result<Head, RequestCause>
+    ensures exact { Gives result (cas_of (map (λ w. w.now) others.now)) }
+    ensures within { IfOk result IsWithinHead }
+{
+    match others {
+        [key, flags, expiry, bytes, tag] => {
+            read_store(alloc, key, flags, expiry, bytes, Some(tag), false)
+        }
+        [key, flags, expiry, bytes, tag, last] => {
+            let noreply = read_noreply(last)?;
+            read_store(alloc, key, flags, expiry, bytes, Some(tag), noreply)
+        }
+        _ => Err(RequestCause::WrongCount),
+    }
+}
+
+#[tactic(auto, unfolding(crate::specs::Reading::store_of))]
+fn read_store(
+    alloc: Global,
+    key: &[u8],
+    flags: &[u8],
+    expiry: &[u8],
+    bytes: &[u8],
+    tag: Option<&[u8]>,
+    noreply: bool,
+) -> Result<Head, RequestCause>
+    ensures exact { Gives result (store_of key.now flags.now expiry.now bytes.now (option_map (λ w. w.now) tag.entry) noreply) }
+    ensures within { IfOk result IsWithinHead }
+{
+    let key = read_key(alloc, key)?;
+    let flags = read_flags(flags)?;
+    read_expiry(expiry)?;
+    let bytes = read_size(bytes)?;
+    let tag = read_tag(tag)?;
+    Ok(Head::Store(StoreHead {
+        key,
+        flags,
+        tag,
+        bytes,
+        noreply,
+    }))
+}
+
+// What an incr and a decr tell.
+#[derive(Drop)]
+struct Change {
+    key: Key,
+    by: u64,
+    noreply: bool,
+}
+
+#[tactic(auto, unfolding(crate::specs::Reading::change_of))]
+fn read_change(alloc: Global, others: &[&[u8]]) -> Result<Change, RequestCause>
+    ensures { Gives result (change_of (map (λ w. w.now) others.now)) }
+{
+    match others {
+        [key, by] => read_step(alloc, key, by, false),
+        [key, by, last] => {
+            let noreply = read_noreply(last)?;
+            read_step(alloc, key, by, noreply)
+        }
+        _ => Err(RequestCause::WrongCount),
+    }
+}
+
+#[tactic(auto, unfolding(crate::specs::Reading::step_of))]
+fn read_step(alloc: Global, key: &[u8], by: &[u8], noreply: bool) -> Result<Change, RequestCause>
+    ensures { Gives result (step_of key.now by.now noreply) }
+{
+    let key = read_key(alloc, key)?;
+    let by = number_at(3, u64::MAX, by)?;
+    Ok(Change { key, by, noreply })
+}

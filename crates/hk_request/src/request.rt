@@ -1,0 +1,72 @@
+//! Requests, heads of stores, and why a line is neither.
+
+use hk_base::{Key, Op, Sequence};
+
+/// The keys of a get, in the order of its line.
+pub type Keys = Sequence<Key>;
+
+/// A request that is whole.
+#[derive(Drop)]
+pub enum Request {
+    /// `get`, or `gets`, which asks for tags too.
+    Get { keys: Keys, tags: bool },
+    /// An update. With `noreply` nothing is written of what it is answered.
+    Update { key: Key, op: Op, noreply: bool },
+    Quit,
+    Version,
+}
+
+/// The line of a store, whose block is to come: a `cas` where it has a tag, else a `set`.
+#[derive(Drop)]
+pub struct StoreHead {
+    pub key: Key,
+    pub flags: u32,
+    pub tag: Option<u64>,
+    /// How long the data is, at most 1,048,576 bytes. The block has two more, which end it.
+    pub bytes: u32,
+    pub noreply: bool,
+}
+
+/// What a line is.
+#[derive(Drop)]
+pub enum Head {
+    Whole(Request),
+    Store(StoreHead),
+}
+
+/// Why a line is refused. The causes are tested in this order, but that the words from the second on are each tested
+/// before the next one.
+#[derive(Clone, Copy, Debug, PartialEq, Eq)]
+pub enum RequestCause {
+    /// An allocation was refused.
+    Memory,
+    /// There is no word, or the first is no command.
+    Unknown,
+    /// There are too few words or too many, or the word behind the last that must be there is not `noreply`.
+    WrongCount,
+    /// A key has no byte, more than 250, or one that no key has.
+    BadKey,
+    /// The word at this place, the command being 1, is no number, or one that is too great for its type.
+    BadNumber { word: u8 },
+    /// The time of expiry is not 0.
+    Expiry,
+    /// The data would be longer than 1,048,576 bytes, namely `bytes`.
+    TooLarge { bytes: u32 },
+}
+
+/// A refused line.
+#[derive(Clone, Copy, Debug, PartialEq, Eq)]
+pub struct RequestFault {
+    pub cause: RequestCause,
+    /// How many bytes come behind the line that belong to it, and are to be dropped.
+    pub skip: u64,
+}
+
+/// Why a block is refused.
+#[derive(Clone, Copy, Debug, PartialEq, Eq)]
+pub enum BlockFault {
+    /// An allocation was refused.
+    Memory,
+    /// It does not end in a carriage return and a line feed.
+    BadEnd,
+}
