@@ -8,8 +8,6 @@
 mod cutter;
 mod ends;
 mod step;
-#[cfg(test)]
-mod tests;
 
 ghost use Rattle.hk_lines.specs.Pieces.{PiecesJoin, SkipCommutes, ExpectCommutes, StepStays};
 

@@ -11,8 +11,6 @@ mod print;
 mod read;
 mod reply;
 mod scan;
-#[cfg(test)]
-mod tests;
 
 ghost use Rattle.hk_reply.specs.Laws.{NoneBegins, TextsTell};
 

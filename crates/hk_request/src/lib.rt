@@ -23,8 +23,6 @@ mod fields;
 mod line;
 mod numbers;
 mod request;
-#[cfg(test)]
-mod tests;
 mod words;
 
 pub use block::finish;

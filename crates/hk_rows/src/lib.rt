@@ -8,8 +8,14 @@ mod keys;
 #[cfg(test)]
 mod leases;
 #[cfg(test)]
+mod lines;
+#[cfg(test)]
 mod orders;
 #[cfg(test)]
 mod paxos;
+#[cfg(test)]
+mod replies;
+#[cfg(test)]
+mod requests;
 #[cfg(test)]
 mod turns;

@@ -1,8 +1,9 @@
-use super::*;
+//! Request lines, and what they are refused for.
+
 use hk_base::Op;
+use hk_request::{BlockFault, Head, Request, RequestCause, finish, read_request};
 use std::alloc::{AllocError, Global};
 use std::process::Abort;
-use std::test::*;
 
 // Tells whether the line is refused for this cause, with this much to skip.
 fn refuses(alloc: Global, line: &[u8], cause: RequestCause, skip: u64) -> bool {
@@ -13,7 +14,7 @@ fn refuses(alloc: Global, line: &[u8], cause: RequestCause, skip: u64) -> bool {
 }
 
 #[test]
-fn refusals(rt: HostRuntime) {
+fn the_first_fault_is_told_with_its_skip(rt: HostRuntime) {
     let alloc = rt.alloc();
     let rows: [(&[u8], RequestCause, u64); 24] = [
         (
@@ -63,7 +64,7 @@ fn refusals(rt: HostRuntime) {
 }
 
 #[test]
-fn stores(rt: HostRuntime) {
+fn stores_take_their_block(rt: HostRuntime) {
     let alloc = rt.alloc();
     match read_request(alloc, b"  set  k 0 00 1048576 ") {
         Ok(Head::Store(head)) => {
@@ -103,7 +104,7 @@ fn get_of(alloc: Global, len: usize) -> Result<Vec<u8>, AllocError> {
 }
 
 #[test]
-fn keys(rt: HostRuntime) {
+fn keys_of_a_get(rt: HostRuntime) {
     let alloc = rt.alloc();
     let line = get_of(alloc, 250).expect(&rt, "memory");
     match read_request(alloc, line.as_slice()) {

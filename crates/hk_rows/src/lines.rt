@@ -1,8 +1,9 @@
-use super::*;
-use std::test::*;
+//! Lines and blocks, cut from pieces.
+
+use hk_lines::{Cutter, Step};
 
 #[test]
-fn lines(rt: HostRuntime) {
+fn a_line_ends_at_both_bytes(rt: HostRuntime) {
     let alloc = rt.alloc();
     let mut cutter = Cutter::new(alloc, 4).expect(&rt, "memory");
     cutter.feed(b"abcd\r").expect(&rt, "memory");
@@ -14,7 +15,7 @@ fn lines(rt: HostRuntime) {
 }
 
 #[test]
-fn long_lines(rt: HostRuntime) {
+fn a_line_past_the_limit_is_too_long_for_good(rt: HostRuntime) {
     let alloc = rt.alloc();
     let mut cutter = Cutter::new(alloc, 4).expect(&rt, "memory");
     cutter.feed(b"abcde").expect(&rt, "memory");
@@ -26,7 +27,7 @@ fn long_lines(rt: HostRuntime) {
 }
 
 #[test]
-fn blocks(rt: HostRuntime) {
+fn blocks_and_skipped_bytes(rt: HostRuntime) {
     let alloc = rt.alloc();
     let mut cutter = Cutter::new(alloc, 4).expect(&rt, "memory");
     cutter.feed(b"\rx\n\r\nab\r").expect(&rt, "memory");

@@ -1,8 +1,9 @@
-use super::*;
+//! Replies, printed and read.
+
 use hk_base::{Data, Key};
+use hk_reply::{Item, Reply, ReplyFault, ValueItems, print_reply, read_reply};
 use std::alloc::Global;
 use std::process::Abort;
-use std::test::*;
 
 // Tells whether the bytes are read as less than a reply.
 fn needs(alloc: Global, bytes: &[u8]) -> bool {
@@ -18,7 +19,7 @@ fn bad_at(alloc: Global, bytes: &[u8], place: usize) -> bool {
 }
 
 #[test]
-fn faults(rt: HostRuntime) {
+fn what_is_no_reply_needs_more_or_is_bad(rt: HostRuntime) {
     let alloc = rt.alloc();
     assert!(rt; needs(alloc, b""));
     assert!(rt; needs(alloc, b"STO"));
@@ -33,7 +34,7 @@ fn faults(rt: HostRuntime) {
 }
 
 #[test]
-fn numbers(rt: HostRuntime) {
+fn a_reply_is_read_whatever_follows(rt: HostRuntime) {
     let alloc = rt.alloc();
     match read_reply(alloc, b"5\r\nSTORED") {
         Ok((reply, len)) => {
@@ -45,7 +46,7 @@ fn numbers(rt: HostRuntime) {
 }
 
 #[test]
-fn values(rt: HostRuntime) {
+fn values_are_printed_and_read_again(rt: HostRuntime) {
     let alloc = rt.alloc();
     let key = Key::read(alloc, b"k").expect(&rt, "memory");
     let bytes = Data::read(alloc, b"hello").expect(&rt, "memory");
