@@ -46,7 +46,7 @@ const OPENINGS: [Opening; 20] = [
     Opening::Server(ServerText::Memory),
 ];
 
-fn client_text(text: ClientText) -> &'static [u8]
+pub fn client_text(text: ClientText) -> &'static [u8]
     ensures { result.now ≡ client_text text }
 {
     match text {
@@ -58,7 +58,7 @@ fn client_text(text: ClientText) -> &'static [u8]
     }
 }
 
-fn server_text(text: ServerText) -> &'static [u8]
+pub fn server_text(text: ServerText) -> &'static [u8]
     ensures { result.now ≡ server_text text }
 {
     match text {

@@ -1,9 +1,10 @@
 //! The text of replies.
 
 ghost use Rattle.std.specs.Prelude.{◌≡◌, ◌++◌, OnOk, decimal, codes};
-ghost use Rattle.hk_reply.specs.Texts.{text_of, value_text, values_text, client_text, server_text, tag_text, head_text};
+ghost use Rattle.hk_reply.specs.Texts.{text_of, value_text, values_text, server_text, tag_text, head_text};
 
-use crate::reply::{ClientText, Item, Reply, ServerText};
+use crate::opening::{client_text, server_text};
+use crate::reply::{Item, Reply, ServerText};
 use hk_base::Memory;
 use itoa::Buffer;
 
@@ -39,38 +40,9 @@ pub fn print_reply(reply: &Reply, out: &mut Vec<u8>) -> Result<(), Memory>
             put(out, b"\r\n")
         }
         Reply::Error => put(out, b"ERROR\r\n"),
-        Reply::ClientError(text) => put_client(out, *text),
-        Reply::ServerError(text) => put_server_text(out, *text),
+        Reply::ClientError(text) => put(out, client_text(*text)),
+        Reply::ServerError(text) => put(out, server_text(*text)),
         Reply::Version => put(out, b"VERSION hermes-1\r\n"),
-    }
-}
-
-fn put_client(out: &mut Vec<u8>, text: ClientText) -> Result<(), Memory>
-    ensures { OnOk result (out.new.items ≡ out.old.items ++ client_text text) }
-{
-    put(out, b"CLIENT_ERROR ")?;
-    match text {
-        ClientText::BadKey => put(out, b"bad key\r\n"),
-        ClientText::BadNumber => put(out, b"bad number\r\n"),
-        ClientText::BadChunk => put(out, b"bad data chunk\r\n"),
-        ClientText::NotNumber => put(out, b"not a number\r\n"),
-        ClientText::TooLong => put(out, b"line too long\r\n"),
-    }
-}
-
-fn put_server_text(out: &mut Vec<u8>, text: ServerText) -> Result<(), Memory>
-    ensures { OnOk result (out.new.items ≡ out.old.items ++ server_text text) }
-{
-    put(out, b"SERVER_ERROR ")?;
-    match text {
-        ServerText::TooLarge => put(out, b"object too large\r\n"),
-        ServerText::Expiry => put(out, b"expiry not kept\r\n"),
-        ServerText::Busy => put(out, b"busy\r\n"),
-        ServerText::Aborted => put(out, b"aborted\r\n"),
-        ServerText::Unknown => put(out, b"outcome unknown\r\n"),
-        ServerText::Spent => put(out, b"calls spent\r\n"),
-        ServerText::VersionLimit => put(out, b"version limit\r\n"),
-        ServerText::Memory => put(out, b"out of memory\r\n"),
     }
 }
 
@@ -137,7 +109,7 @@ pub fn put_value(
 pub fn put_server_error(out: &mut Vec<u8>, text: ServerText) -> Result<(), Memory>
     ensures { OnOk result (out.new.items ≡ out.old.items ++ server_text text) }
 {
-    put_server_text(out, text)
+    put(out, server_text(text))
 }
 
 /// Appends what ends the values of a get.
