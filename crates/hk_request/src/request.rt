@@ -34,24 +34,24 @@ pub enum Head {
     Store(StoreHead),
 }
 
-/// Why a line is refused. The causes are tested in this order, but that the words from the second on are each tested
-/// before the next one.
+/// Why a line is refused. It is the first fault: an unknown command, then a wrong count of words, and then the words
+/// from the second on, one after the other.
 #[derive(Clone, Copy, Debug, PartialEq, Eq)]
 pub enum RequestCause {
     /// An allocation was refused.
     Memory,
     /// There is no word, or the first is no command.
     Unknown,
-    /// There are too few words or too many, or the word behind the last that must be there is not `noreply`.
-    WrongCount,
     /// A key has no byte, more than 250, or one that no key has.
     BadKey,
     /// The word at this place, the command being 1, is no number, or one that is too great for its type.
     BadNumber { word: u8 },
-    /// The time of expiry is not 0.
-    Expiry,
+    /// There are too few words or too many, or the word behind the last that must be there is not `noreply`.
+    WrongCount,
     /// The data would be longer than 1,048,576 bytes, namely `bytes`.
     TooLarge { bytes: u32 },
+    /// The time of expiry is not 0.
+    Expiry,
 }
 
 /// A refused line.
