@@ -87,9 +87,12 @@ fn readers_and_writers_are_sources_and_sinks(rt: HostRuntime) -> Result<(), Fail
 #[test]
 fn a_connection_over_tcp_carries_bytes_both_ways(rt: HostRuntime) -> Result<(), Fail> {
     let mut doors = TcpDoors::new(rt.clone()?);
-    let mut port = 41211;
-    while doors.open(port).is_err() && port < 41299 {
-        port += 1;
+    let mut port = 0;
+    for candidate in 41_211..41_299 {
+        if doors.open(candidate).is_ok() {
+            port = candidate;
+            break;
+        }
     }
     let mut client = TcpStream::connect(
         &rt,
