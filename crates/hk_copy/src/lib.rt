@@ -1,0 +1,14 @@
+//! Batches of rows, by which a joiner copies the store of a member.
+//!
+//! A joiner asks for the rows behind a key, some at a time. It is given the next rows in the order of their keys, as many
+//! as were asked for, as fit in 2 MiB, or as there are, and whether there are none behind them. So it goes through all
+//! rows by asking again behind the last key that it was given.
+#![tactic(auto)]
+
+mod copying;
+mod given;
+mod rows;
+
+pub use copying::batch;
+pub use given::{Batch, MAX_BATCH_BYTES};
+pub use rows::Rows;

@@ -1,0 +1,30 @@
+//! What the table keeps.
+
+ghost use Rattle.hk_key.specs.Worked.{NotSettled, Settles, WaitsInTrans, GivesUp, Counters, AloneCompletes};
+ghost use Rattle.hk_key.specs.Laws.{FirstIsSound, BeginIsSound, ReplayKeepsSound, InvKeepsSound, AckKeepsSound, ValKeepsSound, ViewKeepsSound, CopyKeepsSound};
+
+/// Rows stay sound: the first row is sound, `begin` makes a sound row, and every other step keeps one sound. A row is
+/// sound where its version is within the limit, where it has a pending update in just the states Write, Replay and Trans,
+/// with its own stamp in the first two and a lower one in Trans, and where the notes are of distinct other members.
+pub fn rows_stay_sound()
+    ensures first { FirstIsSound }
+    ensures begin { BeginIsSound }
+    ensures replay { ReplayKeepsSound }
+    ensures inv { InvKeepsSound }
+    ensures ack { AckKeepsSound }
+    ensures val { ValKeepsSound }
+    ensures view { ViewKeepsSound }
+    ensures copy { CopyKeepsSound }
+{}
+
+/// What the table gives for steps worked by hand: a key becomes Valid only where every acknowledgement was exact; a write
+/// that an INV overtakes waits in Trans, a read-modify-write is answered Aborted, and one below the row is countered; and
+/// an update completes at once in a view where its node is alone.
+pub fn worked_rows()
+    ensures higher { NotSettled }
+    ensures exact { Settles }
+    ensures trans { WaitsInTrans }
+    ensures aborted { GivesUp }
+    ensures countered { Counters }
+    ensures alone { AloneCompletes }
+{}

@@ -1,0 +1,23 @@
+//! One key at one node: its row, and what each event makes of it.
+//!
+//! The replication protocol follows Hermes (Katsarakis and others, "Hermes: a fast, fault-tolerant and linearizable
+//! replication protocol", ASPLOS 2020). An update goes by three letters. Its coordinator announces it with INV, by which
+//! the others make their rows Invalid and take the content; they answer ACK; once each of them has, the coordinator
+//! answers its client and tells VAL, by which the rows become Valid again. Any node that holds an Invalid row may replay
+//! its update in the same way, so that a coordinator that crashed holds up no key.
+//!
+//! What each step does is a table, `specs/Table.antt`: a clause for each line. Each method of [`Row`] is held to its
+//! line, in full: the row afterwards, what is sent and to whom, and what is answered.
+#![tactic(auto)]
+
+mod acks;
+mod laws;
+mod out;
+mod row;
+#[cfg(test)]
+mod tests;
+
+pub use acks::{Ack, Acks, MAX_ACKS};
+pub use laws::{rows_stay_sound, worked_rows};
+pub use out::{Aim, Out, Sending, What};
+pub use row::{Pending, Row};
