@@ -15,7 +15,7 @@ cons_head x y xs ys e = grind arith
 cons_tail : (x y : CopyItem) (xs ys : List CopyItem) → x ∷ xs ≡ y ∷ ys → xs ≡ ys
 cons_tail x y xs ys e = grind arith
 
-less_is : (o : Ordering) → is_lt o ≡ true → o ≡ Less
+pub less_is : (o : Ordering) → is_lt o ≡ true → o ≡ Less
 less_is Less e = refl
 less_is Equal e = absurd (false≢true e)
 less_is Greater e = absurd (false≢true e)

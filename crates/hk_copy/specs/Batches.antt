@@ -28,6 +28,12 @@ rows_after key rows = filter (is_after key) rows
 abbrev pub row_at : List ℕ → List CopyItem → Option CopyItem
 row_at key rows = find (λ item. is_eq (key_cmp key item.key)) rows
 
+-- the key of the last row
+abbrev pub last_key : List CopyItem → Option (List ℕ)
+last_key [] = None
+last_key (item ∷ []) = Some item.key
+last_key (item ∷ next ∷ rest) = last_key (next ∷ rest)
+
 abbrev pub next_key : List CopyItem → Option (List ℕ)
 next_key [] = None
 next_key (item ∷ rest) = Some item.key

@@ -1,1 +1,3 @@
 pub mod Batches
+pub mod Pushes
+pub mod Laws
