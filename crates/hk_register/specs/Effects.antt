@@ -1,7 +1,7 @@
 -- What one event may do to the key: the protocol, as effects on one key.
 --
 -- The protocol is that of "Hermes: a fast, fault-tolerant and linearizable replication protocol" (Katsarakis and others,
--- ASPLOS 2020). Beside each effect stands its step there, by the paper's name (CTS, FINV ..) and its TLA+ action (HWrite,
+-- ASPLOS 2020). Beside each effect stands its step there, by its name in Hermes (CTS, FINV ..) and its TLA+ action (HWrite,
 -- HRcvInv ..), and where this protocol differs.
 --
 -- An event of the group (a call, a letter taken, a replay, a view installed) is for each key one effect, or two, one
@@ -67,7 +67,7 @@ abbrev pub cover_mark : ℕ → Node → ℕ → Mark
 cover_mark n x s = record { who = n; epoch = x.epoch; stamp = s; exact = false; ready = x.ready }
 
 -- A write steps the version by two, a read-modify-write by one: so of two updates of one base a write is above a
--- read-modify-write (the paper's section on read-modify-writes).
+-- read-modify-write (Hermes, "Read-Modify-Writes").
 abbrev pub step_of : Kind → ℕ
 step_of Plain = 2
 step_of Rmw = 1
@@ -228,13 +228,13 @@ done st (CounterInv n m s kind content) = sends n (st.node n) (Inv n (st.node n)
 -- HRcvAck: the sender is noted.
 done st (NoteAck n m top p notes) = alters n (record (st.node n) { phase = with_notes (st.node n).phase notes })
 -- CACK and CVAL, with the settled rule: all others acknowledged, each exactly, and the row has the update's stamp. The key
--- is Valid, VAL goes to the others, and the call is answered. The rule is ours: the paper asks only that all acknowledged,
+-- is Valid, VAL goes to the others, and the call is answered. The rule is ours: Hermes asks only that all acknowledged,
 -- and so may validate a row above which another member has gone already.
 done st (Settle n p) = completes n (record (st.node n) { phase = Valid }) (Val n (st.node n).epoch p.stamp ∷ []) p
 -- CACK, where a VAL of the row's own stamp came meanwhile: the call is answered and the key is Valid. Ours.
 done st (FinishValid n p) = completes n (record (st.node n) { phase = Valid }) [] p
 -- CACK, where no more is known: the call is answered, for the update is complete, and the key is Invalid, since another
--- update may be on its way. In the paper this is the way out of Trans; here also where an ACK was not exact.
+-- update may be on its way. In Hermes this is the way out of Trans; here also where an ACK was not exact.
 done st (FinishInvalid n p) = completes n (record (st.node n) { phase = Invalid }) [] p
 -- FVAL, HRcvVal: a VAL of the row's stamp makes an Invalid key Valid;
 done st (TakeVal n m) = alters n (record (st.node n) { phase = Valid })
@@ -245,9 +245,9 @@ done st (KeepVal n m) = alters n (record (st.node n) { kept_val = true })
 done st (StartReplay n) =
     sends n (record (st.node n) { phase = Replay (fresh_pending (st.node n).stamp (st.node n).kind (st.node n).content None) })
     (Inv n (st.node n).epoch (st.node n).stamp (st.node n).kind (st.node n).content ∷ [])
--- INV of a pending update is sent again, as the paper does after a loss. Here it is an event too.
+-- INV of a pending update is sent again, as Hermes does after a loss. Here it is an event too.
 done st (Resend n p) = sends n (st.node n) (Inv n (st.node n).epoch p.stamp p.kind p.content ∷ [])
--- The node learns of a new view (the paper's reconfiguration of the membership): with nothing pending only its epoch
+-- The node learns of a new view (reconfiguration of the membership in Hermes): with nothing pending only its epoch
 -- changes;
 done st (Install n e) = marks_row n (record (st.node n) { epoch = e }) []
 -- a pending update drops its notes and is sent again in the new epoch. CRMW-replay asks that of read-modify-writes; here
@@ -260,7 +260,7 @@ done st (InstallPending n e p) = record {
   updates = [];
   items = [];
 }
--- A ready member copies its row to a joiner, and tells if it was Valid (the paper's recovery: a new replica reads the
+-- A ready member copies its row to a joiner, and tells if it was Valid (recovery in Hermes: a new replica reads the
 -- key-value pairs from one that is operational, while it follows writes as a shadow).
 done st (GiveRow n valid) = sends n (st.node n) (Give n (st.node n).epoch (st.node n).stamp (st.node n).kind (st.node n).content valid ∷ [])
 -- A joiner takes a row above its own,
@@ -274,7 +274,7 @@ done st (CopyValid n m s kind content) = alters n (record (st.node n) { copied =
 done st (GetReady n) = marks_row n (record (st.node n) { ready = true }) []
 -- HRead, and any call that changes nothing: it is answered from a Valid row, at once and with no letter.
 done st (Look n call op answer) = tells n (st.node n) (Looked call (st.node n).stamp op (st.node n).content answer)
--- A call is refused with nothing begun: the key is not Valid, the lease may be over, or the versions end. In the paper
+-- A call is refused with nothing begun: the key is not Valid, the lease may be over, or the versions end. In Hermes
 -- the call is stalled.
 done st (Refuse n call op answer) = tells n (st.node n) (Missed call op answer)
 -- Nothing: a clock, a lease, a crash, a letter that is dropped, an event of another key.

@@ -1,5 +1,5 @@
 -- One key of a replicated group: what each node has of it, and all that was ever sent about it. The protocol is Hermes
--- (Katsarakis and others, ASPLOS 2020), here "the paper"; `Effects` tells it, and where ours differs.
+-- (Katsarakis and others, ASPLOS 2020); `Effects` tells it, and where ours differs.
 --
 -- A stamp stands here as one number, its tag, so that stamps are ordered as numbers are. 0 is the stamp of no update.
 use Rattle.std.specs.Prelude.{◌≡◌, ◌⊎◌, ℕ, Bool, List, [], ◌∷◌, Option, true, ⊤}
@@ -20,7 +20,7 @@ Each P [] = ⊤
 Each P (x ∷ xs) = P x × Each P xs
 
 -- That a member acknowledged the pending update, in the node's own epoch. The note is exact where the ACK had top equal
--- to the update's stamp: then the member's row had that stamp, and nothing above it. In the paper only the sender is
+-- to the update's stamp: then the member's row had that stamp, and nothing above it. In Hermes only the sender is
 -- noted.
 pub record Note : Type 0 where
   pub who : ℕ
@@ -35,7 +35,7 @@ pub record Pending : Type 0 where
   pub reply : Option Reply
   pub notes : List Note
 
--- The state of the key at a node, by the paper's names. Write, Replay and Trans have the update that waits.
+-- The state of the key at a node, by their names in Hermes. Write, Replay and Trans have the update that waits.
 pub data Phase : Type 0 where
   Valid : Phase
   Invalid : Phase
@@ -47,7 +47,7 @@ pub data Phase : Type 0 where
 -- its view, 0 where it has none.
 -- `ready`: it holds all that it must, as founders do and joiners that have copied every key;
 -- `copied`: it holds all that it must of this key;
--- `kept_val`: a VAL of the row's stamp came while the key was in Trans. The bit is ours: in the paper a key leaves Trans
+-- `kept_val`: a VAL of the row's stamp came while the key was in Trans. The bit is ours: in Hermes a key leaves Trans
 -- as Invalid, always, to be replayed.
 pub record Node : Type 0 where
   pub epoch : ℕ
@@ -59,7 +59,7 @@ pub record Node : Type 0 where
   pub content : Option Content
   pub kept_val : Bool
 
--- INV, ACK and VAL of the paper, and a row as a ready member copies it to a joiner. Each tells its sender and its
+-- INV, ACK and VAL of Hermes, and a row as a ready member copies it to a joiner. Each tells its sender and its
 -- sender's epoch. None has an addressee: any node of the epoch may take any letter, at any time, or never, or often.
 -- An ACK has, beside the stamp that it acknowledges, the sender's own stamp, `top`: that is ours.
 pub data Letter : Type 0 where
