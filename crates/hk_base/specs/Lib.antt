@@ -4,3 +4,4 @@ pub mod KeyFaults
 pub mod Stamp
 pub mod Register
 pub mod View
+pub mod Range

@@ -4,6 +4,7 @@ ghost use Rattle.std.specs.Prelude.{◌≡◌, IfOk};
 
 use crate::data::Data;
 use crate::memory::Memory;
+use crate::sequence::Sequence;
 use crate::stamp::Stamp;
 
 /// The number of a call.
@@ -27,6 +28,19 @@ impl Content {
             flags: self.flags,
             bytes,
         })
+    }
+}
+
+/// What a key holds, if it holds anything: the same, which shares the bytes.
+pub fn share_content(content: &Option<Content>) -> Result<Option<Content>, Memory>
+    ensures { IfOk result (λ same. same ≡ content.now) }
+{
+    match content {
+        Some(content) => {
+            let same = content.share()?;
+            Ok(Some(same))
+        }
+        None => Ok(None),
     }
 }
 
@@ -143,3 +157,6 @@ pub struct Reply {
     pub call: CallNo,
     pub answer: Answer,
 }
+
+/// Replies, the first one first.
+pub type Replies = Sequence<Reply>;

@@ -1,10 +1,14 @@
 //! The letters that nodes and managers send each other.
 
-use crate::call::Content;
+ghost use Rattle.std.specs.Prelude.{◌≡◌, ◌++◌, ◌∷◌, [], IfOk, OnOk, take};
+
+use crate::call::{Content, share_content};
 use crate::key::Key;
+use crate::memory::Memory;
 use crate::sequence::Sequence;
 use crate::stamp::{Kind, NodeId, Stamp};
 use crate::view::{Ballot, View, Voted};
+use std::alloc::Global;
 
 /// Whoever sends and takes letters.
 #[derive(Clone, Copy, Debug, PartialEq, Eq, PartialOrd, Ord)]
@@ -25,8 +29,64 @@ pub struct CopyItem {
     pub content: Option<Content>,
 }
 
+impl CopyItem {
+    /// The same item, which shares the key and the content.
+    pub fn share(&self) -> Result<CopyItem, Memory>
+        ensures { IfOk result (λ item. item ≡ self.now) }
+    {
+        let key = self.key.share()?;
+        let content = share_content(&self.content)?;
+        Ok(CopyItem {
+            key,
+            stamp: self.stamp,
+            kind: self.kind,
+            valid: self.valid,
+            content,
+        })
+    }
+}
+
 /// The rows of one copy, in key order.
 pub type CopyItems = Sequence<CopyItem>;
+
+fn share_after(after: &Option<Key>) -> Result<Option<Key>, Memory>
+    ensures { IfOk result (λ same. same ≡ after.now) }
+{
+    match after {
+        Some(key) => {
+            let same = key.share()?;
+            Ok(Some(same))
+        }
+        None => Ok(None),
+    }
+}
+
+fn share_items(alloc: Global, items: &CopyItems) -> Result<CopyItems, Memory>
+    ensures { IfOk result (λ same. same ≡ items.now) }
+{
+    let mut same = CopyItems::new(alloc);
+    for item in items.as_slice() {
+        let item = item.share()?;
+        same.push(item)?;
+    }
+    Ok(same)
+}
+
+fn share_vote(alloc: Global, vote: &Option<Voted>) -> Result<Option<Voted>, Memory>
+    ensures { IfOk result (λ same. same ≡ vote.now) }
+{
+    match vote {
+        Some(vote) => {
+            let view = vote.view.copy(alloc)?;
+            let same = Voted {
+                ballot: vote.ballot,
+                view,
+            };
+            Ok(Some(same))
+        }
+        None => Ok(None),
+    }
+}
 
 /// What a letter says.
 #[derive(Drop)]
@@ -86,6 +146,82 @@ pub enum Body {
     Activate(View),
 }
 
+impl Body {
+    /// The same body, which shares keys and contents.
+    pub fn share(&self, alloc: Global) -> Result<Body, Memory>
+        ensures { IfOk result (λ body. body ≡ self.now) }
+    {
+        match self {
+            Body::Inv {
+                key,
+                stamp,
+                kind,
+                content,
+            } => {
+                let key = key.share()?;
+                let content = share_content(content)?;
+                Ok(Body::Inv {
+                    key,
+                    stamp: *stamp,
+                    kind: *kind,
+                    content,
+                })
+            }
+            Body::Ack { key, stamp, top } => {
+                let key = key.share()?;
+                Ok(Body::Ack {
+                    key,
+                    stamp: *stamp,
+                    top: *top,
+                })
+            }
+            Body::Val { key, stamp } => {
+                let key = key.share()?;
+                Ok(Body::Val { key, stamp: *stamp })
+            }
+            Body::CopyAsk { after, room } => {
+                let after = share_after(after)?;
+                Ok(Body::CopyAsk { after, room: *room })
+            }
+            Body::CopyGive { after, done, items } => {
+                let after = share_after(after)?;
+                let items = share_items(alloc, items)?;
+                Ok(Body::CopyGive {
+                    after,
+                    done: *done,
+                    items,
+                })
+            }
+            Body::LeaseAsk => Ok(Body::LeaseAsk),
+            Body::LeaseGive { end } => Ok(Body::LeaseGive { end: *end }),
+            Body::Prepare(ballot) => Ok(Body::Prepare(*ballot)),
+            Body::Promise { ballot, accepted } => {
+                let accepted = share_vote(alloc, accepted)?;
+                Ok(Body::Promise {
+                    ballot: *ballot,
+                    accepted,
+                })
+            }
+            Body::Accept { ballot, view } => {
+                let view = view.copy(alloc)?;
+                Ok(Body::Accept {
+                    ballot: *ballot,
+                    view,
+                })
+            }
+            Body::Accepted(ballot) => Ok(Body::Accepted(*ballot)),
+            Body::Chosen(view) => {
+                let view = view.copy(alloc)?;
+                Ok(Body::Chosen(view))
+            }
+            Body::Activate(view) => {
+                let view = view.copy(alloc)?;
+                Ok(Body::Activate(view))
+            }
+        }
+    }
+}
+
 /// A letter. Its epoch is the one that its sender is in; of Paxos the instance, of Chosen and Activate the view's.
 #[derive(Drop)]
 pub struct Letter {
@@ -94,3 +230,21 @@ pub struct Letter {
     pub to: Actor,
     pub body: Body,
 }
+
+impl Letter {
+    /// The same letter, which shares keys and contents.
+    pub fn share(&self, alloc: Global) -> Result<Letter, Memory>
+        ensures { IfOk result (λ letter. letter ≡ self.now) }
+    {
+        let body = self.body.share(alloc)?;
+        Ok(Letter {
+            epoch: self.epoch,
+            from: self.from,
+            to: self.to,
+            body,
+        })
+    }
+}
+
+/// Letters, the first one first.
+pub type Letters = Sequence<Letter>;

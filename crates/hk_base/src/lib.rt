@@ -16,13 +16,15 @@ mod sequence;
 mod stamp;
 #[cfg(test)]
 mod tests;
+mod time;
 mod view;
 
-pub use call::{Answer, CallNo, Content, Op, Reply, State, Why};
+pub use call::{Answer, CallNo, Content, Op, Replies, Reply, State, Why, share_content};
 pub use data::{Data, DataFault, MAX_DATA_LEN};
 pub use key::{Key, KeyFault, MAX_KEY_LEN};
-pub use letter::{Actor, Body, CopyItem, CopyItems, Letter};
+pub use letter::{Actor, Body, CopyItem, CopyItems, Letter, Letters};
 pub use memory::Memory;
 pub use sequence::Sequence;
 pub use stamp::{Kind, MAX_VERSION, NodeId, Stamp};
-pub use view::{Ballot, Members, View, Voted};
+pub use time::MAX_TIME;
+pub use view::{Ballot, Change, Members, View, Voted};

@@ -32,6 +32,15 @@ impl View {
     }
 }
 
+/// How the next view differs from the one before it.
+#[derive(Clone, Copy, Debug, PartialEq, Eq)]
+pub enum Change {
+    /// This member leaves. Its number is never given again.
+    Drop(NodeId),
+    /// The node of the next number joins.
+    Add,
+}
+
 /// The number of a proposal: by round, then by the manager that made it.
 #[derive(Clone, Copy, Debug, PartialEq, Eq, PartialOrd, Ord)]
 pub struct Ballot {

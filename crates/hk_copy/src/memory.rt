@@ -71,24 +71,6 @@ fn row_of<'a>(rows: &'a [CopyItem], key: &Key) -> Option<&'a CopyItem>
     rows.iter().find(|row| key.cmp(&row.key).is_eq())
 }
 
-// The same row, which shares the key's bytes and the content.
-fn share(row: &CopyItem) -> Result<CopyItem, Memory>
-    ensures { IfOk result (λ copy. copy ≡ row.now) }
-{
-    let key = row.key.share()?;
-    let content = match &row.content {
-        Some(content) => Some(content.share()?),
-        None => None,
-    };
-    Ok(CopyItem {
-        key,
-        stamp: row.stamp,
-        kind: row.kind,
-        valid: row.valid,
-        content,
-    })
-}
-
 impl Rows for MemoryRows {
     ghost rows = { λ r. r };
 
@@ -102,7 +84,7 @@ impl Rows for MemoryRows {
         let Some(row) = row_of(self.rows.as_slice(), key) else {
             unreachable!()
         };
-        share(row)
+        row.share()
     }
 }
 

@@ -11,11 +11,12 @@ use Rattle.hk_base.specs.declared.stamp.Kind.TheVariants.{Write as Plain, Rmw}
 use Rattle.hk_base.specs.declared.call.State.{State}
 use Rattle.hk_base.specs.declared.call.State.TheVariants.{Valid, Invalid, Write, Replay, Trans}
 use Rattle.hk_base.specs.Stamp.{tag_of}
+use Rattle.hk_base.specs.Range.{IsWithin}
 use Rattle.hk_key.specs.declared.acks.Ack.{Ack}
 use Rattle.hk_key.specs.declared.row.Pending.{Pending}
 use Rattle.hk_key.specs.declared.row.Row.{Row}
 use Rattle.hk_key.specs.Notes.{all_noted, all_exact, note_in}
-use Rattle.hk_key.specs.Sound.{IsWithin, Holds, AreNotes, IsUpdate, IsSound}
+use Rattle.hk_key.specs.Sound.{Holds, AreNotes, IsUpdate, IsSound}
 use Rattle.hk_key.specs.Table.{displaced, displaced_write, completed_at, started_at, noted_at, with_acks, unnoted, replay_at, on_inv_at, on_ack_at, on_ack_pending, on_val_at, validated, on_view_at, on_copy_at, copied_same, state_of_copy}
 use Rattle.hk_key.specs.Laws.{FirstIsSound, BeginIsSound, ReplayKeepsSound, InvKeepsSound, AckKeepsSound, ValKeepsSound, ViewKeepsSound, CopyKeepsSound}
 use Rattle.hk_key.proofs.Sound.{notes_noted}

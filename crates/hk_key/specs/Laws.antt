@@ -7,7 +7,8 @@ use Rattle.hk_base.specs.declared.call.Content.{Content}
 use Rattle.hk_base.specs.declared.call.Reply.{Reply}
 use Rattle.hk_base.specs.declared.letter.CopyItem.{CopyItem}
 use Rattle.hk_key.specs.declared.row.Row.{Row}
-use Rattle.hk_key.specs.Sound.{IsSound, IsOther, IsWithin}
+use Rattle.hk_key.specs.Sound.{IsSound, IsOther}
+use Rattle.hk_base.specs.Range.{IsWithin}
 use Rattle.hk_key.specs.Table.{first_row, begin, replay, on_inv, on_ack, on_val, on_view, on_copy}
 
 abbrev pub FirstIsSound : Type 0

@@ -4,17 +4,14 @@ use Rattle.std.specs.Prelude.{◌≡◌, ◌≢◌, ℕ, ◌<◌, ◌≤◌, Lis
 use Rattle.std.specs.List.{IsDistinct, AllByRecursion, list_any}
 use Rattle.hk_base.specs.declared.stamp.Stamp.{Stamp}
 use Rattle.hk_base.specs.declared.stamp.NodeId.{NodeId}
-use Rattle.hk_base.specs.declared.stamp.TheConstants.{MAX_VERSION}
 use Rattle.hk_base.specs.declared.call.State.{State}
 use Rattle.hk_base.specs.declared.call.State.TheVariants.{Valid, Invalid, Write, Replay, Trans}
 use Rattle.hk_base.specs.Stamp.{tag_of}
 use Rattle.hk_base.specs.View.{member_numbers}
+use Rattle.hk_base.specs.Range.{IsWithin}
 use Rattle.hk_key.specs.declared.acks.Ack.{Ack}
 use Rattle.hk_key.specs.declared.row.Pending.{Pending}
 use Rattle.hk_key.specs.declared.row.Row.{Row}
-
-abbrev pub IsWithin : Stamp → Type 0
-IsWithin s = s.version ≤ MAX_VERSION
 
 -- which states have a pending update, and how its stamp stands to the row's
 abbrev pub Holds : State → Option Pending → Stamp → Type 0

@@ -6,7 +6,9 @@ ghost use Rattle.hk_key.specs.Table.{sent_out, no_out};
 
 use crate::acks::Acks;
 use crate::out::{Aim, Out, Sending, What};
-use hk_base::{Answer, Content, CopyItem, Kind, Memory, NodeId, Reply, Stamp, State, View};
+use hk_base::{
+    Answer, Content, CopyItem, Kind, Memory, NodeId, Reply, Stamp, State, View, share_content,
+};
 use std::alloc::Global;
 use std::cmp::Ordering;
 
@@ -38,18 +40,6 @@ pub struct Row {
     pub pending: Option<Pending>,
 }
 
-fn share(content: &Option<Content>) -> Result<Option<Content>, Memory>
-    ensures { IfOk result (λ same. same ≡ content.now) }
-{
-    match content {
-        Some(content) => {
-            let same = content.share()?;
-            Ok(Some(same))
-        }
-        None => Ok(None),
-    }
-}
-
 fn sends(aim: Aim, what: What) -> Out
     ensures { result ≡ sent_out aim what }
 {
@@ -70,8 +60,9 @@ fn nothing() -> Out
 
 impl Row {
     ghost use Rattle.hk_base.specs.View.{IsView};
+    ghost use Rattle.hk_base.specs.Range.{IsWithin};
     ghost use Rattle.hk_key.specs.Notes.{note_in, all_exact, all_noted};
-    ghost use Rattle.hk_key.specs.Sound.{IsSound, IsOther, IsWithin};
+    ghost use Rattle.hk_key.specs.Sound.{IsSound, IsOther};
     ghost use Rattle.hk_key.specs.Table.{first_row, still, completed, started, begin, replay, displaced, given_up, on_inv, on_ack, on_val, on_view, on_copy, resend};
 
     /// The row of a key that nothing has touched: Valid, `0.0`, kind Write, no content.
@@ -170,7 +161,7 @@ impl Row {
         ensures err { OnErr result (self.new ≡ self.old) }
     {
         let acks = Acks::new(alloc)?;
-        let same = share(&content)?;
+        let same = share_content(&content)?;
         self.state = State::Write;
         self.stamp = stamp;
         self.kind = kind;
@@ -198,7 +189,7 @@ impl Row {
         match self.state {
             State::Invalid => {
                 let acks = Acks::new(alloc)?;
-                let content = share(&self.content)?;
+                let content = share_content(&self.content)?;
                 let pending = Pending {
                     reply: None,
                     stamp: self.stamp,
