@@ -16,36 +16,36 @@ use Rattle.hk_key.specs.declared.acks.Ack.{Ack}
 use Rattle.hk_key.specs.declared.row.Pending.{Pending}
 use Rattle.hk_key.specs.declared.row.Row.{Row}
 use Rattle.hk_key.specs.Notes.{all_noted, all_exact, note_in}
-use Rattle.hk_key.specs.Sound.{Holds, AreNotes, IsUpdate, IsSound}
+use Rattle.hk_key.specs.Sound.{Holds, Waits, AreNotes, IsUpdate, IsSound}
 use Rattle.hk_key.specs.Table.{displaced, displaced_write, completed_at, started_at, noted_at, with_acks, unnoted, replay_at, on_inv_at, on_ack_at, on_ack_pending, on_val_at, validated, on_view_at, on_copy_at, copied_same, state_of_copy}
 use Rattle.hk_key.specs.Laws.{FirstIsSound, BeginIsSound, ReplayKeepsSound, InvKeepsSound, AckKeepsSound, ValKeepsSound, ViewKeepsSound, CopyKeepsSound}
 use Rattle.hk_key.proofs.Sound.{notes_noted}
 
 pub first_is_sound : FirstIsSound
-first_is_sound me members = record { within = omega arith; holds = refl; update = tt }
+first_is_sound me members = record { within = omega arith; holds = refl; waits = tt; update = tt }
 
 module _ (me : NodeId) (members : List NodeId) where
   -- a completed row has no pending update
   completed_sound : (own exact : Bool) (row : Row) (p : Pending) → IsWithin row.stamp → IsSound me members (completed_at own exact row p).row
-  completed_sound true true row p within = record { within = within; holds = refl; update = tt }
-  completed_sound true false row p within = record { within = within; holds = refl; update = tt }
+  completed_sound true true row p within = record { within = within; holds = refl; waits = tt; update = tt }
+  completed_sound true false row p within = record { within = within; holds = refl; waits = tt; update = tt }
   completed_sound false exact row p within = by_val row.kept_val
     where
       by_val : (b : Bool) → IsSound me members (record row { state = if b then Valid else Invalid; pending = None })
-      by_val true = record { within = within; holds = refl; update = tt }
-      by_val false = record { within = within; holds = refl; update = tt }
+      by_val true = record { within = within; holds = refl; waits = tt; update = tt }
+      by_val false = record { within = within; holds = refl; waits = tt; update = tt }
 
-  started_sound : (alone : Bool) (row : Row) (p : Pending) → IsWithin row.stamp → Holds row.state (Some p) row.stamp → IsUpdate me members p → IsSound me members (started_at alone row p).row
-  started_sound true row p within holds ok = completed_sound (tag_of row.stamp == tag_of p.stamp) (all_exact p.acks) row p within
-  started_sound false row p within holds ok = record { within = within; holds = holds; update = ok }
+  started_sound : (alone : Bool) (row : Row) (p : Pending) → IsWithin row.stamp → Holds row.state (Some p) row.stamp → Waits row.state (Some p) → IsUpdate me members p → IsSound me members (started_at alone row p).row
+  started_sound true row p within holds waits ok = completed_sound (tag_of row.stamp == tag_of p.stamp) (all_exact p.acks) row p within
+  started_sound false row p within holds waits ok = record { within = within; holds = holds; waits = waits; update = ok }
 
   no_notes : AreNotes me members []
   unfolding IsDistinct
   no_notes = record { distinct = tt; others = tt }
 
-  noted_sound : (last : Bool) (row : Row) (p : Pending) → IsWithin row.stamp → Holds row.state (Some p) row.stamp → IsUpdate me members p → IsSound me members (noted_at last row p).row
-  noted_sound true row p within holds ok = completed_sound (tag_of row.stamp == tag_of p.stamp) (all_exact p.acks) row p within
-  noted_sound false row p within holds ok = record { within = within; holds = holds; update = ok }
+  noted_sound : (last : Bool) (row : Row) (p : Pending) → IsWithin row.stamp → Holds row.state (Some p) row.stamp → Waits row.state (Some p) → IsUpdate me members p → IsSound me members (noted_at last row p).row
+  noted_sound true row p within holds waits ok = completed_sound (tag_of row.stamp == tag_of p.stamp) (all_exact p.acks) row p within
+  noted_sound false row p within holds waits ok = record { within = within; holds = holds; waits = waits; update = ok }
 
 -- that a pending update has other notes does not matter to its row
 renoted : (state : State) (p : Pending) (acks : List Ack) (s : Stamp) → Holds state (Some p) s → Holds state (Some (with_acks p acks)) s
@@ -61,11 +61,18 @@ renoted Write p acks s h = h
 renoted Replay p acks s h = h
 renoted Trans p acks s h = h
 
+still_waits : (state : State) (p : Pending) (acks : List Ack) → Waits state (Some p) → Waits state (Some (with_acks p acks))
+still_waits Valid p acks w = w
+still_waits Invalid p acks w = w
+still_waits Write p acks w = w
+still_waits Replay p acks w = w
+still_waits Trans p acks w = w
+
 pub begin_is_sound : BeginIsSound
 begin_is_sound me members reply s kind content within =
     started_sound me members (all_noted me members [])
     (record { state = Write; stamp = s; kind = kind; content = content; kept_val = false; pending = None })
-    (unnoted (Some reply) s kind content) within refl (record { within = within; notes = no_notes me members })
+    (unnoted (Some reply) s kind content) within refl refl (record { within = within; notes = no_notes me members })
 
 pub replay_keeps_sound : ReplayKeepsSound
 replay_keeps_sound me members row ok = by_state row.state refl
@@ -76,28 +83,28 @@ replay_keeps_sound me members row ok = by_state row.state refl
     by_state Replay e = ok
     by_state Trans e = ok
     by_state Invalid e = started_sound me members (all_noted me members []) (record row { state = Replay }) (unnoted None row.stamp row.kind row.content)
-        ok.within refl (record { within = ok.within; notes = no_notes me members })
+        ok.within refl refl (record { within = ok.within; notes = no_notes me members })
 
 pub inv_keeps_sound : InvKeepsSound
 inv_keeps_sound me members row from s kind content within ok = by_order (nat_cmp (tag_of row.stamp) (tag_of s)) refl
   where
     -- an INV above the row: by its state and its pending update
-    above : (state : State) (o : Option Pending) → tag_of row.stamp < tag_of s → Holds state o row.stamp → IfSome o (λ p. IsUpdate me members p) →
+    above : (state : State) (o : Option Pending) → tag_of row.stamp < tag_of s → Holds state o row.stamp → Waits state o → IfSome o (λ p. IsUpdate me members p) →
         IsSound me members (record { state = (displaced state o).0; stamp = s; kind = kind; content = content; kept_val = false; pending = (displaced state o).1 })
-    above Valid o less h u = record { within = within; holds = refl; update = tt }
-    above Invalid o less h u = record { within = within; holds = refl; update = tt }
-    above Replay o less h u = record { within = within; holds = refl; update = tt }
-    above Trans None less h u = absurd h
-    above Trans (Some p) less h u = record { within = within; holds = omega arith; update = u }
-    above Write None less h u = absurd h
-    above Write (Some p) less h u = by_kind p.kind
+    above Valid o less h w u = record { within = within; holds = refl; waits = tt; update = tt }
+    above Invalid o less h w u = record { within = within; holds = refl; waits = tt; update = tt }
+    above Replay o less h w u = record { within = within; holds = refl; waits = tt; update = tt }
+    above Trans None less h w u = absurd h
+    above Trans (Some p) less h w u = record { within = within; holds = omega arith; waits = w; update = u }
+    above Write None less h w u = absurd h
+    above Write (Some p) less h w u = by_kind p.kind refl
       where
-        by_kind : (k : Kind) → IsSound me members (record { state = (displaced_write k p).0; stamp = s; kind = kind; content = content; kept_val = false; pending = (displaced_write k p).1 })
-        by_kind Plain = record { within = within; holds = omega arith; update = u }
-        by_kind Rmw = record { within = within; holds = refl; update = tt }
+        by_kind : (k : Kind) → p.kind ≡ k → IsSound me members (record { state = (displaced_write k p).0; stamp = s; kind = kind; content = content; kept_val = false; pending = (displaced_write k p).1 })
+        by_kind Plain e = record { within = within; holds = omega arith; waits = (w, e); update = u }
+        by_kind Rmw e = record { within = within; holds = refl; waits = tt; update = tt }
 
     by_order : (o : Ordering) → nat_cmp (tag_of row.stamp) (tag_of s) ≡ o → IsSound me members (on_inv_at o row from s kind content).row
-    by_order Less e = above row.state row.pending (grind arith) ok.holds ok.update
+    by_order Less e = above row.state row.pending (grind arith) ok.holds ok.waits ok.update
     by_order Equal e = ok
     by_order Greater e = by_kind kind
       where
@@ -106,57 +113,57 @@ inv_keeps_sound me members row from s kind content within ok = by_order (nat_cmp
         by_kind Rmw = ok
 
 pub ack_keeps_sound : AckKeepsSound
-ack_keeps_sound me members row from s top other ok = by_pending row.pending ok.holds ok.update
+ack_keeps_sound me members row from s top other ok = by_pending row.pending ok.holds ok.waits ok.update
   where
-    by_test : (p : Pending) (own exact : Bool) → Holds row.state (Some p) row.stamp → IsUpdate me members p → IsSound me members (on_ack_at own exact me members row p from).row
-    by_test p false exact h u = ok
-    by_test p true exact h u =
+    by_test : (p : Pending) (own exact : Bool) → Holds row.state (Some p) row.stamp → Waits row.state (Some p) → IsUpdate me members p → IsSound me members (on_ack_at own exact me members row p from).row
+    by_test p false exact h w u = ok
+    by_test p true exact h w u =
         noted_sound me members (all_noted me members (note_in from exact p.acks)) row (with_acks p (note_in from exact p.acks)) ok.within
-        (renoted row.state p (note_in from exact p.acks) row.stamp h)
+        (renoted row.state p (note_in from exact p.acks) row.stamp h) (still_waits row.state p (note_in from exact p.acks) w)
         (record { within = u.within; notes = notes_noted me members from exact p.acks other u.notes })
 
-    by_pending : (o : Option Pending) → Holds row.state o row.stamp → IfSome o (λ p. IsUpdate me members p) → IsSound me members (on_ack_pending o me members row from s top).row
-    by_pending None h u = ok
-    by_pending (Some p) h u = by_test p (tag_of s == tag_of p.stamp) (tag_of top == tag_of s) h u
+    by_pending : (o : Option Pending) → Holds row.state o row.stamp → Waits row.state o → IfSome o (λ p. IsUpdate me members p) → IsSound me members (on_ack_pending o me members row from s top).row
+    by_pending None h w u = ok
+    by_pending (Some p) h w u = by_test p (tag_of s == tag_of p.stamp) (tag_of top == tag_of s) h w u
 
 pub val_keeps_sound : ValKeepsSound
 val_keeps_sound me members row s ok = by_test (tag_of row.stamp == tag_of s)
   where
-    by_state : (state : State) → Holds state row.pending row.stamp → row.state ≡ state → IsSound me members (validated state row)
-    by_state Invalid h e = record { within = ok.within; holds = h; update = ok.update }
-    by_state Trans h e = record { within = ok.within; holds = ok.holds; update = ok.update }
-    by_state Valid h e = ok
-    by_state Write h e = ok
-    by_state Replay h e = ok
+    by_state : (state : State) → Holds state row.pending row.stamp → Waits state row.pending → row.state ≡ state → IsSound me members (validated state row)
+    by_state Invalid h w e = record { within = ok.within; holds = h; waits = w; update = ok.update }
+    by_state Trans h w e = record { within = ok.within; holds = ok.holds; waits = ok.waits; update = ok.update }
+    by_state Valid h w e = ok
+    by_state Write h w e = ok
+    by_state Replay h w e = ok
 
     by_test : (b : Bool) → IsSound me members (on_val_at b row)
-    by_test true = by_state row.state ok.holds refl
+    by_test true = by_state row.state ok.holds ok.waits refl
     by_test false = ok
 
 pub view_keeps_sound : ViewKeepsSound
-view_keeps_sound me old members row ok = by_pending row.pending refl ok.holds ok.update
+view_keeps_sound me old members row ok = by_pending row.pending refl ok.holds ok.waits ok.update
   where
-    by_pending : (o : Option Pending) → row.pending ≡ o → Holds row.state o row.stamp → IfSome o (λ p. IsUpdate me old p) → IsSound me members (on_view_at o me members row).row
-    by_pending None e h u = record { within = ok.within; holds = ok.holds; update = subst (λ (k : Option Pending). IfSome k (λ p. IsUpdate me members p)) (sym e) tt }
-    by_pending (Some p) e h u = started_sound me members (all_noted me members []) row (with_acks p []) ok.within
-        (renoted row.state p [] row.stamp h) (record { within = u.within; notes = no_notes me members })
+    by_pending : (o : Option Pending) → row.pending ≡ o → Holds row.state o row.stamp → Waits row.state o → IfSome o (λ p. IsUpdate me old p) → IsSound me members (on_view_at o me members row).row
+    by_pending None e h w u = record { within = ok.within; holds = ok.holds; waits = ok.waits; update = subst (λ (k : Option Pending). IfSome k (λ p. IsUpdate me members p)) (sym e) tt }
+    by_pending (Some p) e h w u = started_sound me members (all_noted me members []) row (with_acks p []) ok.within
+        (renoted row.state p [] row.stamp h) (still_waits row.state p [] w) (record { within = u.within; notes = no_notes me members })
 
 pub copy_keeps_sound : CopyKeepsSound
 copy_keeps_sound me members row item within ok = by_order (nat_cmp (tag_of row.stamp) (tag_of item.stamp))
   where
     by_valid : (b : Bool) → IsSound me members (record { state = state_of_copy b; stamp = item.stamp; kind = item.kind; content = item.content; kept_val = false; pending = None })
-    by_valid true = record { within = within; holds = refl; update = tt }
-    by_valid false = record { within = within; holds = refl; update = tt }
+    by_valid true = record { within = within; holds = refl; waits = tt; update = tt }
+    by_valid false = record { within = within; holds = refl; waits = tt; update = tt }
 
-    by_state : (state : State) → Holds state row.pending row.stamp → IsSound me members (copied_same true state row)
-    by_state Invalid h = record { within = ok.within; holds = h; update = ok.update }
-    by_state Valid h = ok
-    by_state Write h = ok
-    by_state Replay h = ok
-    by_state Trans h = ok
+    by_state : (state : State) → Holds state row.pending row.stamp → Waits state row.pending → IsSound me members (copied_same true state row)
+    by_state Invalid h w = record { within = ok.within; holds = h; waits = w; update = ok.update }
+    by_state Valid h w = ok
+    by_state Write h w = ok
+    by_state Replay h w = ok
+    by_state Trans h w = ok
 
     same : (b : Bool) → IsSound me members (copied_same b row.state row)
-    same true = by_state row.state ok.holds
+    same true = by_state row.state ok.holds ok.waits
     same false = ok
 
     by_order : (o : Ordering) → IsSound me members (on_copy_at o row item)

@@ -1,9 +1,11 @@
--- What every row of a node keeps: which states have a pending update, stamps within limits, and notes of distinct other
--- members of the node's view.
-use Rattle.std.specs.Prelude.{◌≡◌, ◌≢◌, ℕ, ◌<◌, ◌≤◌, List, map, Option, Some, None, IfSome, nat_eq, true}
+-- What every row of a node keeps: which states have a pending update, which of those have a call, stamps within limits,
+-- and notes of distinct other members of the node's view.
+use Rattle.std.specs.Prelude.{◌≡◌, ◌≢◌, ℕ, ◌<◌, List, map, Option, Some, None, IfSome, nat_eq, true, ⊤}
+use Rattle.std.specs.Option.{IsSome}
 use Rattle.std.specs.List.{IsDistinct, AllByRecursion, list_any}
 use Rattle.hk_base.specs.declared.stamp.Stamp.{Stamp}
 use Rattle.hk_base.specs.declared.stamp.NodeId.{NodeId}
+use Rattle.hk_base.specs.declared.stamp.Kind.TheVariants.{Write as Plain}
 use Rattle.hk_base.specs.declared.call.State.{State}
 use Rattle.hk_base.specs.declared.call.State.TheVariants.{Valid, Invalid, Write, Replay, Trans}
 use Rattle.hk_base.specs.Stamp.{tag_of}
@@ -23,6 +25,15 @@ Holds Replay None s = ⊥
 Holds Replay (Some p) s = tag_of p.stamp ≡ tag_of s
 Holds Trans None s = ⊥
 Holds Trans (Some p) s = tag_of p.stamp < tag_of s
+
+-- Whose update waits: in Write and Trans the update of a call at this node, which is answered when it completes, and in
+-- Trans a plain write; in Replay the update of no call here.
+abbrev pub Waits : State → Option Pending → Type 0
+Waits Valid pending = ⊤
+Waits Invalid pending = ⊤
+Waits Write pending = IfSome pending (λ p. IsSome p.reply)
+Waits Replay pending = IfSome pending (λ p. p.reply ≡ None)
+Waits Trans pending = IfSome pending (λ p. IsSome p.reply × (p.kind ≡ Plain))
 
 abbrev pub note_numbers : List Ack → List ℕ
 note_numbers acks = map (λ ack. ack.node.0) acks
@@ -44,4 +55,5 @@ pub record IsUpdate (me : NodeId) (members : List NodeId) (p : Pending) : Type 0
 pub record IsSound (me : NodeId) (members : List NodeId) (row : Row) : Type 0 where
   pub within : IsWithin row.stamp
   pub holds : Holds row.state row.pending row.stamp
+  pub waits : Waits row.state row.pending
   pub update : IfSome row.pending (λ p. IsUpdate me members p)

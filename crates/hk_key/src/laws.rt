@@ -5,7 +5,8 @@ ghost use Rattle.hk_key.specs.Laws.{FirstIsSound, BeginIsSound, ReplayKeepsSound
 
 /// Rows stay sound: the first row is sound, `begin` makes a sound row, and every other step keeps one sound. A row is
 /// sound where its version is within the limit, where it has a pending update in just the states Write, Replay and Trans,
-/// with its own stamp in the first two and a lower one in Trans, and where the notes are of distinct other members.
+/// with its own stamp in the first two and a lower one in Trans, where that update is a call's in Write and Trans, in
+/// Trans a plain write, and in Replay no call's, and where the notes are of distinct other members.
 pub fn rows_stay_sound()
     ensures first { FirstIsSound }
     ensures begin { BeginIsSound }
