@@ -50,6 +50,17 @@ impl Acks {
         Ok(Acks { items })
     }
 
+    /// An equal list of acknowledgements, with room for all.
+    pub fn copy(&self, alloc: Global) -> Result<Acks, Memory>
+        ensures { IfOk result (λ acks. acks ≡ self.now) }
+    {
+        let mut acks = Acks::new(alloc)?;
+        for ack in self.items.as_slice() {
+            acks.add(ack.node, ack.exact);
+        }
+        Ok(acks)
+    }
+
     pub fn len(&self) -> usize
         ensures { result ≡ length self.now }
     {

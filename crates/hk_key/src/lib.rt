@@ -11,6 +11,7 @@
 #![tactic(auto)]
 
 mod acks;
+mod copy;
 mod laws;
 mod out;
 mod row;
