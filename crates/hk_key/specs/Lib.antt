@@ -1,5 +1,6 @@
 pub mod Notes
 pub mod Table
 pub mod Sound
+pub mod Same
 pub mod Laws
 pub mod Worked

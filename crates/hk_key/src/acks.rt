@@ -40,6 +40,8 @@ impl Model for Acks {
 
 impl Acks {
     ghost use Rattle.hk_key.specs.Notes.{is_of, is_noted, all_noted, all_exact, note_in};
+    ghost use Rattle.hk_key.specs.Same.{is_same_note};
+    ghost use Rattle.std.specs.Cmp.Lexicographic.{pointwise};
     ghost use Rattle.hk_key.specs.declared.acks.TheConstants.{MAX_ACKS};
 
     /// No acknowledgements, and room for all.
@@ -102,6 +104,13 @@ impl Acks {
         ensures { result ≡ all_exact self.now }
     {
         self.items.iter().all(|ack| ack.exact)
+    }
+
+    /// Whether the other list notes the same nodes in the same order, each alike exact.
+    pub fn is_same(&self, other: &Acks) -> bool
+        ensures { result ≡ pointwise is_same_note self.now other.now }
+    {
+        self.items.as_slice() == other.items.as_slice()
     }
 
     fn add(&mut self, node: NodeId, exact: bool)

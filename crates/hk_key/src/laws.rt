@@ -2,6 +2,7 @@
 
 ghost use Rattle.hk_key.specs.Worked.{NotSettled, Settles, WaitsInTrans, GivesUp, Counters, AloneCompletes};
 ghost use Rattle.hk_key.specs.Laws.{FirstIsSound, BeginIsSound, ReplayKeepsSound, InvKeepsSound, AckKeepsSound, ValKeepsSound, ViewKeepsSound, CopyKeepsSound};
+ghost use Rattle.hk_key.specs.Laws.{EachIsSame, SameAfterInv, SameAfterAck, SameAfterVal, SameAfterView, SameAfterCopy, SameAfterReplay, ResendKeepsRow, ReplayChanges, BeginChanges};
 
 /// Rows stay sound: the first row is sound, `begin` makes a sound row, and every other step keeps one sound. A row is
 /// sound where its version is within the limit, where it has a pending update in just the states Write, Replay and Trans,
@@ -16,6 +17,22 @@ pub fn rows_stay_sound()
     ensures val { ValKeepsSound }
     ensures view { ViewKeepsSound }
     ensures copy { CopyKeepsSound }
+{}
+
+/// [`crate::Row::is_same`] tells whether a step changed a row. Where a step leaves a row the same, by a test that reads no
+/// contents, it leaves the very row; a row is the same as itself, so where it is not the same it has changed. A replay
+/// always changes an Invalid row, and `begin` a row that takes a stamp above its own.
+pub fn same_rows_are_unchanged()
+    ensures each { EachIsSame }
+    ensures inv { SameAfterInv }
+    ensures ack { SameAfterAck }
+    ensures val { SameAfterVal }
+    ensures view { SameAfterView }
+    ensures copy { SameAfterCopy }
+    ensures replay { SameAfterReplay }
+    ensures resend { ResendKeepsRow }
+    ensures replayed { ReplayChanges }
+    ensures begun { BeginChanges }
 {}
 
 /// What the table gives for steps worked by hand: a key becomes Valid only where every acknowledgement was exact; a write

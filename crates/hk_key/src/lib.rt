@@ -15,10 +15,11 @@ mod copy;
 mod laws;
 mod out;
 mod row;
+mod same;
 #[cfg(test)]
 mod tests;
 
 pub use acks::{Ack, Acks, MAX_ACKS};
-pub use laws::{rows_stay_sound, worked_rows};
+pub use laws::{rows_stay_sound, same_rows_are_unchanged, worked_rows};
 pub use out::{Aim, Out, Sending, What};
 pub use row::{Pending, Row};

@@ -1,5 +1,12 @@
+ghost use Rattle.std.specs.Prelude.{IfOk};
+ghost use Rattle.hk_base.specs.Range.{IsWithin};
+ghost use Rattle.hk_key.specs.Sound.{IsSound};
+
 use super::*;
-use hk_base::{Answer, CallNo, Content, Data, Kind, Members, NodeId, Reply, Stamp, State, View};
+use hk_base::{
+    Answer, CallNo, Content, Data, Kind, Members, Memory, NodeId, Reply, Stamp, State, View,
+};
+use std::alloc::Global;
 use std::test::Fail;
 
 #[test]
@@ -79,5 +86,55 @@ fn replays_an_invalid_row(rt: HostRuntime) -> Result<(), Fail> {
     };
     assert!(rt; out.send == Some(val));
     assert!(rt; row.state == State::Valid);
+    Ok(())
+}
+
+#[tactic(auto, using(crate::proofs::Steps::begin_is_sound))]
+fn begun(alloc: Global, view: &View, stamp: Stamp) -> Result<Row, Memory>
+    requires { IsWithin stamp }
+    ensures { IfOk result (λ row. IsSound (record { 0 = 0 }) view.now.members row) }
+{
+    let reply = Reply {
+        call: CallNo(1),
+        answer: Answer::Stored,
+    };
+    let content = Content {
+        flags: 7,
+        bytes: Data::read(alloc, b"5").map_err(|_fault| Memory)?,
+    };
+    let mut row = Row::first();
+    row.begin(
+        alloc,
+        NodeId(0),
+        view,
+        reply,
+        stamp,
+        Kind::Write,
+        Some(content),
+    )?;
+    Ok(row)
+}
+
+#[test]
+fn a_noted_row_is_not_its_copy(rt: HostRuntime) -> Result<(), Fail> {
+    let alloc = rt.alloc();
+    let mut members = Members::new(alloc);
+    members.push(NodeId(0))?;
+    members.push(NodeId(1))?;
+    members.push(NodeId(2))?;
+    let view = View {
+        epoch: 1,
+        members,
+        next: 3,
+    };
+    let stamp = Stamp {
+        version: 2,
+        node: 0,
+    };
+    let mut row = begun(alloc, &view, stamp)?;
+    let before = row.copy(alloc)?;
+    assert!(rt; before.is_same(&row) && before.content == row.content);
+    row.on_ack(NodeId(0), &view, NodeId(1), stamp, stamp);
+    assert!(rt; row.state == State::Write && !before.is_same(&row));
     Ok(())
 }
