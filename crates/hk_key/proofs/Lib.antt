@@ -3,3 +3,6 @@ pub mod Sound
 pub mod Steps
 pub mod SameNotes
 pub mod Unchanged
+pub mod Rising
+pub mod Waiting
+pub mod Answers

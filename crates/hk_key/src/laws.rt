@@ -3,6 +3,9 @@
 ghost use Rattle.hk_key.specs.Worked.{NotSettled, Settles, WaitsInTrans, GivesUp, Counters, AloneCompletes};
 ghost use Rattle.hk_key.specs.Laws.{FirstIsSound, BeginIsSound, ReplayKeepsSound, InvKeepsSound, AckKeepsSound, ValKeepsSound, ViewKeepsSound, CopyKeepsSound};
 ghost use Rattle.hk_key.specs.Laws.{EachIsSame, SameAfterInv, SameAfterAck, SameAfterVal, SameAfterView, SameAfterCopy, SameAfterReplay, ResendKeepsRow, ReplayChanges, BeginChanges};
+ghost use Rattle.hk_key.specs.Laws.{BeginTakesStamp, ReplayNeverLowers, InvNeverLowers, AckNeverLowers, ValNeverLowers, ViewNeverLowers, CopyNeverLowers, ResendNeverLowers};
+ghost use Rattle.hk_key.specs.Laws.{BeginAnswersOrWaits, ReplayAnswersOrWaits, InvAnswersOrWaits, AckAnswersOrWaits, ValAnswersOrWaits, ViewAnswersOrWaits, ResendAnswersOrWaits};
+ghost use Rattle.hk_key.specs.Laws.{InvAnswersWaiting, AckAnswersWaiting, ViewAnswersWaiting, ReplayAnswersNone, ResendAnswersNone, BeginAnswersOwn};
 
 /// Rows stay sound: the first row is sound, `begin` makes a sound row, and every other step keeps one sound. A row is
 /// sound where its version is within the limit, where it has a pending update in just the states Write, Replay and Trans,
@@ -33,6 +36,43 @@ pub fn same_rows_are_unchanged()
     ensures resend { ResendKeepsRow }
     ensures replayed { ReplayChanges }
     ensures begun { BeginChanges }
+{}
+
+/// A row's stamp never falls: `begin` gives the row the stamp that it is passed, and each other step leaves or raises it.
+pub fn stamps_never_fall()
+    ensures begin { BeginTakesStamp }
+    ensures replay { ReplayNeverLowers }
+    ensures inv { InvNeverLowers }
+    ensures ack { AckNeverLowers }
+    ensures val { ValNeverLowers }
+    ensures view { ViewNeverLowers }
+    ensures copy { CopyNeverLowers }
+    ensures resend { ResendNeverLowers }
+{}
+
+/// A call waits until it is answered. Where a sound row has a pending update with a call's reply, after a step the update
+/// is pending still with its stamp and its reply, in Write or Trans, and nothing is answered; or the call is answered,
+/// as was kept for it or Aborted, and the row is Valid or Invalid with no pending update. `on_copy` is left out, which
+/// requires that no update is pending.
+pub fn calls_wait_or_are_answered()
+    ensures begin { BeginAnswersOrWaits }
+    ensures replay { ReplayAnswersOrWaits }
+    ensures inv { InvAnswersOrWaits }
+    ensures ack { AckAnswersOrWaits }
+    ensures val { ValAnswersOrWaits }
+    ensures view { ViewAnswersOrWaits }
+    ensures resend { ResendAnswersOrWaits }
+{}
+
+/// What a step answers was waited for: the row had a pending update with a reply of the same call. `replay` and `resend`
+/// answer nothing, and `begin` its own call or nothing.
+pub fn answers_were_waited_for()
+    ensures inv { InvAnswersWaiting }
+    ensures ack { AckAnswersWaiting }
+    ensures view { ViewAnswersWaiting }
+    ensures replay { ReplayAnswersNone }
+    ensures resend { ResendAnswersNone }
+    ensures begin { BeginAnswersOwn }
 {}
 
 /// What the table gives for steps worked by hand: a key becomes Valid only where every acknowledgement was exact; a write

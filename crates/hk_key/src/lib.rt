@@ -20,6 +20,9 @@ mod same;
 mod tests;
 
 pub use acks::{Ack, Acks, MAX_ACKS};
-pub use laws::{rows_stay_sound, same_rows_are_unchanged, worked_rows};
+pub use laws::{
+    answers_were_waited_for, calls_wait_or_are_answered, rows_stay_sound, same_rows_are_unchanged,
+    stamps_never_fall, worked_rows,
+};
 pub use out::{Aim, Out, Sending, What};
 pub use row::{Pending, Row};
