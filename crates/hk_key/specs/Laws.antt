@@ -1,5 +1,5 @@
 -- What holds of every step: it keeps what every row keeps; it changed a row in just the case that the test of sameness
--- tells; no row's stamp falls; and a call that waits is answered once.
+-- tells; a row's stamp falls by none but begin, which gives it; and a call that waits is answered once.
 use Rattle.std.specs.Prelude.{◌≡◌, ◌<◌, ◌≤◌, List, Option, Some, None, true, false}
 use Rattle.hk_base.specs.declared.stamp.Stamp.{Stamp}
 use Rattle.hk_base.specs.declared.stamp.NodeId.{NodeId}
@@ -90,7 +90,7 @@ abbrev pub BeginChanges : Type 0
 BeginChanges = (me : NodeId) (members : List NodeId) (row : Row) (reply : Reply) (s : Stamp) (kind : Kind) (content : Option Content) →
     tag_of row.stamp < tag_of s → is_same_row row (begin me members reply s kind content).row ≡ false
 
--- No step lowers a row's stamp: begin gives the row the stamp that it is passed, and each other step leaves or raises it.
+-- Each step but begin leaves a row's stamp or raises it; begin gives the row the stamp that it is passed.
 abbrev pub BeginTakesStamp : Type 0
 BeginTakesStamp = (me : NodeId) (members : List NodeId) (reply : Reply) (s : Stamp) (kind : Kind) (content : Option Content) →
     (begin me members reply s kind content).row.stamp ≡ s

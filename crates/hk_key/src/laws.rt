@@ -38,7 +38,8 @@ pub fn same_rows_are_unchanged()
     ensures begun { BeginChanges }
 {}
 
-/// A row's stamp never falls: `begin` gives the row the stamp that it is passed, and each other step leaves or raises it.
+/// A row's stamp never falls where updates begin above it: each step but `begin` leaves it or raises it, and `begin` gives
+/// the row the stamp that it is passed.
 pub fn stamps_never_fall()
     ensures begin { BeginTakesStamp }
     ensures replay { ReplayNeverLowers }
