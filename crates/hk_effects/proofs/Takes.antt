@@ -1,0 +1,157 @@
+-- A letter that is taken is, for each key, an effect or two.
+use Rattle.std.proofs.Common.{◌≡◌, ◌⊎◌, ◌≢◌, ℕ, Bool, true, false, cond, not, ◌&&◌, List, [], ◌≤◌, ◌<◌, ◌∙◌, refl, ap, subst, inl, ⊎_elim, Option, Some, None, eqb, nat_cmp, IfSome}
+use Rattle.std.proofs.lemmas.Bool.{eqb-true, and_parts}
+use Rattle.hk_base.specs.declared.stamp.Stamp.{Stamp}
+use Rattle.hk_base.specs.declared.stamp.NodeId.{NodeId}
+use Rattle.hk_base.specs.declared.stamp.Kind.{Kind}
+use Rattle.hk_base.specs.declared.call.Content.{Content}
+use Rattle.hk_base.specs.declared.view.View.{View}
+use Rattle.hk_base.specs.declared.letter.Actor.{Actor}
+use Rattle.hk_base.specs.declared.letter.Actor.TheVariants as A
+use Rattle.hk_base.specs.declared.letter.Body.{Body}
+use Rattle.hk_base.specs.declared.letter.Body.TheVariants.{Inv as InvBody, Ack as AckBody, Val as ValBody, CopyAsk, CopyGive, LeaseAsk, LeaseGive, Prepare, Promise, Accept, Accepted as AcceptedBody, Chosen, Activate}
+use Rattle.hk_base.specs.declared.letter.CopyItem.{CopyItem}
+use Rattle.hk_base.specs.declared.letter.Letter.{Letter as Wire}
+use Rattle.hk_base.specs.Stamp.{tag_of}
+use Rattle.hk_key.specs.declared.row.Pending.{Pending as Waits}
+use Rattle.hk_key.specs.declared.row.Row.{Row}
+use Rattle.hk_key.specs.Table.{still, on_inv, on_val, on_ack, on_ack_pending}
+use Rattle.hk_key.proofs.Unchanged.{same_after_inv, same_after_ack, same_after_val}
+use Rattle.hk_register.specs.Machine.{In}
+use Rattle.hk_register.specs.Machine.Letter.{Inv, Ack as AckL, Val}
+use Rattle.hk_register.specs.Parts.{Parts}
+use Rattle.hk_node.specs.Rows.{find_row, row_at}
+use Rattle.hk_node.specs.Node.{NodeState, epoch_of, members_of, is_member, is_other}
+use Rattle.hk_node.specs.Stepped.{Stepped, idle, row_step}
+use Rattle.hk_node.specs.Copies.{gives_copy, takes_copy}
+use Rattle.hk_node.specs.Steps.{received, receives, receives_from, is_addressed, installs}
+use Rattle.hk_world.specs.declared.event.Event.TheVariants.{Take}
+use Rattle.hk_world.specs.World.{numbered}
+use Rattle.hk_world.specs.Steps.{Accepted, acts, takes, live_actor}
+use Rattle.hk_effects.specs.View.{has_copied, letters_of, Trace, view}
+use Rattle.hk_effects.specs.Own.{IsPendingOf, IsOwn, IsTrace, Agrees}
+use Rattle.hk_effects.proofs.Order.{cases_key, same_of}
+use Rattle.hk_effects.proofs.Processes.{in_members}
+use Rattle.hk_effects.proofs.Shapes.{IsShaped, shaped_of_holds}
+use Rattle.hk_effects.proofs.Steps.{Owes, told, quiet_step, inv_step, val_step, ack_step}
+use Rattle.hk_effects.proofs.Nodes.{OwesStep, idle_step, own_told, other_told, found_step}
+use Rattle.hk_effects.proofs.Rests.{numbered_in, letter_sent, row_sound, in_some}
+use Rattle.hk_effects.proofs.Lives.{accepts, IsEffects, IsLive, here, stepped_effect, live_effect, node_own, node_sound, members_are}
+
+module _ (V : ℕ → List ℕ) (key : List ℕ) (t : Trace) (parts : Parts V (view key t)) (own : IsOwn t.world) (agrees : Agrees t.world V) (tok : IsTrace t) where
+  -- what a live node's step owes, of an event that is no call
+  abbrev pub Owed : (x : NodeState) → IsLive V key t parts own agrees tok x → Stepped → Type 0
+  Owed x alive o = OwesStep V (view key t) parts key x (here V key t parts own agrees tok x alive) o
+
+  -- What is shown elsewhere: a batch that is given,
+  abbrev pub GivesOwed : Type 0
+  GivesOwed = (x : NodeState) (alive : IsLive V key t parts own agrees tok x) (from : NodeId) (after : Option (List ℕ)) (room : ℕ) → is_member from (members_of x) ≡ true → Owed x alive (gives_copy x from after room)
+
+  -- a batch that is taken,
+  abbrev pub TakesOwed : Type 0
+  TakesOwed = (x : NodeState) (alive : IsLive V key t parts own agrees tok x) (l : Wire) (from : NodeId) (after : Option (List ℕ)) (done : Bool) (items : List CopyItem) → In t.world.letters l → l.from ≡ A.Node from → l.epoch ≡ epoch_of x →
+      is_member from (members_of x) ≡ true → l.body ≡ CopyGive after done items → Owed x alive (takes_copy x after done items)
+
+  -- and a view that is installed.
+  abbrev pub InstallsOwed : Type 0
+  InstallsOwed = (x : NodeState) (alive : IsLive V key t parts own agrees tok x) (v : View) → In t.world.views v → is_member x.id v.members ≡ true → epoch_of x < v.epoch → Owed x alive (installs x v)
+
+  module _ (x : NodeState) (alive : IsLive V key t parts own agrees tok x) where
+    row_shaped : (o : Option Waits) → (row_at key x.rows).pending ≡ o → IsShaped (row_at key x.rows).state o
+    row_shaped o e =
+        let row = row_at key x.rows in
+        rw (← e) (shaped_of_holds row.state row.pending row.stamp (row_sound x (node_sound V key t parts own agrees tok x alive) key).holds)
+
+    row_update : (p : Waits) → (row_at key x.rows).pending ≡ Some p → IsPendingOf t.world.calls p
+    row_update p e = let all : IfSome (row_at key x.rows).pending (IsPendingOf t.world.calls) = ((node_own V key t parts own agrees tok x alive).row key).pending in rw e at all
+
+    -- a letter from another member, in its epoch
+    module _ (l : Wire) (sent_so : In t.world.letters l) (from : NodeId) (sender : l.from ≡ A.Node from) (epoch : l.epoch ≡ epoch_of x) (inside : is_member from (members_of x) ≡ true) where
+      some : 1 ≤ epoch_of x
+      some = in_some t.world.views t.world.calls x (node_own V key t parts own agrees tok x alive) own.views from inside
+
+      member : In (V (epoch_of x)) from.0
+      member = rw (← members_are V key t parts own agrees tok x alive some) (in_members from (members_of x) inside)
+
+      take_inv : (k : List ℕ) (s : Stamp) (kind : Kind) (content : Option Content) → l.body ≡ InvBody k s kind content → Owed x alive (row_step x k (on_inv (row_at k x.rows) from s kind content))
+      take_inv k s kind content is =
+          ⊎_elim
+          (λ (same : key ≡ k).
+          let row = row_at key x.rows in
+          let d = on_inv row from s kind content in
+          let letter : In (letters_of key t.world.letters) (Inv from.0 (epoch_of x) (tag_of s) kind content) = letter_sent key t.world.letters l (Inv from.0 (epoch_of x) (tag_of s) kind content) sent_so (rw (is, same_of key k same, sender, epoch) (inl refl)) in
+          subst (λ (k : List ℕ). Owed x alive (row_step x k (on_inv (row_at k x.rows) from s kind content))) same
+          (own_told V (view key t) parts key x (here V key t parts own agrees tok x alive) d _ (same_after_inv row from s kind content) refl
+          (inv_step V (view key t) parts key x (has_copied x key) row (here V key t parts own agrees tok x alive) from s kind content (nat_cmp (tag_of row.stamp) (tag_of s)) refl some letter)))
+          (λ (other : key ≢ k). other_told V (view key t) parts key x (here V key t parts own agrees tok x alive) k (on_inv (row_at k x.rows) from s kind content) other) (cases_key key k)
+
+      take_ack_at : (s top : Stamp) → In (letters_of key t.world.letters) (AckL from.0 (epoch_of x) (tag_of s) (tag_of top)) → (o : Option Waits) → (row_at key x.rows).pending ≡ o →
+          Owes V (view key t) parts key x (has_copied x key) (row_at key x.rows) (here V key t parts own agrees tok x alive) (on_ack_pending o x.id (members_of x) (row_at key x.rows) from s top) []
+          (told V (view key t) parts key x (has_copied x key) (row_at key x.rows) (here V key t parts own agrees tok x alive) (on_ack_pending o x.id (members_of x) (row_at key x.rows) from s top))
+      take_ack_at s top letter None e = quiet_step V (view key t) parts key x (has_copied x key) (row_at key x.rows) (here V key t parts own agrees tok x alive)
+      take_ack_at s top letter (Some p) e =
+          ack_step V (view key t) parts key x (has_copied x key) (row_at key x.rows) (here V key t parts own agrees tok x alive) from s top p e (row_shaped (Some p) e) (row_update p e).answer letter member
+          (members_are V key t parts own agrees tok x alive some) (eqb (tag_of s) (tag_of p.stamp)) refl (eqb (tag_of top) (tag_of s)) refl
+
+      take_ack : (k : List ℕ) (s top : Stamp) → l.body ≡ AckBody k s top → (r : Row) → row_at k x.rows ≡ r → Owed x alive (row_step x k (on_ack x.id (members_of x) r from s top))
+      take_ack k s top is r at_r =
+          ⊎_elim
+          (λ (same : key ≡ k).
+          let row = row_at key x.rows in
+          let letter : In (letters_of key t.world.letters) (AckL from.0 (epoch_of x) (tag_of s) (tag_of top)) = letter_sent key t.world.letters l (AckL from.0 (epoch_of x) (tag_of s) (tag_of top)) sent_so (rw (is, same_of key k same, sender, epoch) (inl refl)) in
+          let r_is : row ≡ r = ap (λ (j : List ℕ). row_at j x.rows) same ∙ at_r in
+          subst (λ (k : List ℕ). Owed x alive (row_step x k (on_ack x.id (members_of x) r from s top))) same
+          (subst (λ (r : Row). Owed x alive (row_step x key (on_ack x.id (members_of x) r from s top))) r_is
+          (own_told V (view key t) parts key x (here V key t parts own agrees tok x alive) (on_ack x.id (members_of x) row from s top) _ (same_after_ack x.id (members_of x) row from s top) refl (take_ack_at s top letter row.pending refl))))
+          (λ (other : key ≢ k). other_told V (view key t) parts key x (here V key t parts own agrees tok x alive) k (on_ack x.id (members_of x) r from s top) other) (cases_key key k)
+
+      take_val : (k : List ℕ) (s : Stamp) → l.body ≡ ValBody k s → (r : Row) → row_at k x.rows ≡ r → Owed x alive (row_step x k (still (on_val r s)))
+      take_val k s is r at_r =
+          ⊎_elim
+          (λ (same : key ≡ k).
+          let row = row_at key x.rows in
+          let letter : In (letters_of key t.world.letters) (Val from.0 (epoch_of x) (tag_of s)) = letter_sent key t.world.letters l (Val from.0 (epoch_of x) (tag_of s)) sent_so (rw (is, same_of key k same, sender, epoch) (inl refl)) in
+          let r_is : row ≡ r = ap (λ (j : List ℕ). row_at j x.rows) same ∙ at_r in
+          subst (λ (k : List ℕ). Owed x alive (row_step x k (still (on_val r s)))) same
+          (subst (λ (r : Row). Owed x alive (row_step x key (still (on_val r s)))) r_is
+          (own_told V (view key t) parts key x (here V key t parts own agrees tok x alive) (still (on_val row s)) [] (same_after_val row s) refl
+          (val_step V (view key t) parts key x (has_copied x key) row (here V key t parts own agrees tok x alive) from s (eqb (tag_of row.stamp) (tag_of s)) refl letter))))
+          (λ (other : key ≢ k). other_told V (view key t) parts key x (here V key t parts own agrees tok x alive) k (still (on_val r s)) other) (cases_key key k)
+
+      receive : GivesOwed → TakesOwed → (body : Body) → l.body ≡ body → Owed x alive (received body x from)
+      receive gives takes_so (InvBody k s kind content) is = take_inv k s kind content is
+      receive gives takes_so (AckBody k s top) is = found_step V (view key t) parts key x (here V key t parts own agrees tok x alive) k (λ row. on_ack x.id (members_of x) row from s top) (take_ack k s top is) (find_row k x.rows) refl
+      receive gives takes_so (ValBody k s) is = found_step V (view key t) parts key x (here V key t parts own agrees tok x alive) k (λ row. still (on_val row s)) (take_val k s is) (find_row k x.rows) refl
+      receive gives takes_so (CopyAsk after room) is = gives x alive from after room inside
+      receive gives takes_so (CopyGive after done items) is = takes_so x alive l from after done items sent_so sender epoch inside is
+      receive gives takes_so LeaseAsk is = idle_step V (view key t) parts key x (here V key t parts own agrees tok x alive)
+      receive gives takes_so (LeaseGive end) is = idle_step V (view key t) parts key x (here V key t parts own agrees tok x alive)
+      receive gives takes_so (Prepare ballot) is = idle_step V (view key t) parts key x (here V key t parts own agrees tok x alive)
+      receive gives takes_so (Promise ballot vote) is = idle_step V (view key t) parts key x (here V key t parts own agrees tok x alive)
+      receive gives takes_so (Accept ballot v) is = idle_step V (view key t) parts key x (here V key t parts own agrees tok x alive)
+      receive gives takes_so (AcceptedBody ballot) is = idle_step V (view key t) parts key x (here V key t parts own agrees tok x alive)
+      receive gives takes_so (Chosen v) is = idle_step V (view key t) parts key x (here V key t parts own agrees tok x alive)
+      receive gives takes_so (Activate v) is = idle_step V (view key t) parts key x (here V key t parts own agrees tok x alive)
+
+    -- a letter that is admitted, or dropped
+    admitted : GivesOwed → TakesOwed → (l : Wire) → In t.world.letters l → (from : NodeId) → l.from ≡ A.Node from → (b : Bool) → (is_addressed x l.to && (eqb l.epoch (epoch_of x) && is_other x from)) ≡ b → Owed x alive (cond b (received l.body x from) (idle x))
+    admitted gives takes_so l sent_so from sender false e = idle_step V (view key t) parts key x (here V key t parts own agrees tok x alive)
+    admitted gives takes_so l sent_so from sender true e =
+        let p = and_parts (is_addressed x l.to) (eqb l.epoch (epoch_of x) && is_other x from) e in
+        let q = and_parts (eqb l.epoch (epoch_of x)) (is_other x from) p.1 in
+        let r = and_parts (is_member from (members_of x)) (not (eqb from.0 x.id.0)) q.1 in
+        receive l sent_so from sender (eqb-true l.epoch (epoch_of x) q.0) r.0 gives takes_so l.body refl
+
+    receives_owed : GivesOwed → TakesOwed → (l : Wire) → In t.world.letters l → (a : Actor) → l.from ≡ a → Owed x alive (receives_from a x l)
+    receives_owed gives takes_so l sent_so (A.Manager m) sender = idle_step V (view key t) parts key x (here V key t parts own agrees tok x alive)
+    receives_owed gives takes_so l sent_so (A.Node from) sender = admitted gives takes_so l sent_so from sender (is_addressed x l.to && (eqb l.epoch (epoch_of x) && is_other x from)) refl
+
+  -- the event
+  pub take_effect : GivesOwed → TakesOwed → (n : ℕ) (a : Accepted) (o : Option Wire) → numbered n t.world.letters ≡ o → takes t.world o ≡ accepts a → IsEffects V key t parts own agrees tok (Take n) a
+  take_effect gives takes_so n a None got e = cc
+  take_effect gives takes_so n a (Some l) got e = by_to l.to e
+    where
+      by_to : (to : Actor) → live_actor t.world to (λ id node. acts t.world id (receives node l)) ≡ accepts a → IsEffects V key t parts own agrees tok (Take n) a
+      by_to (A.Manager m) e = cc
+      by_to (A.Node id) e = live_effect V key t parts own agrees tok (Take n) id (λ node. acts t.world id (receives node l)) a (λ x same alive e.
+          stepped_effect V key t parts own agrees tok (Take n) t.world.calls None id x same alive (receives x l) a (receives_owed x alive gives takes_so l (numbered_in n t.world.letters l got) l.from refl) e) e

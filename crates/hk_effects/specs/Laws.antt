@@ -1,0 +1,27 @@
+-- Every accepted event is, for each key, one effect of the replicated register, or two.
+use Rattle.std.specs.Prelude.{◌≡◌, ◌⊎◌, ℕ, List, Ok}
+use Rattle.hk_register.specs.Machine.{State}
+use Rattle.hk_register.specs.Effects.{Effect, Happens}
+use Rattle.hk_register.specs.Parts.{Parts}
+use Rattle.hk_world.specs.World.{WorldState}
+use Rattle.hk_world.specs.Steps.{Accepted, world_step}
+use Rattle.hk_world.specs.Sound.{IsEvent}
+use Rattle.hk_world.specs.declared.event.Event.{Event}
+use Rattle.hk_effects.specs.View.{Trace, view, traced}
+use Rattle.hk_effects.specs.Own.{IsOwn, IsTrace, Agrees}
+
+abbrev pub OneEffect : (ℕ → List ℕ) → State → State → Type 0
+OneEffect V old new = (e : Effect) × Happens V old e new
+
+-- one effect, or two one after the other. That nothing happens is an effect too, Quiet.
+abbrev pub Effects : (ℕ → List ℕ) → State → State → Type 0
+Effects V old new = OneEffect V old new ⊎ (mid : State) × OneEffect V old mid × OneEffect V mid new
+
+abbrev pub EventIsEffects : Type 0
+EventIsEffects =
+    (V : ℕ → List ℕ) (key : List ℕ) (t : Trace) (event : Event) (a : Accepted) →
+    world_step t.world event ≡ Ok a → IsEvent event → IsOwn t.world → Agrees t.world V → IsTrace t → Parts V (view key t) → Effects V (view key t) (view key (traced key t event a))
+
+-- each accepted event keeps the world's own invariant
+abbrev pub EventKeepsOwn : Type 0
+EventKeepsOwn = (w : WorldState) (event : Event) (a : Accepted) → world_step w event ≡ Ok a → IsEvent event → IsOwn w → IsOwn a.world

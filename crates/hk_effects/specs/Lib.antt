@@ -1,0 +1,5 @@
+pub mod View
+pub mod Own
+pub mod Laws
+pub mod Runs
+pub mod Orders

@@ -1,0 +1,42 @@
+//! Every event of a world is, for each key, effects of the replicated register.
+//!
+//! Nothing runs here: the crate is definitions and laws about them. `specs/View.antt` says what one key has of a world: the nodes'
+//! rows, the letters that tell of the key, and what grows with the run, its marks, updates and history. Whatever event a world
+//! accepts, the key sees one effect of `hk_register`, or two. So the laws of the register hold of every run of a world, and the
+//! order that is printed of a key is legal: no premise is left, since the world refuses what would break one.
+#![tactic(auto)]
+
+ghost use Rattle.hk_effects.specs.Laws.{EventIsEffects, EventKeepsOwn};
+ghost use Rattle.hk_effects.specs.Orders.{OrdersAreLegal};
+ghost use Rattle.hk_effects.specs.Runs.{RunsKeepParts};
+
+use hk_register::printed_is_legal;
+use hk_world::worlds_stay_sound;
+
+/// Each accepted event is, for each key, one effect or two.
+pub fn event_is_effects()
+    ensures { EventIsEffects }
+{}
+
+/// Each accepted event keeps the world's own invariant.
+pub fn event_keeps_own()
+    ensures { EventKeepsOwn }
+{
+    worlds_stay_sound();
+}
+
+/// After every run of a world the register's invariant holds of each key.
+pub fn runs_keep_parts()
+    ensures { RunsKeepParts }
+{
+    event_is_effects();
+    worlds_stay_sound();
+}
+
+/// After every run of a world the order that is printed of a key is legal for the key's history.
+pub fn orders_are_legal()
+    ensures { OrdersAreLegal }
+{
+    runs_keep_parts();
+    printed_is_legal();
+}

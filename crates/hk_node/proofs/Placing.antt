@@ -1,0 +1,220 @@
+-- Rows that are put one after the other, in the order of their keys: each goes to its place, and back.
+use Rattle.std.proofs.Common.{◌≡◌, ◌≢◌, ℕ, List, [], ◌∷◌, ◌++◌, Bool, true, false, cond, ◌||◌, map, Option, Some, None, refl, sym, ap, ◌∙◌, arith, subst}
+use Rattle.std.specs.Option.{IsSome, is_some}
+use Rattle.std.specs.Ordering.{match_ordering, is_eq, ordering_reverse}
+use Rattle.std.specs.declared.cmp.Ordering.TheVariants.{Less, Greater}
+use Rattle.std.proofs.lemmas.Cmp.{nat_list_cmp_total}
+use Rattle.std.specs.List.{AllByRecursion, list_any, flat_map}
+use Rattle.std.specs.Map.{keys_of, remove_entry}
+use Rattle.std.specs.BTreeMap.{is_at}
+use Rattle.std.specs.List.Sorted.{IsStrictlySortedBy}
+use Rattle.std.proofs.lemmas.Bool.{false≢true}
+use Rattle.std.proofs.lemmas.List.Concat.{flat_map-cons}
+use Rattle.std.proofs.Common.{append_assoc}
+use Rattle.std.proofs.lemmas.List.{map-append}
+use Rattle.hk_copy.specs.Batches.{key_cmp}
+use Rattle.hk_key.specs.declared.row.Row.{Row}
+use Rattle.hk_node.specs.declared.replaced.Former.{Former}
+use Rattle.hk_node.specs.Rows.{Rows, find_row, put_row}
+use Rattle.hk_node.specs.Replaced.{IsReplaced, row_given_back, rows_given_back}
+use Rattle.hk_node.proofs.Order.{Key, Lt, Rising, same_key, same_not, same_of, key_itself, find_here, find_next, lt_ne, lt_ne_back, cases_key}
+
+abbrev pub Entry : Type 0
+Entry = Key × Row
+
+lt_gt : (a b : Key) → Lt a b → key_cmp b a ≡ Greater
+lt_gt a b l = nat_list_cmp_total.antisymm b a ∙ ap ordering_reverse l
+
+abbrev Above : Key → List Former → Type 0
+Above low former = AllByRecursion (λ f. Lt low f.key) former
+
+-- a row behind the first entry is given back behind it
+past_head : (h : Entry) (rs : Rows) (k : Key) (o : Option Row) → Lt h.0 k → row_given_back k o (h ∷ rs) ≡ h ∷ row_given_back k o rs
+past_head h rs k None lt = rw (same_not k h.0 (lt_ne_back h.0 k lt)) refl
+past_head h rs k (Some row) lt = rw (lt_gt h.0 k lt) refl
+
+pub all_past_head : (h : Entry) (rs : Rows) (former : List Former) → Above h.0 former → rows_given_back former (h ∷ rs) ≡ h ∷ rows_given_back former rs
+all_past_head h rs [] above = refl
+all_past_head h rs (f ∷ former) above = ap (row_given_back f.key f.row) (all_past_head h rs former above.1) ∙ past_head h (rows_given_back former rs) f.key f.row above.0
+
+-- of each entry what it has, and what it had; where these are the same the test may tell so
+module _ (from to : Entry → Row) (same : Entry → Bool) where
+  abbrev pub each_to : Rows → Rows
+  each_to rows = map (λ r. (r.0, to r)) rows
+
+  abbrev pub each_from : Rows → Rows
+  each_from rows = map (λ r. (r.0, from r)) rows
+
+  abbrev pub one_to : Entry → List Former
+  one_to r = cond (same r) [] (record { key = r.0; row = Some (to r) } ∷ [])
+
+  abbrev pub list_to : Rows → List Former
+  list_to [] = []
+  list_to (r ∷ rows) = cond (same r) (list_to rows) (record { key = r.0; row = Some (to r) } ∷ list_to rows)
+
+  pub list_is : (rows : Rows) → flat_map one_to rows ≡ list_to rows
+  list_is [] = refl
+  list_is (r ∷ rows) = flat_map-cons one_to r rows ∙ by_test (same r) (list_is rows)
+    where
+      by_test : (b : Bool) → flat_map one_to rows ≡ list_to rows →
+          cond b [] (record { key = r.0; row = Some (to r) } ∷ []) ++ flat_map one_to rows ≡ cond b (list_to rows) (record { key = r.0; row = Some (to r) } ∷ list_to rows)
+      by_test true more = more
+      by_test false more = ap (λ l. record { key = r.0; row = Some (to r) } ∷ l) more
+
+  above_list : (low : Key) (rows : Rows) → AllByRecursion (λ k. Lt low k) (keys_of rows) → Above low (list_to rows)
+  above_list low [] all = tt
+  above_list low (r ∷ rows) all = by_test (same r) (above_list low rows all.1)
+    where
+      by_test : (b : Bool) → Above low (list_to rows) → Above low (cond b (list_to rows) (record { key = r.0; row = Some (to r) } ∷ list_to rows))
+      by_test true more = more
+      by_test false more = (all.0, more)
+
+  keys_above : (low : Key) (rows : Rows) → AllByRecursion (λ k. Lt low k) (keys_of rows) → AllByRecursion (λ k. Lt low k) (map (λ (f : Former). f.key) (list_to rows))
+  keys_above low [] all = tt
+  keys_above low (r ∷ rows) all = by_test (same r) (keys_above low rows all.1)
+    where
+      by_test : (b : Bool) → AllByRecursion (λ k. Lt low k) (map (λ (f : Former). f.key) (list_to rows)) →
+          AllByRecursion (λ k. Lt low k) (map (λ (f : Former). f.key) (cond b (list_to rows) (record { key = r.0; row = Some (to r) } ∷ list_to rows)))
+      by_test true more = more
+      by_test false more = (all.0, more)
+
+  pub list_rises : (rows : Rows) → Rising rows → IsStrictlySortedBy key_cmp (map (λ (f : Former). f.key) (list_to rows))
+  unfolding IsStrictlySortedBy
+  list_rises [] rising = tt
+  list_rises (r ∷ rows) rising = by_test (same r) (list_rises rows rising.1)
+    where
+      by_test : (b : Bool) → IsStrictlySortedBy key_cmp (map (λ (f : Former). f.key) (list_to rows)) →
+          IsStrictlySortedBy key_cmp (map (λ (f : Former). f.key) (cond b (list_to rows) (record { key = r.0; row = Some (to r) } ∷ list_to rows)))
+      by_test true more = more
+      by_test false more = (keys_above r.0 rows rising.0, more)
+
+  there_lifted : (h : Entry) (rows : Rows) (former : List Former) → Above h.0 former → AllByRecursion (λ (f : Former). IsSome (find_row f.key rows)) former → AllByRecursion (λ (f : Former). IsSome (find_row f.key (h ∷ rows))) former
+  there_lifted h rows [] above all = tt
+  there_lifted h rows (f ∷ former) above all = (subst IsSome (sym (find_next f.key h rows (lt_ne_back h.0 f.key above.0))) all.0, there_lifted h rows former above.1 all.1)
+
+  pub list_there : (rows : Rows) → Rising rows → AllByRecursion (λ (f : Former). IsSome (find_row f.key rows)) (list_to rows)
+  unfolding IsStrictlySortedBy
+  list_there [] rising = tt
+  list_there (r ∷ rows) rising = by_test (same r) (there_lifted r rows (list_to rows) (above_list r.0 rows rising.0) (list_there rows rising.1))
+    where
+      by_test : (b : Bool) → AllByRecursion (λ (f : Former). IsSome (find_row f.key (r ∷ rows))) (list_to rows) →
+          AllByRecursion (λ (f : Former). IsSome (find_row f.key (r ∷ rows))) (cond b (list_to rows) (record { key = r.0; row = Some (to r) } ∷ list_to rows))
+      by_test true more = more
+      by_test false more = (ap is_some (find_here r.0 r rows refl), more)
+
+  module _ (told : (r : Entry) → same r ≡ true → from r ≡ to r) where
+    pub all_given : (rows : Rows) → Rising rows → rows_given_back (list_to rows) (each_from rows) ≡ each_to rows
+    unfolding IsStrictlySortedBy
+    all_given [] rising = refl
+    all_given (r ∷ rows) rising = by_test (same r) refl (all_past_head (r.0, from r) (each_from rows) (list_to rows) (above_list r.0 rows rising.0)
+        ∙ ap (λ l. (r.0, from r) ∷ l) (all_given rows rising.1))
+      where
+        by_test : (b : Bool) → same r ≡ b → rows_given_back (list_to rows) ((r.0, from r) ∷ each_from rows) ≡ (r.0, from r) ∷ each_to rows →
+            rows_given_back (cond b (list_to rows) (record { key = r.0; row = Some (to r) } ∷ list_to rows)) ((r.0, from r) ∷ each_from rows) ≡ (r.0, to r) ∷ each_to rows
+        by_test true e more = more ∙ ap (λ (x : Row). (r.0, x) ∷ each_to rows) (told r e)
+        by_test false e more = ap (put_row r.0 (to r)) more ∙ rw (key_itself r.0) refl
+
+    -- other keys keep what they have
+    pub others_given : (rows : Rows) (key : Key) → list_any (λ (f : Former). is_eq (key_cmp key f.key)) (list_to rows) ≡ false → find_row key (each_from rows) ≡ find_row key (each_to rows)
+    others_given [] key e = refl
+    others_given (r ∷ rows) key e = by_test (same r) refl e (others_given rows key)
+      where
+        both : from r ≡ to r → find_row key (each_from rows) ≡ find_row key (each_to rows) → find_row key ((r.0, from r) ∷ each_from rows) ≡ find_row key ((r.0, to r) ∷ each_to rows)
+        both is more = ap (λ (x : Row). find_row key ((r.0, x) ∷ each_from rows)) is ∙ ap (λ o. cond (same_key key r.0) (Some (to r)) o) more
+
+        by_other : (c : Bool) → same_key key r.0 ≡ c → (c || list_any (λ (f : Former). is_eq (key_cmp key f.key)) (list_to rows)) ≡ false →
+            (list_any (λ (f : Former). is_eq (key_cmp key f.key)) (list_to rows) ≡ false → find_row key (each_from rows) ≡ find_row key (each_to rows)) →
+            cond c (Some (from r)) (find_row key (each_from rows)) ≡ cond c (Some (to r)) (find_row key (each_to rows))
+        by_other true c none more = absurd (false≢true (sym none))
+        by_other false c none more = more none
+
+        by_test : (b : Bool) → same r ≡ b → list_any (λ (f : Former). is_eq (key_cmp key f.key)) (cond b (list_to rows) (record { key = r.0; row = Some (to r) } ∷ list_to rows)) ≡ false →
+            (list_any (λ (f : Former). is_eq (key_cmp key f.key)) (list_to rows) ≡ false → find_row key (each_from rows) ≡ find_row key (each_to rows)) →
+            find_row key ((r.0, from r) ∷ each_from rows) ≡ find_row key ((r.0, to r) ∷ each_to rows)
+        by_test true t none more = both (told r t) (more none)
+        by_test false t none more = by_other (same_key key r.0) refl none more
+
+-- ---- one turn of a list that is made piece by piece
+pub next_piece : {A B : Type 0} (f : A → List B) (made more : List B) (x : A) (xs : List A) (whole : List B) → made ++ flat_map f (x ∷ xs) ≡ whole → more ≡ made ++ f x → more ++ flat_map f xs ≡ whole
+next_piece f made more x xs whole e is = ap (λ l. l ++ flat_map f xs) is ∙ append_assoc made (f x) (flat_map f xs) ∙ ap (λ l. made ++ l) (sym (flat_map-cons f x xs)) ∙ e
+
+pub next_mapped : {A B C : Type 0} (g : B → C) (f : A → List B) (made more : List C) (x : A) (xs : List A) (whole : List C) → made ++ map g (flat_map f (x ∷ xs)) ≡ whole → more ≡ made ++ map g (f x) →
+    more ++ map g (flat_map f xs) ≡ whole
+next_mapped g f made more x xs whole e is = ap (λ l. l ++ map g (flat_map f xs)) is ∙ append_assoc made (map g (f x)) (map g (flat_map f xs))
+    ∙ ap (λ l. made ++ l) (sym (map-append g (f x) (flat_map f xs)) ∙ ap (map g) (sym (flat_map-cons f x xs))) ∙ e
+
+each_self : (rows : Rows) → map (λ (r : Entry). (r.0, r.1)) rows ≡ rows
+each_self [] = refl
+each_self (r ∷ rows) = ap (λ l. r ∷ l) (each_self rows)
+
+-- ---- the rows that were there, in the places of those that a step made
+module _ (step : Entry → Row) (same : Entry → Bool) (told : (r : Entry) → same r ≡ true → step r ≡ r.1) (changed : (r : Entry) → same r ≡ false → step r ≢ r.1) where
+  abbrev pub stepped : Rows → Rows
+  stepped rows = map (λ r. (r.0, step r)) rows
+
+  abbrev pub formers : Rows → List Former
+  formers rows = list_to step (λ r. r.1) same rows
+
+  pub news_put : (rows : Rows) → Rising rows → rows_given_back (list_to (λ r. r.1) step same rows) rows ≡ stepped rows
+  news_put rows rising = ap (rows_given_back (list_to (λ r. r.1) step same rows)) (sym (each_self rows)) ∙ all_given (λ r. r.1) step same (λ r e. sym (told r e)) rows rising
+
+  pub formers_put : (rows : Rows) → Rising rows → rows_given_back (formers rows) (stepped rows) ≡ rows
+  formers_put rows rising = all_given step (λ r. r.1) same told rows rising ∙ each_self rows
+
+  -- what is so of a former row at its key
+  abbrev IsFormer : Rows → Former → Type 0
+  IsFormer rows f = (find_row f.key rows ≡ f.row) × (find_row f.key (stepped rows) ≢ f.row) × IsSome (find_row f.key (stepped rows))
+
+  lifted : (h : Entry) (rows : Rows) (former : List Former) → Above h.0 former → AllByRecursion (IsFormer rows) former → AllByRecursion (IsFormer (h ∷ rows)) former
+  lifted h rows [] above all = tt
+  lifted h rows (f ∷ former) above all =
+      let ne : f.key ≢ h.0 = lt_ne_back h.0 f.key above.0 in
+      let past = find_next f.key (h.0, step h) (stepped rows) ne in (
+        (find_next f.key h rows ne ∙ all.0.0, (λ is. all.0.1 (sym past ∙ is)), subst IsSome (sym past) all.0.2),
+        lifted h rows former above.1 all.1,
+      )
+
+  pub formers_are : (rows : Rows) → Rising rows → AllByRecursion (IsFormer rows) (formers rows)
+  unfolding IsStrictlySortedBy
+  formers_are [] rising = tt
+  formers_are (r ∷ rows) rising = by_test (same r) refl (lifted r rows (formers rows) (above_list step (λ x. x.1) same r.0 rows rising.0) (formers_are rows rising.1))
+    where
+      here : find_row r.0 (stepped (r ∷ rows)) ≡ Some (step r)
+      here = find_here r.0 (r.0, step r) (stepped rows) refl
+
+      by_test : (b : Bool) → same r ≡ b → AllByRecursion (IsFormer (r ∷ rows)) (formers rows) →
+          AllByRecursion (IsFormer (r ∷ rows)) (cond b (formers rows) (record { key = r.0; row = Some r.1 } ∷ formers rows))
+      by_test true e more = more
+      by_test false e more = (
+        (find_here r.0 r rows refl, (λ is. changed r e (one_of (step r) r.1 (sym here ∙ is))), ap is_some here),
+        more,
+      )
+        where
+          one_of : (x y : Row) → Some x ≡ Some y → x ≡ y
+          one_of x y e = grind arith
+
+  each_of : (P Q : Former → Type 0) → ((f : Former) → P f → Q f) → (fs : List Former) → AllByRecursion P fs → AllByRecursion Q fs
+  each_of P Q h [] all = tt
+  each_of P Q h (f ∷ fs) all = (h f all.0, each_of P Q h fs all.1)
+
+  pub formers_replaced : (rows : Rows) → Rising rows → IsReplaced (formers rows) rows (stepped rows)
+  formers_replaced rows rising = record {
+    rising = list_rises step (λ r. r.1) same rows rising;
+    differ = each_of (IsFormer rows) (λ f. (find_row f.key rows ≡ f.row) × (find_row f.key (stepped rows) ≢ f.row)) (λ f h. (h.0, h.1)) (formers rows) (formers_are rows rising);
+    there = each_of (IsFormer rows) (λ f. IsSome (find_row f.key (stepped rows))) (λ f h. h.2) (formers rows) (formers_are rows rising);
+    others = λ key none. others_given step (λ r. r.1) same told rows key none ∙ ap (find_row key) (each_self rows);
+  }
+
+-- ---- a row behind all others
+lt_last : (low k : Key) (row : Row) (es rest : Rows) → AllByRecursion (λ x. Lt low x) (keys_of (es ++ (k, row) ∷ rest)) → Lt low k
+lt_last low k row [] rest all = all.0
+lt_last low k row (e ∷ es) rest all = lt_last low k row es rest all.1
+
+put_last : (k : Key) (row : Row) (es rest : Rows) → Rising (es ++ (k, row) ∷ rest) → put_row k row es ≡ es ++ (k, row) ∷ []
+unfolding IsStrictlySortedBy
+put_last k row [] rest rising = refl
+put_last k row (e ∷ es) rest rising = rw (lt_gt e.0 k (lt_last e.0 k row es rest rising.0)) (ap (λ l. e ∷ l) (put_last k row es rest rising.1))
+
+pub put_next : (k : Key) (row : Row) (es rest whole new : Rows) → es ++ (k, row) ∷ rest ≡ whole → Rising whole → new ≡ put_row k row es → new ++ rest ≡ whole
+put_next k row es rest whole new is rising put =
+    ap (λ l. l ++ rest) (put ∙ put_last k row es rest (subst Rising (sym is) rising)) ∙ append_assoc es ((k, row) ∷ []) rest ∙ is

@@ -1,0 +1,29 @@
+use Rattle.std.proofs.Common.{◌≡◌, ◌∙◌, sym, ap, subst, ◌++◌, None, rules}
+use Rattle.hk_key.specs.Table.{resend}
+use Rattle.hk_node.specs.Node.{NodeState}
+use Rattle.hk_node.specs.Sends.{at_view, sent}
+use Rattle.hk_node.specs.Steps.{resent}
+use Rattle.hk_node.specs.Stepped.{Stepped, idle}
+use Rattle.hk_node.proofs.Finishing.{Inside, found_now, idle_as}
+use Rattle.hk_node.proofs.Again.{resent_is, resent_none, resent_unseen, resent_told}
+use Rattle.hk_node.proofs.node.Node.resend.Goals as goal
+
+pub returns-in_default-clause-out : goal.returns-in_default-clause-out
+returns-in_default-clause-out c = idle_as c.idle.result c.args.self.now _
+    (subst (λ (n : NodeState). resent n c.args.key.now ≡ idle n) c.self.view_is (resent_unseen _ c.args.key.now c.self.invariant c.in_default.is)) c.idle.ensures
+
+pub returns-in_default-get-clause-out : goal.returns-in_default-get-clause-out
+returns-in_default-get-clause-out c = idle_as c.idle-in_default-get.result c.args.self.now _
+    (resent_none c.args.self.now c.args.key.now (found_now _ c.args.self.now c.args.key.now None c.self.view_is c.in_default-get.ensures.value)) c.idle-in_default-get.ensures
+
+pub returns-clause-node : goal.returns-clause-node
+returns-clause-node c = sym (ap (λ (s : Stepped). s.node)
+    (resent_is c.args.self.now c.args.key.now c.in-Some-get.row.now (found_now _ c.args.self.now c.args.key.now _ c.self.view_is c.in-Some-get.ensures.value)))
+
+pub returns-clause-out : goal.returns-clause-out
+returns-clause-out c = resent_told _ c.args.self.now c.in-Some.view c.args.key.now c.in-Some-get.row.now c.still.result
+    (record { ok = c.self.invariant; same = c.self.view_is; seen = search rules })
+    (found_now _ c.args.self.now c.args.key.now _ c.self.view_is c.in-Some-get.ensures.value)
+    (c.still.ensures.letters ∙ c.in_ok-post_sent.ensures ∙ ap (λ l. l ++ sent (at_view c.self.inside.id c.in-Some.view) c.args.key.now c.in-Some-get.row.now c.resend-out.result.send) c.new-letters.ensures
+    ∙ ap (λ o. sent (at_view c.self.inside.id c.in-Some.view) c.args.key.now c.in-Some-get.row.now o.send) c.resend-out.ensures)
+    (c.still.ensures.replies ∙ c.new.ensures) c.still.ensures.installed c.still.ensures.beside c.still.ensures.rows

@@ -1,0 +1,15 @@
+use Rattle.std.proofs.Common.{◌≡◌, ◌∙◌, sym, ap, None, Some, Option, List, ℕ, Bool}
+use Rattle.hk_base.specs.declared.call.Content.{Content}
+use Rattle.hk_base.specs.declared.letter.CopyItem.{CopyItem}
+use Rattle.hk_node.proofs.Finishing.{found_now}
+use Rattle.hk_node.proofs.Copied.{item_made, not_there}
+use Rattle.hk_node.proofs.node.rows.NodeRows.item.Goals as goal
+
+pub unreachable-requires : goal.unreachable-requires
+unreachable-requires c = not_there c.args.key.now c.args.self.now.rows c.requires.there (found_now _ c.args.self.now c.args.key.now None c.self.view_is c.in_default.ensures.value)
+
+pub returns : goal.returns
+returns c = record {
+  same = item_made c.args.key.now c.args.self.now.rows c.in-Some.row.now c.in_ok-key.key c.is_valid.result c.in_ok-content.content
+      (found_now _ c.args.self.now c.args.key.now _ c.self.view_is c.in-Some.ensures.value) c.in_ok-key.ensures c.is_valid.ensures c.in_ok-content.ensures;
+}

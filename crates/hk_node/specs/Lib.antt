@@ -1,0 +1,15 @@
+pub mod Rows
+pub mod Node
+pub mod Sends
+pub mod Stepped
+pub mod Calls
+pub mod Copies
+pub mod Copying
+pub mod Steps
+pub mod Sound
+pub mod Replaced
+pub mod Outs
+pub mod Decided
+pub mod Viewed
+pub mod Made
+pub mod Laws

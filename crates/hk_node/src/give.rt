@@ -1,0 +1,127 @@
+//! Rows that are put in their places.
+
+ghost use Rattle.std.specs.Prelude.{◌≡◌, ◌∷◌, [], Some, None, IsSome, IfOk, OnOk, OnErr, map};
+ghost use Rattle.std.specs.List.{AllByRecursion};
+ghost use Rattle.std.specs.List.Sorted.{IsStrictlySortedBy};
+ghost use Rattle.hk_copy.specs.Batches.{key_cmp};
+ghost use Rattle.hk_node.specs.Rows.{find_row, put_row, with_row};
+ghost use Rattle.hk_node.specs.Replaced.{row_given_back, rows_given_back, replaced_by};
+
+use crate::replaced::{Former, FormerRows};
+use hk_base::{Key, Memory};
+use hk_key::Row;
+use std::alloc::Global;
+use std::collections::BTreeMap;
+use std::mem;
+
+/// Puts a row in place of the one that is there, which is given.
+pub(crate) fn swap_row(rows: &mut BTreeMap<Key, Row>, key: &Key, row: Row) -> Row
+    requires { IsSome (find_row key.now rows.old.entries) }
+    ensures put { rows.new.entries ≡ put_row key.now row rows.old.entries }
+    ensures former { Some result ≡ find_row key.now rows.old.entries }
+{
+    match rows.get_mut(key) {
+        Some(place) => mem::replace(place, row),
+        None => unreachable!(),
+    }
+}
+
+// Puts a row in place of the one that is there.
+fn replace_row(
+    rows: &mut BTreeMap<Key, Row>,
+    alloc: Global,
+    key: &Key,
+    row: Row,
+) -> Result<FormerRows, Memory>
+    requires { IsSome (find_row key.now rows.old.entries) }
+    ensures put { OnOk result (rows.new.entries ≡ put_row key.now row rows.old.entries) }
+    ensures former { IfOk result (λ former. former ≡ record { key = key.now; row = find_row key.now rows.old.entries } ∷ []) }
+    ensures err { OnErr result (rows.new.entries ≡ rows.old.entries) }
+{
+    let name = key.share()?;
+    let mut former = Vec::with_capacity(alloc, 1)?;
+    let row = swap_row(rows, key, row);
+    former.push_reserved(Former {
+        key: name,
+        row: Some(row),
+    });
+    Ok(FormerRows::from_vec(former))
+}
+
+// Puts a row at a key that has none.
+fn add_row(
+    rows: &mut BTreeMap<Key, Row>,
+    alloc: Global,
+    key: &Key,
+    row: Row,
+) -> Result<FormerRows, Memory>
+    requires { find_row key.now rows.old.entries ≡ None }
+    ensures put { OnOk result (rows.new.entries ≡ put_row key.now row rows.old.entries) }
+    ensures former { IfOk result (λ former. former ≡ record { key = key.now; row = find_row key.now rows.old.entries } ∷ []) }
+    ensures err { OnErr result (rows.new.entries ≡ rows.old.entries) }
+{
+    let mut former = FormerRows::new(alloc);
+    let name = key.share()?;
+    former.push(Former {
+        key: name,
+        row: None,
+    })?;
+    let name = key.share()?;
+    rows.insert(name, row)?;
+    Ok(former)
+}
+
+/// Puts a row at its key, where the same does not stand there. What it took the place of is given.
+pub(crate) fn put_row(
+    rows: &mut BTreeMap<Key, Row>,
+    alloc: Global,
+    key: &Key,
+    row: Row,
+) -> Result<FormerRows, Memory>
+    ensures put { OnOk result (rows.new.entries ≡ with_row key.now row rows.old.entries) }
+    ensures former { IfOk result (λ former. former ≡ replaced_by key.now row rows.old.entries) }
+    ensures err { OnErr result (rows.new.entries ≡ rows.old.entries) }
+{
+    match rows.get(key) {
+        Some(now) => {
+            if now.is_same(&row) {
+                return Ok(FormerRows::new(alloc));
+            }
+            replace_row(rows, alloc, key, row)
+        }
+        None => {
+            if Row::first().is_same(&row) {
+                return Ok(FormerRows::new(alloc));
+            }
+            add_row(rows, alloc, key, row)
+        }
+    }
+}
+
+// Gives one row back.
+fn give_row_back(rows: &mut BTreeMap<Key, Row>, former: Former)
+    requires { IsSome (find_row former.key rows.old.entries) }
+    ensures { rows.new.entries ≡ row_given_back former.key former.row rows.old.entries }
+{
+    let Former { key, row } = former;
+    match row {
+        Some(row) => {
+            swap_row(rows, &key, row);
+        }
+        None => {
+            rows.remove(&key);
+        }
+    }
+}
+
+/// Gives former rows back, from the last to the first.
+pub(crate) fn give_rows_back(rows: &mut BTreeMap<Key, Row>, former: Vec<Former>)
+    requires rising { IsStrictlySortedBy key_cmp (map (λ f. f.key) former.items) }
+    requires there { AllByRecursion (λ f. IsSome (find_row f.key rows.old.entries)) former.items }
+    ensures { rows.new.entries ≡ rows_given_back former.items rows.old.entries }
+{
+    let mut former = former;
+    while let Some(last) = former.pop() {
+        give_row_back(rows, last);
+    }
+}

@@ -1,0 +1,28 @@
+//! One replica of a group: a node, with its view, its lease, its clock and its rows, and what it does with a call, a
+//! letter or an order of its operator.
+//!
+//! A node is a machine without threads: an event in, letters and replies out. What each event does is a definition,
+//! `specs/Steps.antt`, over the table of one row that `hk_key` has; [`Node::step`] equals it, or answers that memory is
+//! wanting and leaves the node as it was. Beside its letters and replies a step tells which rows it replaced, so that
+//! whoever makes the step may show what changed, or take it back.
+#![tactic(auto)]
+
+mod decide;
+mod event;
+mod give;
+mod laws;
+mod letters;
+mod node;
+mod out;
+mod replaced;
+#[cfg(test)]
+mod tests;
+mod viewed;
+
+pub use event::NodeEvent;
+pub use laws::{
+    calls_raise_stamps, calls_wait_or_are_answered, steps_keep_nodes, told_were_waiting,
+};
+pub use node::Node;
+pub use out::NodeOut;
+pub use replaced::{Beside, Former, FormerRows, Replaced};

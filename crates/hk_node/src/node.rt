@@ -1,0 +1,187 @@
+//! A node and its steps.
+
+ghost use Rattle.std.specs.Prelude.{◌≡◌, ◌≤◌, IfOk, OnOk, OnErr, Some, IsSome, map, true};
+ghost use Rattle.std.specs.List.{AllByRecursion};
+ghost use Rattle.std.specs.List.Sorted.{IsStrictlySortedBy};
+ghost use Rattle.hk_copy.specs.Batches.{key_cmp};
+ghost use Rattle.std.specs.Option.{option_copied};
+ghost use Rattle.hk_base.specs.declared.time.TheConstants.{MAX_TIME};
+
+mod calls;
+mod copy;
+mod copying;
+mod finish;
+mod install;
+mod letter;
+mod merging;
+mod receive;
+mod rows;
+mod step;
+
+use crate::event::NodeEvent;
+use crate::give::give_rows_back;
+use crate::out::NodeOut;
+use crate::replaced::{Beside, Replaced};
+use hk_base::{CallNo, Key, Letter, Memory, NodeId, Op, View};
+use hk_key::Row;
+use std::alloc::Global;
+use std::collections::BTreeMap;
+use std::marker::Model;
+
+/// A node of a group that has no managers.
+#[derive(Drop)]
+pub struct Node {
+    id: NodeId,
+    view: Option<View>,
+    ready: bool,
+    cursor: Option<Key>,
+    granted: u64,
+    clock: u64,
+    skew: u64,
+    rows: BTreeMap<Key, Row>,
+}
+
+impl Model for Node {
+    ghost use Rattle.hk_node.specs.Node.{NodeState};
+    ghost use Rattle.hk_node.specs.Sound.{IsNode};
+
+    ghost Value = { NodeState };
+
+    ghost view = { λ n. record { id = n.id; view = n.view; ready = n.ready; cursor = n.cursor; granted = n.granted; clock = n.clock; skew = n.skew; rows = n.rows.entries } };
+
+    ghost invariant = { λ n. IsNode (record { id = n.id; view = n.view; ready = n.ready; cursor = n.cursor; granted = n.granted; clock = n.clock; skew = n.skew; rows = n.rows.entries }) };
+}
+
+impl Node {
+    ghost use Rattle.hk_base.specs.View.{IsView};
+    ghost use Rattle.hk_base.specs.Range.{IsLetter, IsRoom};
+    ghost use Rattle.hk_node.specs.Node.{NodeState, epoch_of, is_member};
+    ghost use Rattle.hk_node.specs.Rows.{find_row};
+    ghost use Rattle.hk_node.specs.Made.{founder, joiner};
+    ghost use Rattle.hk_node.specs.Calls.{called};
+    ghost use Rattle.hk_node.specs.Copies.{asks_copy};
+    ghost use Rattle.hk_node.specs.Steps.{node_step, receives, resent, replayed, installs, ticks, grants};
+    ghost use Rattle.hk_node.specs.Sound.{IsNode, IsEvent};
+    ghost use Rattle.hk_node.specs.Replaced.{given_back};
+    ghost use Rattle.hk_node.specs.Outs.{IsOutOf};
+
+    /// A founder of the group: it is a member of the first view, is ready, and has a lease that ends at `lease_end`. Clocks
+    /// begin at 1, and differ by `skew` at most. It takes no memory.
+    pub fn founder(alloc: Global, id: NodeId, view: View, lease_end: u64, skew: u64) -> Node
+        requires view { IsView view }
+        requires member { is_member id view.members ≡ true }
+        requires lease_end { lease_end ≤ MAX_TIME }
+        requires skew { skew ≤ MAX_TIME }
+        ensures { result ≡ founder id view lease_end skew }
+    {
+        Node {
+            id,
+            view: Some(view),
+            ready: true,
+            cursor: None,
+            granted: lease_end,
+            clock: 1,
+            skew,
+            rows: BTreeMap::new(alloc),
+        }
+    }
+
+    /// A node that is to join: it has no view and no rows, and is not ready. It takes no memory.
+    pub fn joiner(alloc: Global, id: NodeId, skew: u64) -> Node
+        requires { skew ≤ MAX_TIME }
+        ensures { result ≡ joiner id skew }
+    {
+        Node {
+            id,
+            view: None,
+            ready: false,
+            cursor: None,
+            granted: 0,
+            clock: 1,
+            skew,
+            rows: BTreeMap::new(alloc),
+        }
+    }
+
+    /// The clock reads `now`, in milliseconds: it keeps the greater reading. It takes no memory.
+    pub fn tick(&mut self, now: u64)
+        requires { now ≤ MAX_TIME }
+        ensures { self.new ≡ (ticks self.old now).node }
+    {
+        self.clock = self.clock.max(now);
+    }
+
+    /// A lease is granted that ends at `end`, in milliseconds: the greater end is kept. It takes no memory.
+    pub fn grant(&mut self, end: u64)
+        requires { end ≤ MAX_TIME }
+        ensures { self.new ≡ (grants self.old end).node }
+    {
+        self.granted = self.granted.max(end);
+    }
+
+    /// Gives back what a step replaced: behind that step this makes the node as it was before. It takes no memory.
+    pub fn give_back(&mut self, replaced: Replaced)
+        requires rising { IsStrictlySortedBy key_cmp (map (λ f. f.key) replaced.rows) }
+        requires there { AllByRecursion (λ f. IsSome (find_row f.key self.old.rows)) replaced.rows }
+        requires node { IsNode (given_back replaced self.old) }
+        ensures { self.new ≡ given_back replaced self.old }
+    {
+        let Replaced { rows, beside } = replaced;
+        give_rows_back(&mut self.rows, rows.into_vec());
+        match beside {
+            Beside::Nothing => {}
+            Beside::Clock(now) => self.clock = now,
+            Beside::Lease(end) => self.granted = end,
+            Beside::View(view) => self.view = view,
+            Beside::Cursor(cursor) => {
+                self.ready = false;
+                self.cursor = cursor;
+            }
+        }
+    }
+
+    /// The row of the key. None where nothing has touched it.
+    pub fn row(&self, key: &Key) -> Option<&Row>
+        ensures { option_copied result ≡ find_row key.now self.now.rows }
+    {
+        self.rows.get(key)
+    }
+
+    /// The epoch of the view that is installed, 0 where there is none.
+    pub fn epoch(&self) -> u64
+        ensures { result ≡ epoch_of self.now }
+    {
+        match &self.view {
+            Some(view) => view.epoch,
+            None => 0,
+        }
+    }
+
+    /// The view that is installed, if any.
+    pub fn view(&self) -> Option<&View>
+        ensures { option_copied result ≡ self.now.view }
+    {
+        self.view.as_ref()
+    }
+
+    /// Whether the node has all rows: it is a founder, or has copied them.
+    pub fn ready(&self) -> bool
+        ensures { result ≡ self.now.ready }
+    {
+        self.ready
+    }
+
+    /// The greatest end of a lease that was granted.
+    pub fn granted(&self) -> u64
+        ensures { result ≡ self.now.granted }
+    {
+        self.granted
+    }
+
+    /// The clock.
+    pub fn now(&self) -> u64
+        ensures { result ≡ self.now.clock }
+    {
+        self.clock
+    }
+}

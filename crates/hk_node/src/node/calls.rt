@@ -1,0 +1,158 @@
+//! Calls, and updates that are sent again.
+
+ghost use Rattle.std.specs.Prelude.{◌≡◌, true, false, None, Some, IfOk, OnOk, OnErr};
+ghost use Rattle.hk_base.specs.Range.{IsWithin};
+ghost use Rattle.hk_key.specs.Table.{begin};
+ghost use Rattle.hk_node.specs.Node.{members_of};
+ghost use Rattle.hk_node.specs.Rows.{find_row};
+ghost use Rattle.hk_node.specs.Stepped.{row_step};
+ghost use Rattle.hk_node.specs.Calls.{called, at_lease, lease_end};
+ghost use Rattle.hk_node.specs.Decided.{decided, IsFit, is_invalid};
+ghost use Rattle.hk_base.specs.declared.call.CallNo.{CallNo};
+ghost use Rattle.hk_node.specs.Steps.{resent, replayed};
+ghost use Rattle.hk_node.specs.Outs.{IsOutOf};
+
+use super::Node;
+use super::finish::{answers, idle, still};
+use crate::decide::{Decision, decide};
+use crate::letters::post_sent;
+use crate::out::NodeOut;
+use hk_base::{
+    Answer, CallNo, Content, Key, Kind, Letters, Memory, Op, Replies, Reply, Stamp, State, Why,
+};
+use hk_key::Row;
+use std::alloc::Global;
+
+fn is_invalid(state: State) -> bool
+    ensures { result ≡ is_invalid state }
+{
+    state == State::Invalid
+}
+
+impl Node {
+    // The end of the lease that it has: a node that is not ready has none.
+    fn lease_end(&self) -> u64
+        ensures { result ≡ lease_end self.now }
+    {
+        if self.ready { self.granted } else { 0 }
+    }
+
+    // An update begins at a Valid row. Of the row that was there nothing stays.
+    fn begin(
+        &mut self,
+        alloc: Global,
+        key: &Key,
+        reply: Reply,
+        stamp: Stamp,
+        kind: Kind,
+        content: Content,
+    ) -> Result<NodeOut, Memory>
+        requires ready { self.old.ready ≡ true }
+        requires within { IsWithin stamp }
+        ensures node { OnOk result (self.new ≡ (row_step self.old key.now (begin self.old.id (members_of self.old) reply stamp kind (Some content))).node) }
+        ensures out { IfOk result (λ out. IsOutOf out self.old (row_step self.old key.now (begin self.old.id (members_of self.old) reply stamp kind (Some content)))) }
+        ensures err { OnErr result (self.new ≡ self.old) }
+    {
+        let Some(view) = &self.view else {
+            unreachable!()
+        };
+        let mut row = Row::first();
+        let out = row.begin(alloc, self.id, view, reply, stamp, kind, Some(content))?;
+        self.finish(alloc, key, row, out)
+    }
+
+    // What becomes of the call at its row.
+    fn decide(&self, alloc: Global, key: &Key, op: &Op) -> Result<Decision, Memory>
+        ensures step { IfOk result (λ decision. (call : CallNo) → decided decision self.now call key.now ≡ at_lease false self.now call key.now op.now) }
+        ensures fit { IfOk result IsFit }
+    {
+        match self.rows.get(key) {
+            Some(row) => decide(alloc, self.id, op, row),
+            None => decide(alloc, self.id, op, &Row::first()),
+        }
+    }
+
+    /// Serves a call, or begins it. The lease is looked at before the row, the row before what the operation does, that
+    /// before the limit of versions, and all before memory is taken.
+    pub fn call(
+        &mut self,
+        alloc: Global,
+        call: CallNo,
+        key: &Key,
+        op: &Op,
+    ) -> Result<NodeOut, Memory>
+        ensures node { OnOk result (self.new ≡ (called self.old call key.now op.now).node) }
+        ensures out { IfOk result (λ out. IsOutOf out self.old (called self.old call key.now op.now)) }
+        ensures err { OnErr result (self.new ≡ self.old) }
+    {
+        let end = self.lease_end();
+        let now = self.clock;
+        if end < now + self.skew {
+            return answers(alloc, key, call, Answer::Busy(Why::Lease { end, now }));
+        }
+        match self.decide(alloc, key, op)? {
+            Decision::Now(answer) => answers(alloc, key, call, answer),
+            Decision::Begin {
+                stamp,
+                kind,
+                content,
+                answer,
+            } => self.begin(alloc, key, Reply { call, answer }, stamp, kind, content),
+        }
+    }
+
+    /// Sends INV of the key's pending update again, to those that have not acknowledged it.
+    pub fn resend(&mut self, alloc: Global, key: &Key) -> Result<NodeOut, Memory>
+        ensures node { OnOk result (self.new ≡ (resent self.old key.now).node) }
+        ensures out { IfOk result (λ out. IsOutOf out self.old (resent self.old key.now)) }
+        ensures err { OnErr result (self.new ≡ self.old) }
+    {
+        let Some(view) = &self.view else {
+            return Ok(idle(alloc));
+        };
+        let Some(row) = self.rows.get(key) else {
+            return Ok(idle(alloc));
+        };
+        let mut letters = Letters::new(alloc);
+        let out = row.resend();
+        post_sent(&mut letters, self.id, view, key, row, &out.send)?;
+        Ok(still(alloc, letters, Replies::new(alloc)))
+    }
+
+    // Replays a row.
+    fn replay_row(&mut self, alloc: Global, key: &Key, row: Row) -> Result<NodeOut, Memory>
+        requires ready { self.old.ready ≡ true }
+        requires there { find_row key.now self.old.rows ≡ Some row }
+        ensures node { OnOk result (self.new ≡ (replayed self.old key.now).node) }
+        ensures out { IfOk result (λ out. IsOutOf out self.old (replayed self.old key.now)) }
+        ensures err { OnErr result (self.new ≡ self.old) }
+    {
+        let Some(view) = &self.view else {
+            unreachable!()
+        };
+        let mut row = row;
+        let out = row.replay(alloc, self.id, view)?;
+        self.finish(alloc, key, row, out)
+    }
+
+    /// Sends the update of an Invalid row again, as its coordinator did. Only a ready node does.
+    pub fn replay(&mut self, alloc: Global, key: &Key) -> Result<NodeOut, Memory>
+        ensures node { OnOk result (self.new ≡ (replayed self.old key.now).node) }
+        ensures out { IfOk result (λ out. IsOutOf out self.old (replayed self.old key.now)) }
+        ensures err { OnErr result (self.new ≡ self.old) }
+    {
+        if !self.ready {
+            return Ok(idle(alloc));
+        }
+        match self.rows.get(key) {
+            Some(row) => {
+                if !is_invalid(row.state) {
+                    return Ok(idle(alloc));
+                }
+                let row = row.copy(alloc)?;
+                self.replay_row(alloc, key, row)
+            }
+            None => Ok(idle(alloc)),
+        }
+    }
+}

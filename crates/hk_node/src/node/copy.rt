@@ -1,0 +1,80 @@
+//! Copies of nodes, which share keys and contents.
+
+ghost use Rattle.std.specs.Prelude.{◌≡◌, IfOk, OnOk};
+ghost use Rattle.hk_node.specs.Rows.{put_row};
+
+use super::Node;
+use hk_base::{Key, Memory, View};
+use hk_key::Row;
+use std::alloc::Global;
+use std::collections::BTreeMap;
+
+// Adds a copy of a row.
+fn add_copy(
+    rows: &mut BTreeMap<Key, Row>,
+    alloc: Global,
+    key: &Key,
+    row: &Row,
+) -> Result<(), Memory>
+    ensures { OnOk result (rows.new.entries ≡ put_row key.now row.now rows.old.entries) }
+{
+    let name = key.share()?;
+    let row = row.copy(alloc)?;
+    rows.insert(name, row)?;
+    Ok(())
+}
+
+fn copy_rows(alloc: Global, rows: &BTreeMap<Key, Row>) -> Result<BTreeMap<Key, Row>, Memory>
+    ensures { IfOk result (λ same. same.entries ≡ rows.now.entries) }
+{
+    let mut same = BTreeMap::new(alloc);
+    for (key, row) in rows.iter() {
+        add_copy(&mut same, alloc, key, row)?;
+    }
+    Ok(same)
+}
+
+fn copy_view(alloc: Global, view: &Option<View>) -> Result<Option<View>, Memory>
+    ensures { IfOk result (λ same. same ≡ view.now) }
+{
+    match view {
+        Some(view) => {
+            let same = view.copy(alloc)?;
+            Ok(Some(same))
+        }
+        None => Ok(None),
+    }
+}
+
+fn copy_key(key: &Option<Key>) -> Result<Option<Key>, Memory>
+    ensures { IfOk result (λ same. same ≡ key.now) }
+{
+    match key {
+        Some(key) => {
+            let same = key.share()?;
+            Ok(Some(same))
+        }
+        None => Ok(None),
+    }
+}
+
+impl Node {
+    /// An equal node, which shares keys and contents.
+    pub fn copy(&self, alloc: Global) -> Result<Node, Memory>
+        ensures { IfOk result (λ node. node ≡ self.now) }
+    {
+        let view = copy_view(alloc, &self.view)?;
+        let cursor = copy_key(&self.cursor)?;
+        let rows = copy_rows(alloc, &self.rows)?;
+        Ok(Node {
+            id: self.id,
+            view,
+            ready: self.ready,
+            cursor,
+            granted: self.granted,
+            clock: self.clock,
+            skew: self.skew,
+            rows,
+        })
+    }
+}

@@ -1,0 +1,90 @@
+//! A joiner asks for copies of rows, and a ready node gives them.
+
+ghost use Rattle.std.specs.Prelude.{◌≡◌, true, IfOk, OnOk, OnErr};
+ghost use Rattle.hk_base.specs.Range.{IsRoom};
+ghost use Rattle.hk_node.specs.Node.{is_other};
+ghost use Rattle.hk_node.specs.Copies.{told, asks_copy, gives_copy};
+ghost use Rattle.hk_node.specs.Outs.{IsOutOf};
+
+use super::Node;
+use super::finish::{idle, still};
+use crate::letters::post;
+use crate::out::NodeOut;
+use hk_base::{Body, Key, Letters, Memory, NodeId, Replies};
+use hk_copy::batch;
+use std::alloc::Global;
+
+/// The same key, if there is one.
+pub(super) fn share_key(key: &Option<Key>) -> Result<Option<Key>, Memory>
+    ensures { IfOk result (λ same. same ≡ key.now) }
+{
+    match key {
+        Some(key) => {
+            let same = key.share()?;
+            Ok(Some(same))
+        }
+        None => Ok(None),
+    }
+}
+
+impl Node {
+    // One letter is sent to another member, and nothing changes.
+    fn tell(&self, alloc: Global, to: NodeId, body: Body) -> Result<NodeOut, Memory>
+        requires other { is_other self.now to ≡ true }
+        ensures out { IfOk result (λ out. IsOutOf out self.now (told self.now body to)) }
+    {
+        let Some(view) = &self.view else {
+            unreachable!()
+        };
+        let mut letters = Letters::new(alloc);
+        post(&mut letters, self.id, view, to, body)?;
+        Ok(still(alloc, letters, Replies::new(alloc)))
+    }
+
+    /// Asks another member for the rows behind the last one that was copied. A ready node does not.
+    pub fn ask_copy(&mut self, alloc: Global, from: NodeId, room: u8) -> Result<NodeOut, Memory>
+        requires { IsRoom room }
+        ensures node { OnOk result (self.new ≡ (asks_copy self.old from room).node) }
+        ensures out { IfOk result (λ out. IsOutOf out self.old (asks_copy self.old from room)) }
+        ensures err { OnErr result (self.new ≡ self.old) }
+    {
+        if self.ready {
+            return Ok(idle(alloc));
+        }
+        if !self.is_other(from) {
+            return Ok(idle(alloc));
+        }
+        let after = share_key(&self.cursor)?;
+        self.tell(alloc, from, Body::CopyAsk { after, room })
+    }
+
+    /// Gives another member the next batch.
+    pub(super) fn give_copy(
+        &mut self,
+        alloc: Global,
+        to: NodeId,
+        after: &Option<Key>,
+        room: u8,
+    ) -> Result<NodeOut, Memory>
+        requires room { IsRoom room }
+        requires other { is_other self.old to ≡ true }
+        ensures node { OnOk result (self.new ≡ (gives_copy self.old to after.now room).node) }
+        ensures out { IfOk result (λ out. IsOutOf out self.old (gives_copy self.old to after.now room)) }
+        ensures err { OnErr result (self.new ≡ self.old) }
+    {
+        if !self.ready {
+            return Ok(idle(alloc));
+        }
+        let batch = batch(alloc, self, after.as_ref(), room)?;
+        let after = share_key(after)?;
+        self.tell(
+            alloc,
+            to,
+            Body::CopyGive {
+                after,
+                done: batch.done,
+                items: batch.items,
+            },
+        )
+    }
+}

@@ -1,0 +1,64 @@
+//! Views that are installed.
+
+ghost use Rattle.std.specs.Prelude.{◌≡◌, true, ◌&&◌, Some, nat_lt, IfOk, OnOk, OnErr};
+ghost use Rattle.hk_base.specs.View.{IsView};
+ghost use Rattle.hk_node.specs.Node.{epoch_of, is_member};
+ghost use Rattle.hk_node.specs.Steps.{installs};
+ghost use Rattle.hk_node.specs.Outs.{IsOutOf};
+
+use super::Node;
+use super::finish::idle;
+use super::receive::is_member;
+use crate::give::give_rows_back;
+use crate::out::NodeOut;
+use crate::replaced::{Beside, Replaced};
+use crate::viewed::view_rows;
+use hk_base::{Memory, View};
+use std::alloc::Global;
+use std::mem;
+
+impl Node {
+    // Whether it is a later view that has the node as a member.
+    fn installs(&self, view: &View) -> bool
+        ensures { result ≡ (nat_lt (epoch_of self.now) view.now.epoch && is_member self.now.id view.now.members) }
+    {
+        self.epoch() < view.epoch && is_member(self.id, view.members.as_slice())
+    }
+
+    // Installs such a view.
+    fn install_view(&mut self, alloc: Global, view: &View) -> Result<NodeOut, Memory>
+        requires view { IsView view.now }
+        requires later { (nat_lt (epoch_of self.old) view.now.epoch && is_member self.old.id view.now.members) ≡ true }
+        ensures node { OnOk result (self.new ≡ (installs self.old view.now).node) }
+        ensures out { IfOk result (λ out. IsOutOf out self.old (installs self.old view.now)) }
+        ensures err { OnErr result (self.new ≡ self.old) }
+    {
+        let same = view.copy(alloc)?;
+        let viewed = view_rows(&self.rows, alloc, self.id, view)?;
+        let before = mem::replace(&mut self.view, Some(same));
+        give_rows_back(&mut self.rows, viewed.fresh.into_vec());
+        Ok(NodeOut {
+            letters: viewed.letters,
+            replies: viewed.replies,
+            installed: Some(view.epoch),
+            replaced: Replaced {
+                rows: viewed.former,
+                beside: Beside::View(before),
+            },
+        })
+    }
+
+    /// Installs a later view that has the node as a member. Every pending update drops its acknowledgements and is sent
+    /// again. Any other view is passed over.
+    pub fn install(&mut self, alloc: Global, view: &View) -> Result<NodeOut, Memory>
+        requires { IsView view.now }
+        ensures node { OnOk result (self.new ≡ (installs self.old view.now).node) }
+        ensures out { IfOk result (λ out. IsOutOf out self.old (installs self.old view.now)) }
+        ensures err { OnErr result (self.new ≡ self.old) }
+    {
+        if !self.installs(view) {
+            return Ok(idle(alloc));
+        }
+        self.install_view(alloc, view)
+    }
+}

@@ -1,0 +1,203 @@
+//! A joiner takes copied rows.
+
+ghost use Rattle.std.specs.Prelude.{◌≡◌, ◌++◌, ◌∷◌, [], true, IfOk, OnOk, OnErr, All};
+ghost use Rattle.std.specs.Option.{option_or};
+ghost use Rattle.std.specs.List.{AllByRecursion};
+ghost use Rattle.std.specs.List.Sorted.{IsStrictlySortedBy};
+ghost use Rattle.std.specs.Map.{keys_of};
+ghost use Rattle.hk_base.specs.Range.{IsWithin, IsBatch};
+ghost use Rattle.hk_copy.specs.Batches.{key_cmp, last_key};
+ghost use Rattle.hk_node.specs.Rows.{find_row, put_row};
+ghost use Rattle.hk_node.specs.Node.{is_other};
+ghost use Rattle.hk_node.specs.Copies.{is_next, takes_copy};
+ghost use Rattle.hk_node.specs.Copying.{IsQuiet, IsMerge, change_of, put_change, row_now, put_rows, former_of};
+ghost use Rattle.hk_node.specs.Outs.{IsOutOf};
+
+use super::Node;
+use super::copying::share_key;
+use super::finish::idle;
+use crate::give::{give_rows_back, swap_row};
+use crate::out::NodeOut;
+use crate::replaced::{Beside, Former, FormerRows, Replaced};
+use hk_base::{CopyItem, CopyItems, Key, Letters, Memory, NodeId, Replies};
+use hk_key::Row;
+use std::alloc::Global;
+use std::collections::BTreeMap;
+use std::mem;
+
+fn is_next(after: &Option<Key>, cursor: &Option<Key>) -> bool
+    ensures { result ≡ is_next after.now cursor.now }
+{
+    match (after, cursor) {
+        (Some(after), Some(cursor)) => after.cmp(cursor).is_eq(),
+        (None, None) => true,
+        (Some(_), None) | (None, Some(_)) => false,
+    }
+}
+
+// The cursor behind the items.
+fn next_cursor(items: &CopyItems, cursor: &Option<Key>) -> Result<Option<Key>, Memory>
+    ensures { IfOk result (λ next. next ≡ option_or (last_key items.now) cursor.now) }
+{
+    match items.as_slice().last() {
+        Some(item) => {
+            let key = item.key.share()?;
+            Ok(Some(key))
+        }
+        None => share_key(cursor),
+    }
+}
+
+// What the item makes of the row, where it changes it.
+fn changed(alloc: Global, row: &Row, item: &CopyItem) -> Result<Option<Row>, Memory>
+    requires quiet { IsQuiet row.now }
+    requires within { IsWithin item.now.stamp }
+    ensures { IfOk result (λ new. new ≡ change_of row.now item.now) }
+{
+    let mut new = row.copy(alloc)?;
+    let item = item.share()?;
+    new.on_copy(item);
+    if row.is_same(&new) {
+        Ok(None)
+    } else {
+        Ok(Some(new))
+    }
+}
+
+// What the item makes of the row of its key: one that items before it made, or the one that was there.
+fn change(
+    alloc: Global,
+    changes: &BTreeMap<Key, Row>,
+    rows: &BTreeMap<Key, Row>,
+    item: &CopyItem,
+) -> Result<Option<Row>, Memory>
+    requires quiet { IsQuiet (row_now item.now.key changes.now.entries rows.now.entries) }
+    requires within { IsWithin item.now.stamp }
+    ensures { IfOk result (λ new. new ≡ change_of (row_now item.now.key changes.now.entries rows.now.entries) item.now) }
+{
+    if let Some(row) = changes.get(&item.key) {
+        return changed(alloc, row, item);
+    }
+    match rows.get(&item.key) {
+        Some(row) => changed(alloc, row, item),
+        None => changed(alloc, &Row::first(), item),
+    }
+}
+
+fn put_change(changes: &mut BTreeMap<Key, Row>, key: &Key, row: Option<Row>) -> Result<(), Memory>
+    ensures { OnOk result (changes.new.entries ≡ put_change row key.now changes.old.entries) }
+{
+    if let Some(row) = row {
+        let key = key.share()?;
+        changes.insert(key, row)?;
+    }
+    Ok(())
+}
+
+// The rows that the items change, by key.
+fn merge(
+    alloc: Global,
+    rows: &BTreeMap<Key, Row>,
+    items: &CopyItems,
+) -> Result<BTreeMap<Key, Row>, Memory>
+    requires rising { IsStrictlySortedBy key_cmp (keys_of rows.now.entries) }
+    requires quiet { AllByRecursion (λ r. IsQuiet r.1) rows.now.entries }
+    requires within { All (λ item. IsWithin item.stamp) items.now }
+    ensures { IfOk result (λ changes. IsMerge items.now rows.now.entries changes.entries) }
+{
+    let mut changes = BTreeMap::new(alloc);
+    for item in items.as_slice() {
+        let row = change(alloc, &changes, rows, item)?;
+        put_change(&mut changes, &item.key, row)?;
+    }
+    Ok(changes)
+}
+
+// Puts a row in its place. What it took the place of comes behind the former rows.
+fn put_next(
+    rows: &mut BTreeMap<Key, Row>,
+    former: &mut Vec<Former>,
+    key: Key,
+    row: Row,
+) -> Result<(), Memory>
+    ensures put { OnOk result (rows.new.entries ≡ put_row key row rows.old.entries) }
+    ensures former { OnOk result (former.new.items ≡ former.old.items ++ record { key = key; row = find_row key rows.old.entries } ∷ []) }
+    ensures stay { OnErr result (rows.new.entries ≡ rows.old.entries) }
+    ensures kept { OnErr result (former.new.items ≡ former.old.items) }
+{
+    former.reserve(1)?;
+    if rows.contains_key(&key) {
+        let old = swap_row(rows, &key, row);
+        former.push_reserved(Former {
+            key,
+            row: Some(old),
+        });
+        return Ok(());
+    }
+    let name = key.share()?;
+    rows.insert(name, row)?;
+    former.push_reserved(Former { key, row: None });
+    Ok(())
+}
+
+// Puts rows in their places, in the order of their keys, and tells what they took the place of.
+fn put_all(
+    rows: &mut BTreeMap<Key, Row>,
+    alloc: Global,
+    changes: BTreeMap<Key, Row>,
+) -> Result<Vec<Former>, Memory>
+    requires ordered { IsStrictlySortedBy key_cmp (keys_of rows.old.entries) }
+    requires rising { IsStrictlySortedBy key_cmp (keys_of changes.entries) }
+    ensures put { OnOk result (rows.new.entries ≡ put_rows changes.entries rows.old.entries) }
+    ensures former { IfOk result (λ former. former.items ≡ former_of changes.entries rows.old.entries) }
+    ensures err { OnErr result (rows.new.entries ≡ rows.old.entries) }
+{
+    let mut changes = changes;
+    let mut former = Vec::new(alloc);
+    while let Some((key, row)) = changes.pop_first() {
+        if let Err(fault) = put_next(rows, &mut former, key, row) {
+            give_rows_back(rows, former);
+            return Err(fault);
+        }
+    }
+    Ok(former)
+}
+
+impl Node {
+    /// Takes a batch of rows behind its cursor, where it is not ready. Any other is dropped.
+    pub(super) fn take_copy(
+        &mut self,
+        alloc: Global,
+        from: NodeId,
+        after: &Option<Key>,
+        done: bool,
+        items: &CopyItems,
+    ) -> Result<NodeOut, Memory>
+        requires batch { IsBatch items.now }
+        requires other { is_other self.old from ≡ true }
+        ensures node { OnOk result (self.new ≡ (takes_copy self.old after.now done items.now).node) }
+        ensures out { IfOk result (λ out. IsOutOf out self.old (takes_copy self.old after.now done items.now)) }
+        ensures err { OnErr result (self.new ≡ self.old) }
+    {
+        if self.ready {
+            return Ok(idle(alloc));
+        }
+        if !is_next(after, &self.cursor) {
+            return Ok(idle(alloc));
+        }
+        let next = next_cursor(items, &self.cursor)?;
+        let changes = merge(alloc, &self.rows, items)?;
+        let former = put_all(&mut self.rows, alloc, changes)?;
+        let cursor = mem::replace(&mut self.cursor, next);
+        self.ready = done;
+        Ok(NodeOut {
+            letters: Letters::new(alloc),
+            replies: Replies::new(alloc),
+            installed: None,
+            replaced: Replaced {
+                rows: FormerRows::from_vec(former),
+                beside: Beside::Cursor(cursor),
+            },
+        })
+    }
+}

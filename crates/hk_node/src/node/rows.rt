@@ -1,0 +1,80 @@
+//! The rows of a node as they are copied.
+
+ghost use Rattle.std.specs.Prelude.{◌≡◌, Some, None};
+ghost use Rattle.std.specs.Option.{option_copied};
+ghost use Rattle.hk_copy.specs.Batches.{next_key, rows_after};
+ghost use Rattle.hk_node.specs.Copies.{copies_of, is_valid};
+
+use super::Node;
+use hk_base::{CopyItem, Key, Memory, State, share_content};
+use hk_copy::Rows;
+use hk_key::Row;
+use std::collections::BTreeMap;
+use std::ops::Bound;
+
+// The least key of all.
+fn first_key(rows: &BTreeMap<Key, Row>) -> Option<&Key>
+    ensures { option_copied result ≡ next_key (rows_after None (copies_of rows.now.entries)) }
+{
+    match rows.first_key_value() {
+        Some((key, _)) => Some(key),
+        None => None,
+    }
+}
+
+// The least key that is greater than this one.
+fn key_behind<'a>(rows: &'a BTreeMap<Key, Row>, key: &Key) -> Option<&'a Key>
+    ensures { option_copied result ≡ next_key (rows_after (Some key.now) (copies_of rows.now.entries)) }
+{
+    match rows.range((Bound::Excluded(key), Bound::Unbounded)).next() {
+        Some((key, _)) => Some(key),
+        None => None,
+    }
+}
+
+fn next_key<'a>(rows: &'a BTreeMap<Key, Row>, after: Option<&Key>) -> Option<&'a Key>
+    ensures { option_copied result ≡ next_key (rows_after (option_copied after.entry) (copies_of rows.now.entries)) }
+{
+    match after {
+        Some(key) => key_behind(rows, key),
+        None => first_key(rows),
+    }
+}
+
+fn is_valid(state: State) -> bool
+    ensures { result ≡ is_valid state }
+{
+    state == State::Valid
+}
+
+impl Rows for Node {
+    ghost rows = { λ node. copies_of node.rows };
+
+    fn after(&self, key: Option<&Key>) -> Option<&Key> {
+        next_key(&self.rows, key)
+    }
+
+    fn item(&self, key: &Key) -> Result<CopyItem, Memory> {
+        let Some(row) = self.rows.get(key) else {
+            unreachable!()
+        };
+        let key = key.share()?;
+        let content = share_content(&row.content)?;
+        Ok(CopyItem {
+            key,
+            stamp: row.stamp,
+            kind: row.kind,
+            valid: is_valid(row.state),
+            content,
+        })
+    }
+}
+
+impl Node {
+    /// The least key with a row that is greater than the given one, or the least of all.
+    pub fn after(&self, key: Option<&Key>) -> Option<&Key>
+        ensures { option_copied result ≡ next_key (rows_after (option_copied key.entry) (copies_of self.now.rows)) }
+    {
+        next_key(&self.rows, key)
+    }
+}

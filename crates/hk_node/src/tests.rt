@@ -1,0 +1,122 @@
+ghost use Rattle.hk_base.specs.Range.{IsBody, IsLetter};
+
+use super::*;
+use hk_base::{
+    Actor, Answer, Body, CallNo, Content, Data, Key, Kind, Letter, Members, NodeId, Op, Stamp,
+    View, Why,
+};
+use std::alloc::Global;
+use std::test::Fail;
+
+const LAST_WRITE: Stamp = Stamp {
+    version: 281_474_976_710_654,
+    node: 1,
+};
+
+fn content(alloc: Global, bytes: &[u8]) -> Result<Content, Fail> {
+    Ok(Content {
+        flags: 0,
+        bytes: Data::read(alloc, bytes)?,
+    })
+}
+
+fn letter(epoch: u64, body: Body) -> Letter
+    requires { IsBody body }
+    ensures { IsLetter result }
+{
+    Letter {
+        epoch,
+        from: Actor::Node(NodeId(1)),
+        to: Actor::Node(NodeId(0)),
+        body,
+    }
+}
+
+fn founder(alloc: Global) -> Result<Node, Fail> {
+    let mut members = Members::new(alloc);
+    members.push(NodeId(0))?;
+    members.push(NodeId(1))?;
+    let view = View {
+        epoch: 1,
+        members,
+        next: 2,
+    };
+    Ok(Node::founder(alloc, NodeId(0), view, 1000, 10))
+}
+
+// A founder whose key has the last stamp from which nothing can be written.
+fn at_the_limit(alloc: Global, key: &Key) -> Result<Node, Fail> {
+    let mut node = founder(alloc)?;
+    let name = key.share()?;
+    let five = content(alloc, b"5")?;
+    let inv = Body::Inv {
+        key: name,
+        stamp: LAST_WRITE,
+        kind: Kind::Write,
+        content: Some(five),
+    };
+    node.receive(alloc, &letter(1, inv))?;
+    let name = key.share()?;
+    let val = Body::Val {
+        key: name,
+        stamp: LAST_WRITE,
+    };
+    node.receive(alloc, &letter(1, val))?;
+    Ok(node)
+}
+
+#[test]
+fn writes_end_at_the_version_limit(rt: HostRuntime) -> Result<(), Fail> {
+    let alloc = rt.alloc();
+    let key = Key::read(alloc, b"k")?;
+    let mut node = at_the_limit(alloc, &key)?;
+    let op = Op::Write(content(alloc, b"6")?);
+    let out = node.call(alloc, CallNo(1), &key, &op)?;
+    let exhausted = Answer::Exhausted(LAST_WRITE);
+    assert!(rt; out.replies.get(0).map(|reply| &reply.answer) == Some(&exhausted));
+    assert!(rt; out.replaced.rows.is_empty() && out.letters.is_empty());
+    Ok(())
+}
+
+#[test]
+fn increments_go_one_further(rt: HostRuntime) -> Result<(), Fail> {
+    let alloc = rt.alloc();
+    let key = Key::read(alloc, b"k")?;
+    let mut node = at_the_limit(alloc, &key)?;
+    let out = node.call(alloc, CallNo(2), &key, &Op::Incr(1))?;
+    assert!(rt; out.letters.len() == 1 && out.replies.is_empty());
+    let last = Stamp {
+        version: 281_474_976_710_655,
+        node: 0,
+    };
+    assert!(rt; node.row(&key).map(|row| row.stamp) == Some(last));
+    Ok(())
+}
+
+#[test]
+fn drops_letters_of_old_epochs(rt: HostRuntime) -> Result<(), Fail> {
+    let alloc = rt.alloc();
+    let mut node = founder(alloc)?;
+    let key = Key::read(alloc, b"k")?;
+    let inv = Body::Inv {
+        key: key.share()?,
+        stamp: LAST_WRITE,
+        kind: Kind::Write,
+        content: None,
+    };
+    let out = node.receive(alloc, &letter(0, inv))?;
+    assert!(rt; out.letters.is_empty() && node.row(&key).is_none());
+    Ok(())
+}
+
+#[test]
+fn a_shadow_has_no_lease(rt: HostRuntime) -> Result<(), Fail> {
+    let alloc = rt.alloc();
+    let mut node = Node::joiner(alloc, NodeId(2), 10);
+    node.grant(1000);
+    let key = Key::read(alloc, b"k")?;
+    let out = node.call(alloc, CallNo(1), &key, &Op::Read)?;
+    let busy = Answer::Busy(Why::Lease { end: 0, now: 1 });
+    assert!(rt; out.replies.get(0).map(|reply| &reply.answer) == Some(&busy));
+    Ok(())
+}

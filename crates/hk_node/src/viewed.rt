@@ -1,0 +1,105 @@
+//! What a node that installs a view makes of its rows.
+
+ghost use Rattle.std.specs.Prelude.{◌≡◌, ◌++◌, ◌∷◌, [], Some, map, IfOk, OnOk, if◌then◌else◌};
+ghost use Rattle.hk_key.specs.Same.{is_same_row};
+ghost use Rattle.std.specs.List.{AllByRecursion, flat_map};
+ghost use Rattle.hk_node.specs.Viewed.{IsFitRow, view_letters, view_told, view_new, view_old};
+
+use crate::letters::post_sent;
+use crate::replaced::{Former, FormerRows};
+use hk_base::{Key, Letters, Memory, NodeId, Replies, View};
+use hk_key::Row;
+use std::alloc::Global;
+use std::collections::BTreeMap;
+
+/// What was made of rows so far.
+#[derive(Drop)]
+pub(crate) struct Viewed {
+    pub letters: Letters,
+    pub replies: Replies,
+    /// The rows that are new.
+    pub fresh: FormerRows,
+    /// Those in whose places they go.
+    pub former: FormerRows,
+}
+
+// Notes a row that is new, where it is.
+fn note_row(
+    viewed: &mut Viewed,
+    alloc: Global,
+    key: &Key,
+    before: &Row,
+    after: Row,
+) -> Result<(), Memory>
+    ensures letters { viewed.new.letters ≡ viewed.old.letters }
+    ensures replies { viewed.new.replies ≡ viewed.old.replies }
+    ensures fresh { OnOk result (viewed.new.fresh ≡ viewed.old.fresh ++ (if is_same_row before.now after then [] else record { key = key.now; row = Some after } ∷ [])) }
+    ensures former { OnOk result (viewed.new.former ≡ viewed.old.former ++ (if is_same_row before.now after then [] else record { key = key.now; row = Some before.now } ∷ [])) }
+{
+    if before.is_same(&after) {
+        return Ok(());
+    }
+    let name = key.share()?;
+    viewed.fresh.push(Former {
+        key: name,
+        row: Some(after),
+    })?;
+    let name = key.share()?;
+    let row = before.copy(alloc)?;
+    viewed.former.push(Former {
+        key: name,
+        row: Some(row),
+    })
+}
+
+// One row's step.
+fn view_row(
+    viewed: &mut Viewed,
+    alloc: Global,
+    id: NodeId,
+    view: &View,
+    key: &Key,
+    row: &Row,
+) -> Result<(), Memory>
+    requires { IsFitRow (key.now, row.now) }
+    ensures letters { OnOk result (viewed.new.letters ≡ viewed.old.letters ++ view_letters id view.now (key.now, row.now)) }
+    ensures replies { OnOk result (viewed.new.replies ≡ viewed.old.replies ++ map (λ t. t.1) (view_told id view.now (key.now, row.now))) }
+    ensures fresh { OnOk result (viewed.new.fresh ≡ viewed.old.fresh ++ view_new id view.now (key.now, row.now)) }
+    ensures former { OnOk result (viewed.new.former ≡ viewed.old.former ++ view_old id view.now (key.now, row.now)) }
+{
+    if row.pending.is_none() {
+        return Ok(());
+    }
+    let mut after = row.copy(alloc)?;
+    let out = after.on_view(id, view);
+    post_sent(&mut viewed.letters, id, view, key, &after, &out.send)?;
+    if let Some(reply) = out.reply {
+        viewed.replies.push(reply)?;
+    }
+    note_row(viewed, alloc, key, row, after)
+}
+
+/// The steps of all rows, with no change to them.
+pub(crate) fn view_rows(
+    rows: &BTreeMap<Key, Row>,
+    alloc: Global,
+    id: NodeId,
+    view: &View,
+) -> Result<Viewed, Memory>
+    requires { AllByRecursion IsFitRow rows.now.entries }
+    ensures letters { IfOk result (λ viewed. viewed.letters ≡ flat_map (view_letters id view.now) rows.now.entries) }
+    ensures replies { IfOk result (λ viewed. viewed.replies ≡ map (λ t. t.1) (flat_map (view_told id view.now) rows.now.entries)) }
+    ensures fresh { IfOk result (λ viewed. viewed.fresh ≡ flat_map (view_new id view.now) rows.now.entries) }
+    ensures former { IfOk result (λ viewed. viewed.former ≡ flat_map (view_old id view.now) rows.now.entries) }
+{
+    let mut viewed = Viewed {
+        letters: Letters::new(alloc),
+        replies: Replies::new(alloc),
+        fresh: FormerRows::new(alloc),
+        former: FormerRows::new(alloc),
+    };
+    for (key, row) in rows.iter() {
+        view_row(&mut viewed, alloc, id, view, key, row)?;
+    }
+    Ok(viewed)
+}

@@ -1,0 +1,11 @@
+pub mod Numbers
+pub mod Turns
+pub mod Choices
+pub mod Spaces
+pub mod Spelled
+pub mod Spelling
+pub mod Actors
+pub mod Lines
+pub mod Exact
+pub mod Cuts
+pub mod Printed

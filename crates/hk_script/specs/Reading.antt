@@ -1,0 +1,25 @@
+-- What the reader tells of a line.
+use Rattle.std.specs.Prelude.{◌≡◌, ℕ, List, Result, Ok, Err, ⊤}
+use Rattle.hk_world.specs.declared.event.Header.{Header}
+use Rattle.hk_world.specs.declared.event.Event.{Event}
+use Rattle.hk_script.specs.declared.fault.LineFault.{LineFault}
+use Rattle.hk_script.specs.declared.fault.LineFault.TheVariants.{Memory, Bad}
+use Rattle.hk_script.specs.Grammar.{IsEventLine, IsHeaderLine}
+
+-- the event whose line it is; Bad where it is no event's line; want of memory says nothing of it
+abbrev pub IsEventRead : Result Event LineFault → List ℕ → Type 0
+IsEventRead (Ok event) line = IsEventLine line event
+IsEventRead (Err Bad) line = (event : Event) → IsEventLine line event → ⊥
+IsEventRead (Err Memory) line = ⊤
+
+abbrev pub IsHeaderRead : Result Header LineFault → List ℕ → Type 0
+IsHeaderRead (Ok h) line = IsHeaderLine line h
+IsHeaderRead (Err Bad) line = (h : Header) → IsHeaderLine line h → ⊥
+IsHeaderRead (Err Memory) line = ⊤
+
+-- no line is two events', and none two headers'
+abbrev pub LinesTellEvents : Type 0
+LinesTellEvents = (line : List ℕ) (a b : Event) → IsEventLine line a → IsEventLine line b → a ≡ b
+
+abbrev pub LinesTellHeaders : Type 0
+LinesTellHeaders = (line : List ℕ) (a b : Header) → IsHeaderLine line a → IsHeaderLine line b → a ≡ b

@@ -1,0 +1,45 @@
+//! The readers.
+
+ghost use Rattle.std.specs.Prelude.{◌≡◌, OnErr, Err};
+ghost use Rattle.hk_script.specs.declared.fault.LineFault.TheVariants.{Bad};
+ghost use Rattle.hk_script.specs.Parts.{Reads};
+ghost use Rattle.hk_script.specs.Lines.{event_of};
+ghost use Rattle.hk_script.specs.Reading.{IsEventRead, IsHeaderRead};
+
+use crate::event::event;
+use crate::fault::LineFault;
+use crate::header::header;
+use crate::words::split;
+use hk_base::Memory;
+use hk_world::{Event, Header};
+use std::alloc::Global;
+
+/// Reads the header of a script: `group N managers 0 lease L skew E`, with N from 1 to 16, and L and E times.
+pub fn read_header(line: &[u8]) -> Result<Header, LineFault>
+    ensures exact { IsHeaderRead result line.now }
+    // Nothing is allocated.
+    ensures told { OnErr result (result ≡ Err Bad) }
+{
+    match header(line) {
+        Some(header) => Ok(header),
+        None => Err(LineFault::Bad),
+    }
+}
+
+fn event_in(alloc: Global, line: &[u8]) -> Result<Option<Event>, Memory>
+    ensures { Reads result (event_of line.now) }
+{
+    let words = split(alloc, line)?;
+    event(alloc, words.as_slice())
+}
+
+/// Reads the line of an event, without its line feed.
+pub fn read_event(alloc: Global, line: &[u8]) -> Result<Event, LineFault>
+    ensures { IsEventRead result line.now }
+{
+    match event_in(alloc, line) {
+        Ok(Some(event)) => Ok(event),
+        Ok(None) => Err(LineFault::Bad),
+        Err(_) => Err(LineFault::Memory),
+    }
+}

@@ -1,0 +1,9 @@
+pub mod Processes
+pub mod Steady
+pub mod Viewed
+pub mod Soundness
+pub mod Starting
+pub mod Acted
+pub mod Allowed
+pub mod Changed
+pub mod Founded

@@ -1,0 +1,271 @@
+-- Every step keeps a world sound.
+use Rattle.std.proofs.Common.{◌≡◌, ◌+◌, ◌++◌, ◌≤◌, ◌<◌, ℕ, max, Bool, true, false, cond, nat_lt, nat_le, nat_eq, List, [], ◌∷◌, length, map, Option, Some, None, Result, Ok, Err, refl, sym, ap, subst, ◌∙◌, arith}
+use Rattle.std.specs.Prelude.{⊤}
+use Rattle.std.specs.List.{AllByRecursion, find}
+use Rattle.std.specs.List.Sorted.{IsStrictlySortedBy}
+use Rattle.std.specs.Map.{keys_of}
+use Rattle.std.proofs.lemmas.Bool.{eqb-false, leb-false}
+use Rattle.hk_base.specs.declared.time.TheConstants.{MAX_TIME}
+use Rattle.hk_base.specs.declared.stamp.NodeId.{NodeId}
+use Rattle.hk_base.specs.declared.call.CallNo.{CallNo}
+use Rattle.hk_base.specs.declared.view.View.{View}
+use Rattle.hk_base.specs.declared.view.Change.{Change}
+use Rattle.hk_base.specs.declared.view.Change.TheVariants.{Drop, Add}
+use Rattle.hk_base.specs.declared.letter.Actor.{Actor}
+use Rattle.hk_base.specs.declared.letter.Actor.TheVariants.{Node, Manager}
+use Rattle.hk_base.specs.declared.letter.Letter.{Letter}
+use Rattle.hk_base.specs.View.{IsView}
+use Rattle.hk_base.specs.Range.{IsLetter, IsActor}
+use Rattle.hk_node.specs.declared.event.NodeEvent.{NodeEvent}
+use Rattle.hk_node.specs.declared.event.NodeEvent.TheVariants.{Call as NodeCall, Receive, Resend as NodeResend, Replay as NodeReplay, AskCopy, Tick as NodeTick, Grant, Install as NodeInstall}
+use Rattle.hk_node.specs.Node.{NodeState, is_member, epoch_of}
+use Rattle.hk_node.specs.Made.{joiner}
+use Rattle.hk_node.specs.Stepped.{Stepped, idle}
+use Rattle.hk_node.specs.Steps.{node_step, ticks}
+use Rattle.hk_node.specs.Sound.{IsNode, IsEvent as IsNodeEvent}
+use Rattle.hk_node.specs.Laws.{StepKeepsNode, LettersInRange}
+use Rattle.hk_world.specs.declared.event.Event.{Event}
+use Rattle.hk_world.specs.declared.event.Event.TheVariants.{Call, Take, Tick, TickAll, Crash, Resend, Replay, Copy, Start, Agree, Install, Lease, AskLease, Propose, Activate}
+use Rattle.hk_world.specs.declared.refused.Refused.{Refused}
+use Rattle.hk_world.specs.declared.refused.Refused.TheVariants.{LastMember, Full, NoNumbers}
+use Rattle.hk_world.specs.declared.process.Process.{Process}
+use Rattle.hk_world.specs.World.{WorldState, Processes, by_number, process_at, put_process, numbered, last_view}
+use Rattle.hk_world.specs.Steps.{Accepted, world_step, with_step, live, live_at, running_at, live_actor, is_live, is_far_from, greatest_clock, process_ticked, takes, agreed_on, ticked_unless, guarded_by, may_run, installs_at, starts_at, joining, agrees, ticks_at}
+use Rattle.hk_world.specs.Sound.{IsEvent, IsWorld, IsProcess, AreViews}
+use Rattle.hk_world.specs.Acting.{stepped_in, receives_in, installs_in}
+use Rattle.hk_world.specs.Views.{dropped, added}
+use Rattle.hk_world.proofs.Processes.{sorted_put, all_put, found_holds, all_map}
+use Rattle.hk_world.proofs.Steady.{IsSteady, call_steady, resend_steady, replay_steady, copy_steady, install_steady, receive_steady}
+use Rattle.hk_world.proofs.Viewed.{numbered_holds, all_append, views_next, dropped_next, added_next}
+
+abbrev pub NodeLaws : Type 0
+NodeLaws = StepKeepsNode × LettersInRange
+
+-- what a step of a node has to keep
+pub record IsSoundStep (before : NodeState) (stepped : Stepped) : Type 0 where
+  pub steady : IsSteady before stepped
+  pub node : IsNode stepped.node
+  pub letters : AllByRecursion IsLetter stepped.letters
+
+by_laws : NodeLaws → (node : NodeState) (event : NodeEvent) → IsNode node → IsNodeEvent event → IsSteady node (node_step node event) → IsSoundStep node (node_step node event)
+by_laws laws node event is range steady = record { steady = steady; node = laws.0 node event is range; letters = laws.1 node event is range }
+
+idle_sound : (node : NodeState) → IsNode node → IsSoundStep node (idle node)
+idle_sound node is = record { steady = record { id = refl; skew = refl }; node = is; letters = tt }
+
+receives_sound : NodeLaws → (o : Option Letter) (letters : List Letter) (n : ℕ) (node : NodeState) → AllByRecursion IsLetter letters → numbered n letters ≡ o → IsNode node → IsSoundStep node (receives_in o node)
+receives_sound laws None letters n node all at is = idle_sound node is
+receives_sound laws (Some letter) letters n node all at is = by_laws laws node (Receive letter) is (numbered_holds IsLetter n letters letter all at) (receive_steady node letter)
+
+installs_sound : NodeLaws → (o : Option View) (views : List View) (n : ℕ) (node : NodeState) → AllByRecursion IsView views → numbered n views ≡ o → IsNode node → IsSoundStep node (installs_in o node)
+installs_sound laws None views n node all at is = idle_sound node is
+installs_sound laws (Some view) views n node all at is = by_laws laws node (NodeInstall view) is (numbered_holds IsView n views view all at) (install_steady node view)
+
+pub stepped_sound : NodeLaws → (letters : List Letter) (views : List View) (next : CallNo) (event : Event) (node : NodeState) → AllByRecursion IsLetter letters → AllByRecursion IsView views → IsEvent event → IsNode node →
+    IsSoundStep node (stepped_in letters views next event node)
+stepped_sound laws letters views next (Call id key op) node ls vs range is = by_laws laws node (NodeCall next key op) is tt (call_steady node next key op)
+stepped_sound laws letters views next (Take number) node ls vs range is = receives_sound laws (numbered number letters) letters number node ls refl is
+stepped_sound laws letters views next (Tick actor to) node ls vs range is = by_laws laws node (NodeTick to) is range.1 (record { id = refl; skew = refl })
+stepped_sound laws letters views next (Resend id key) node ls vs range is = by_laws laws node (NodeResend key) is tt (resend_steady node key)
+stepped_sound laws letters views next (Replay id key) node ls vs range is = by_laws laws node (NodeReplay key) is tt (replay_steady node key)
+stepped_sound laws letters views next (Copy id from room) node ls vs range is = by_laws laws node (AskCopy from room) is range (copy_steady node from room)
+stepped_sound laws letters views next (Install id epoch) node ls vs range is = installs_sound laws (numbered epoch views) views epoch node vs refl is
+stepped_sound laws letters views next (Lease id end) node ls vs range is = by_laws laws node (Grant end) is range (record { id = refl; skew = refl })
+stepped_sound laws letters views next (TickAll to) node ls vs range is = idle_sound node is
+stepped_sound laws letters views next (Crash actor) node ls vs range is = idle_sound node is
+stepped_sound laws letters views next (Start id) node ls vs range is = idle_sound node is
+stepped_sound laws letters views next (Agree change) node ls vs range is = idle_sound node is
+stepped_sound laws letters views next (AskLease id manager) node ls vs range is = idle_sound node is
+stepped_sound laws letters views next (Propose manager base change) node ls vs range is = idle_sound node is
+stepped_sound laws letters views next (Activate manager) node ls vs range is = idle_sound node is
+
+-- a process of one world is one of another with the same skew
+carried : (w new : WorldState) → w.skew ≡ new.skew → (p : NodeId × Process) → IsProcess w p → IsProcess new p
+carried w new same p is = record { own = is.own; same_skew = is.same_skew ∙ same; node = is.node }
+
+pub step_world : (w : WorldState) (id : NodeId) (p : Process) (stepped : Stepped) (calls : ℕ) → IsWorld w → process_at id w.processes ≡ Some p → IsSoundStep p.node stepped →
+    IsWorld (record (with_step w id stepped) { calls = calls })
+step_world w id p stepped calls sound found step =
+    let new : WorldState = record (with_step w id stepped) { calls = calls } in
+    let old : IsProcess w (id, p) = found_holds (IsProcess w) id p w.processes sound.processes found in
+    record {
+      skew = sound.skew;
+      ordered = sorted_put id (record { node = stepped.node; crashed = false }) w.processes sound.ordered;
+      processes = all_put (IsProcess new) id (record { node = stepped.node; crashed = false }) w.processes (all_map (IsProcess w) (IsProcess new) (carried w new refl) w.processes sound.processes)
+          (record { own = step.steady.id ∙ old.own; same_skew = step.steady.skew ∙ old.same_skew; node = step.node });
+      letters = all_append IsLetter w.letters stepped.letters sound.letters step.letters;
+      views = sound.views;
+    }
+
+pub node_at : (w : WorldState) (id : NodeId) (p : Process) → IsWorld w → process_at id w.processes ≡ Some p → IsNode p.node
+node_at w id p sound found = (found_holds (IsProcess w) id p w.processes sound.processes found).node
+
+-- ---- the table, one event after the other
+abbrev pub SoundIf : Result Accepted Refused → Type 0
+SoundIf (Ok a) = IsWorld a.world
+SoundIf (Err refused) = ⊤
+
+choose : (b : Bool) (x y : Result Accepted Refused) → SoundIf x → SoundIf y → SoundIf (cond b x y)
+choose true x y p q = p
+choose false x y p q = q
+
+live_sound : (w : WorldState) (id : NodeId) (step : NodeState → Result Accepted Refused) → ((p : Process) → process_at id w.processes ≡ Some p → SoundIf (step p.node)) → SoundIf (live w id step)
+live_sound w id step each = at (process_at id w.processes) refl
+  where
+    running : (b : Bool) (p : Process) → process_at id w.processes ≡ Some p → SoundIf (running_at b p.node step)
+    running true p found = tt
+    running false p found = each p found
+
+    at : (o : Option Process) → process_at id w.processes ≡ o → SoundIf (live_at o step)
+    at None found = tt
+    at (Some p) found = running p.crashed p found
+
+actor_sound : (w : WorldState) (actor : Actor) (step : NodeId → NodeState → Result Accepted Refused) → ((id : NodeId) (p : Process) → process_at id w.processes ≡ Some p → SoundIf (step id p.node)) → SoundIf (live_actor w actor step)
+actor_sound w (Manager m) step each = tt
+actor_sound w (Node id) step each = live_sound w id (step id) (each id)
+
+-- the same world but for its processes
+pub with_processes : (w : WorldState) (processes : Processes) → IsWorld w → IsStrictlySortedBy by_number (keys_of processes) → AllByRecursion (IsProcess w) processes → IsWorld (record w { processes = processes })
+with_processes w processes sound ordered all = record {
+  skew = sound.skew;
+  ordered = ordered;
+  processes = all_map (IsProcess w) (IsProcess (record w { processes = processes })) (carried w (record w { processes = processes }) refl) processes all;
+  letters = sound.letters;
+  views = sound.views;
+}
+
+put_world : (w : WorldState) (id : NodeId) (p : Process) → IsWorld w → IsProcess w (id, p) → IsWorld (record w { processes = put_process id p w.processes })
+put_world w id p sound is = with_processes w (put_process id p w.processes) sound (sorted_put id p w.processes sound.ordered) (all_put (IsProcess w) id p w.processes sound.processes is)
+
+-- ---- clocks
+ticked_keys : (to : ℕ) (ps : Processes) → keys_of (map (process_ticked to) ps) ≡ keys_of ps
+ticked_keys to [] = refl
+ticked_keys to (p ∷ ps) = ap (λ (l : List NodeId). p.0 ∷ l) (ticked_keys to ps)
+
+ticked_process : NodeLaws → (w : WorldState) (to : ℕ) → to ≤ MAX_TIME → (p : NodeId × Process) → IsProcess w p → IsProcess w (process_ticked to p)
+ticked_process laws w to range p is = at (is_live p)
+  where
+    at : (b : Bool) → IsProcess w (p.0, cond b (record p.1 { node = (ticks p.1.node to).node }) p.1)
+    at true = record { own = is.own; same_skew = is.same_skew; node = laws.0 p.1.node (NodeTick to) is.node range }
+    at false = is
+
+ticked_all : NodeLaws → (w : WorldState) (to : ℕ) → to ≤ MAX_TIME → (ps : Processes) → AllByRecursion (IsProcess w) ps → AllByRecursion (IsProcess w) (map (process_ticked to) ps)
+ticked_all laws w to range [] all = tt
+ticked_all laws w to range (p ∷ ps) all = (ticked_process laws w to range p all.0, ticked_all laws w to range ps all.1)
+
+pub all_tick_world : NodeLaws → (w : WorldState) (to : ℕ) → IsWorld w → to ≤ MAX_TIME → IsWorld (record w { processes = map (process_ticked to) w.processes })
+all_tick_world laws w to sound range = with_processes w (map (process_ticked to) w.processes) sound (subst (λ (ks : List NodeId). IsStrictlySortedBy by_number ks) (sym (ticked_keys to w.processes)) sound.ordered) (ticked_all laws w to range w.processes sound.processes)
+
+pub greatest_within : (w : WorldState) (ps : Processes) (low : ℕ) → low ≤ MAX_TIME → AllByRecursion (IsProcess w) ps → greatest_clock low ps ≤ MAX_TIME
+greatest_within w [] low within all = within
+greatest_within w (p ∷ ps) low within all = greatest_within w ps (cond (is_live p) (max low p.1.node.clock) low) (at (is_live p)) all.1
+  where
+    at : (b : Bool) → cond b (max low p.1.node.clock) low ≤ MAX_TIME
+    at true = let k = all.0.node.clock in omega arith
+    at false = within
+
+joiner_is_node : (id : NodeId) (skew : ℕ) → skew ≤ MAX_TIME → IsNode (joiner id skew)
+unfolding IsStrictlySortedBy
+joiner_is_node id skew within = record {
+  view = tt;
+  resting = λ e. refl;
+  unready = λ e. refl;
+  ordered = tt;
+  rows = tt;
+  shadow = λ e. tt;
+  clock_runs = omega arith;
+  clock = omega arith;
+  granted = omega arith;
+  skew = within;
+}
+
+pub start_world : NodeLaws → (w : WorldState) (id : NodeId) → IsWorld w → IsWorld (record w { processes = put_process id (joining w id) w.processes })
+start_world laws w id sound = put_world w id (joining w id) sound (record {
+  own = refl;
+  same_skew = refl;
+  node = laws.0 (joiner id w.skew) (NodeTick (greatest_clock 1 w.processes)) (joiner_is_node id w.skew sound.skew) (greatest_within w w.processes 1 (omega arith) sound.processes);
+})
+
+pub crash_world : (w : WorldState) (id : NodeId) (p : Process) → IsWorld w → process_at id w.processes ≡ Some p → IsWorld (record w { processes = put_process id (record { node = p.node; crashed = true }) w.processes })
+crash_world w id p sound found =
+    let old : IsProcess w (id, p) = found_holds (IsProcess w) id p w.processes sound.processes found in
+    put_world w id (record { node = p.node; crashed = true }) sound (record { own = old.own; same_skew = old.same_skew; node = old.node })
+
+-- ---- views
+pub view_world : (w : WorldState) (v : View) → IsWorld w → AreViews (w.views ++ v ∷ []) → IsWorld (record w { views = w.views ++ v ∷ [] })
+view_world w v sound are =
+    let new : WorldState = record w { views = w.views ++ v ∷ [] } in
+    record {
+      skew = sound.skew;
+      ordered = sound.ordered;
+      processes = all_map (IsProcess w) (IsProcess new) (carried w new refl) w.processes sound.processes;
+      letters = sound.letters;
+      views = are;
+    }
+
+pub agrees_sound : (w : WorldState) (change : Change) → IsWorld w → SoundIf (agrees w (last_view w.views) change)
+agrees_sound w (Drop id) sound = choose (is_member id (last_view w.views).members) _ _ (at (nat_eq (length (last_view w.views).members) 1) refl) tt
+  where
+    at : (b : Bool) → nat_eq (length (last_view w.views).members) 1 ≡ b → SoundIf (cond b (Err LastMember) (agreed_on w (dropped (last_view w.views) id)))
+    at true e = tt
+    at false e = view_world w _ sound (views_next w.views _ sound.views (dropped_next w.views id sound.views (eqb-false _ 1 e)))
+agrees_sound w Add sound = full (nat_le 16 (length (last_view w.views).members)) refl
+  where
+    numbers : (b : Bool) → nat_le 65536 (last_view w.views).next ≡ b → length (last_view w.views).members < 16 → SoundIf (cond b (Err NoNumbers) (agreed_on w (added (last_view w.views))))
+    numbers true e few = tt
+    numbers false e few = view_world w _ sound (views_next w.views _ sound.views (added_next w.views sound.views few (leb-false _ _ e)))
+
+    full : (b : Bool) → nat_le 16 (length (last_view w.views).members) ≡ b → SoundIf (cond b (Err Full) (cond (nat_le 65536 (last_view w.views).next) (Err NoNumbers) (agreed_on w (added (last_view w.views)))))
+    full true e = tt
+    full false e = numbers (nat_le 65536 (last_view w.views).next) refl (leb-false _ _ e)
+
+-- ---- the table
+starts_sound : NodeLaws → (o : Option Process) (w : WorldState) (id : NodeId) → IsWorld w → SoundIf (starts_at o w id)
+starts_sound laws (Some p) w id sound = tt
+starts_sound laws None w id sound = choose (is_member id (last_view w.views).members) _ _ (start_world laws w id sound) tt
+
+module _ (laws : NodeLaws) (w : WorldState) (sound : IsWorld w) where
+  acts_sound : (id : NodeId) (p : Process) (event : Event) → process_at id w.processes ≡ Some p → IsEvent event → (calls : ℕ) →
+      IsWorld (record (with_step w id (stepped_in w.letters w.views (record { 0 = w.calls + 1 }) event p.node)) { calls = calls })
+  acts_sound id p event found range calls = step_world w id p (stepped_in w.letters w.views (record { 0 = w.calls + 1 }) event p.node) calls sound found
+      (stepped_sound laws w.letters w.views (record { 0 = w.calls + 1 }) event p.node sound.letters sound.views.each range (node_at w id p sound found))
+
+  takes_sound : (n : ℕ) (o : Option Letter) → numbered n w.letters ≡ o → SoundIf (takes w o)
+  takes_sound n None at = tt
+  takes_sound n (Some letter) at = actor_sound w letter.to _ (λ id p found. step_world w id p _ w.calls sound found
+      (by_laws laws p.node (Receive letter) (node_at w id p sound found) (numbered_holds IsLetter n w.letters letter sound.letters at) (receive_steady p.node letter)))
+
+  ticks_sound : (actor : Actor) (to : ℕ) → to ≤ MAX_TIME → IsActor actor → SoundIf (live_actor w actor (ticks_at w to))
+  ticks_sound actor to range is = actor_sound w actor _ (λ id p found. choose (nat_lt to p.node.clock) _ _ tt (at id p found (find (is_far_from w.skew to id) w.processes)))
+    where
+      at : (id : NodeId) (p : Process) → process_at id w.processes ≡ Some p → (o : Option (NodeId × Process)) → SoundIf (ticked_unless o w id to p.node)
+      at id p found None = acts_sound id p (Tick actor to) found (is, range) w.calls
+      at id p found (Some q) = tt
+
+  installs_world : (n : ℕ) (o : Option View) → numbered n w.views ≡ o → (id : NodeId) (p : Process) → process_at id w.processes ≡ Some p → SoundIf (installs_at o w id p.node)
+  installs_world n None at id p found = tt
+  installs_world n (Some view) at id p found = choose (is_member id view.members) _ _ (choose (nat_lt (epoch_of p.node) view.epoch) _ _ (guarded (find (may_run w.views view) w.processes)) tt) tt
+    where
+      guarded : (o : Option (NodeId × Process)) → SoundIf (guarded_by o w id p.node view)
+      guarded None = step_world w id p _ w.calls sound found (by_laws laws p.node (NodeInstall view) (node_at w id p sound found) (numbered_holds IsView n w.views view sound.views.each at) (install_steady p.node view))
+      guarded (Some q) = tt
+
+  pub event_sound : (event : Event) → IsEvent event → SoundIf (world_step w event)
+  event_sound (Call id key op) range = live_sound w id _ (λ p found. acts_sound id p (Call id key op) found range (w.calls + 1))
+  event_sound (Take letter) range = takes_sound letter (numbered letter w.letters) refl
+  event_sound (Tick actor to) range = ticks_sound actor to range.1 range.0
+  event_sound (TickAll to) range = choose (nat_lt to (greatest_clock 0 w.processes)) _ _ tt (all_tick_world laws w to sound range)
+  event_sound (Crash actor) range = actor_sound w actor _ (λ id p found. crash_world w id p sound found)
+  event_sound (Resend id key) range = live_sound w id _ (λ p found. acts_sound id p (Resend id key) found range w.calls)
+  event_sound (Replay id key) range = live_sound w id _ (λ p found. acts_sound id p (Replay id key) found range w.calls)
+  event_sound (Copy id from room) range = live_sound w id _ (λ p found. acts_sound id p (Copy id from room) found range w.calls)
+  event_sound (Start id) range = starts_sound laws (process_at id w.processes) w id sound
+  event_sound (Agree change) range = agrees_sound w change sound
+  event_sound (Install id epoch) range = live_sound w id _ (λ p found. installs_world epoch (numbered epoch w.views) refl id p found)
+  event_sound (Lease id end) range = live_sound w id _ (λ p found. choose (is_member id (last_view w.views).members) _ _ (acts_sound id p (Lease id end) found range w.calls) tt)
+  event_sound (AskLease id manager) range = live_sound w id _ (λ p found. acts_sound id p (AskLease id manager) found range w.calls)
+  event_sound (Propose manager base change) range = tt
+  event_sound (Activate manager) range = tt
+
+pub step_sound : NodeLaws → (w : WorldState) (event : Event) (a : Accepted) → IsWorld w → IsEvent event → world_step w event ≡ Ok a → IsWorld a.world
+step_sound laws w event a sound range made = subst SoundIf made (event_sound laws w sound event range)

@@ -1,0 +1,10 @@
+pub mod World
+pub mod Start
+pub mod Steps
+pub mod Sound
+pub mod Posted
+pub mod Acting
+pub mod Views
+pub mod Laws
+pub mod Allowed
+pub mod Worked

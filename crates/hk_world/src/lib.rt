@@ -1,0 +1,25 @@
+//! A whole group with every letter ever sent: what a script drives, and what the promises speak of.
+//!
+//! A world is a machine without threads. An event names an actor and what happens to it: a call, a letter that is taken, a
+//! tick of its clock, a crash, a view. [`World::step`] makes it, or refuses it by name and changes nothing. Any letter ever
+//! sent may be taken, at any time, any number of times, or never: so a loss is a letter that is never taken, a repeat
+//! one that is taken again. What each event does is a definition, `specs/Steps.antt`.
+#![tactic(auto)]
+
+mod event;
+mod laws;
+mod process;
+mod refused;
+mod shown;
+#[cfg(test)]
+mod tests;
+mod worked;
+mod world;
+
+pub use event::{Event, Header};
+pub use laws::worlds_stay_sound;
+pub use process::Process;
+pub use refused::{Refused, WorldFault};
+pub use shown::Shown;
+pub use worked::worked_worlds;
+pub use world::World;

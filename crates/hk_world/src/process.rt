@@ -1,0 +1,33 @@
+//! A node in its world.
+
+ghost use Rattle.std.specs.Prelude.{◌≡◌, ◌≤◌, not};
+ghost use Rattle.hk_base.specs.declared.time.TheConstants.{MAX_TIME};
+ghost use Rattle.hk_world.specs.Allowed.{ticked};
+
+use hk_node::Node;
+
+/// A node that runs, or one that has crashed and stands still for ever.
+#[derive(Drop)]
+pub struct Process {
+    pub node: Node,
+    pub crashed: bool,
+}
+
+impl Process {
+    /// Whether the node runs.
+    pub(crate) fn is_live(&self) -> bool
+        ensures { result ≡ not self.now.crashed }
+    {
+        !self.crashed
+    }
+
+    /// The clock reads `to`, unless the node has crashed.
+    pub(crate) fn tick(&mut self, to: u64)
+        requires { to ≤ MAX_TIME }
+        ensures { self.new ≡ ticked to self.old }
+    {
+        if self.is_live() {
+            self.node.tick(to);
+        }
+    }
+}

@@ -1,0 +1,20 @@
+//! What an event shows.
+
+use hk_base::{CallNo, Letters, NodeId, Replies, View};
+
+/// What an event shows to whoever watches the world.
+#[derive(Drop)]
+pub struct Shown {
+    /// The number of the call that was made.
+    pub call: Option<CallNo>,
+    /// The view that was agreed, or that the node `installed` now has.
+    pub view: Option<View>,
+    /// The node that installed a view.
+    pub installed: Option<NodeId>,
+    /// The number of the first letter that was sent, if any was; letters are numbered from 1.
+    pub first_letter: u64,
+    /// The letters that were sent, in the order of their numbers.
+    pub letters: Letters,
+    /// The calls that were answered, in key order.
+    pub replies: Replies,
+}

@@ -1,0 +1,142 @@
+//! A world and its steps.
+
+ghost use Rattle.std.specs.Prelude.{◌≡◌, ◌≤◌, ◌+◌, IfOk, OnOk, OnErr, Ok, Some, length};
+ghost use Rattle.std.specs.Option.{option_copied};
+ghost use Rattle.hk_base.specs.declared.time.TheConstants.{MAX_TIME};
+
+mod act;
+mod allowed;
+mod change;
+mod founders;
+mod perform;
+mod post;
+mod scan;
+mod views;
+
+use crate::event::{Event, Header};
+use crate::laws::worlds_stay_sound;
+use crate::process::Process;
+use crate::refused::{Refused, WorldFault};
+use crate::shown::Shown;
+use founders::{founders, founding_view};
+use hk_base::{Letter, Memory, NodeId, View};
+use hk_node::Node;
+use perform::numbered;
+use std::alloc::Global;
+use std::collections::BTreeMap;
+use std::marker::Model;
+
+/// A group of nodes without managers, with every letter ever sent and the views that were agreed.
+#[derive(Drop)]
+pub struct World {
+    skew: u64,
+    processes: BTreeMap<NodeId, Process>,
+    letters: Vec<Letter>,
+    views: Vec<View>,
+    calls: u64,
+}
+
+impl Model for World {
+    ghost use Rattle.hk_world.specs.World.{WorldState};
+    ghost use Rattle.hk_world.specs.Sound.{IsWorld};
+
+    ghost Value = { WorldState };
+
+    ghost view = { λ w. record { skew = w.skew; processes = w.processes.entries; letters = w.letters.items; views = w.views.items; calls = w.calls } };
+
+    ghost invariant = { λ w. IsWorld (record { skew = w.skew; processes = w.processes.entries; letters = w.letters.items; views = w.views.items; calls = w.calls }) };
+}
+
+impl World {
+    ghost use Rattle.hk_world.specs.World.{WorldState, node_of, process_at, numbered};
+    ghost use Rattle.hk_world.specs.Steps.{world_step};
+    ghost use Rattle.hk_world.specs.Start.{start};
+    ghost use Rattle.hk_world.specs.Sound.{IsHeader, IsEvent, IsStepOf};
+
+    /// The world of founders: they are in the first view, each with a lease, their clocks at 1.
+    pub fn new(alloc: Global, header: Header) -> Result<World, Memory>
+        requires { IsHeader header }
+        ensures { IfOk result (λ world. world ≡ start header) }
+    {
+        worlds_stay_sound();
+        let view = founding_view(alloc, header)?;
+        let processes = founders(alloc, header, &view)?;
+        let mut views = Vec::new(alloc);
+        views.push(view)?;
+        Ok(World {
+            skew: header.skew,
+            processes,
+            letters: Vec::new(alloc),
+            views,
+            calls: 0,
+        })
+    }
+
+    /// Makes an event, or refuses it. After a refusal, and after want of memory, the world is as it was.
+    pub fn step(&mut self, alloc: Global, event: &Event) -> Result<Shown, WorldFault>
+        requires { IsEvent event.now }
+        ensures { IsStepOf result self.old self.new event.now }
+    {
+        match event {
+            Event::Call { node, .. } => self.act(alloc, *node, event),
+            Event::Resend { node, .. } => self.act(alloc, *node, event),
+            Event::Replay { node, .. } => self.act(alloc, *node, event),
+            Event::Copy { node, .. } => self.act(alloc, *node, event),
+            Event::AskLease { node, .. } => self.act(alloc, *node, event),
+            Event::Take { letter } => {
+                let leave = self.may_take(*letter);
+                self.act_by(alloc, leave, event)
+            }
+            Event::Tick { actor, to } => {
+                let leave = self.may_tick(*actor, *to);
+                self.act_by(alloc, leave, event)
+            }
+            Event::Install { node, epoch } => {
+                let leave = self.may_install(*node, *epoch);
+                self.act_by(alloc, leave, event)
+            }
+            Event::Lease { node, end } => {
+                let leave = self.may_lease(*node, *end);
+                self.act_by(alloc, leave, event)
+            }
+            Event::TickAll { to } => self.tick_all(alloc, *to),
+            Event::Crash { actor } => self.crash(alloc, *actor),
+            Event::Start { node } => self.start(alloc, *node),
+            Event::Agree { change } => self.agree(alloc, *change),
+            Event::Propose { .. } | Event::Activate { .. } => {
+                Err(WorldFault::Refused(Refused::NoActor))
+            }
+        }
+    }
+
+    /// How many letters were sent.
+    pub fn letters(&self) -> u64
+        ensures { result ≡ length self.now.letters }
+    {
+        self.letters.len() as u64
+    }
+
+    /// The letter of this number. Letters are numbered from 1.
+    pub fn letter(&self, number: u64) -> Option<&Letter>
+        ensures { option_copied result ≡ numbered number self.now.letters }
+    {
+        numbered(number, &self.letters)
+    }
+
+    /// How many calls were made.
+    pub fn calls(&self) -> u64
+        ensures { result ≡ self.now.calls }
+    {
+        self.calls
+    }
+
+    /// The node of this number, also where it has crashed. None exactly where there is none.
+    pub fn node(&self, id: NodeId) -> Option<&Node>
+        ensures { option_copied result ≡ node_of (process_at id self.now.processes) }
+    {
+        match self.processes.get(&id) {
+            Some(process) => Some(&process.node),
+            None => None,
+        }
+    }
+}

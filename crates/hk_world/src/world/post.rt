@@ -1,0 +1,112 @@
+//! Sending what a node's step gave.
+
+ghost use Rattle.std.specs.Prelude.{◌≡◌, ◌++◌, map, IfOk, OnOk, OnErr, take};
+ghost use Rattle.std.specs.Option.{IsSome};
+ghost use Rattle.std.specs.List.{AllByRecursion};
+ghost use Rattle.std.specs.List.Sorted.{IsStrictlySortedBy};
+ghost use Rattle.hk_copy.specs.Batches.{key_cmp};
+ghost use Rattle.hk_node.specs.Rows.{find_row};
+ghost use Rattle.hk_node.specs.Sound.{IsNode};
+ghost use Rattle.hk_node.specs.Replaced.{given_back};
+ghost use Rattle.hk_world.specs.Steps.{first_number, view_of};
+ghost use Rattle.hk_world.specs.Posted.{posted};
+
+use crate::shown::Shown;
+use hk_base::{CallNo, Letter, Letters, Memory, NodeId, View};
+use hk_node::{Node, NodeOut};
+use std::alloc::Global;
+
+// The same letters, which share keys and contents.
+fn share_letters(alloc: Global, letters: &Letters) -> Result<Vec<Letter>, Memory>
+    ensures { IfOk result (λ same. same.items ≡ letters.now) }
+{
+    let mut same = Vec::new(alloc);
+    for letter in letters.as_slice() {
+        let letter = letter.share(alloc)?;
+        same.push(letter)?;
+    }
+    Ok(same)
+}
+
+// The view that a step installed, if it did.
+fn copy_installed(
+    alloc: Global,
+    node: &Node,
+    installed: Option<u64>,
+) -> Result<Option<View>, Memory>
+    ensures { IfOk result (λ view. view ≡ view_of installed node.now) }
+{
+    if installed.is_none() {
+        return Ok(None);
+    }
+    match node.view() {
+        Some(view) => {
+            let view = view.copy(alloc)?;
+            Ok(Some(view))
+        }
+        None => Ok(None),
+    }
+}
+
+// The number of the first of these letters behind those, 0 where there are none.
+fn first_number(sent: &Vec<Letter>, letters: &Letters) -> u64
+    ensures { result ≡ first_number sent.now.items letters.now }
+{
+    if letters.is_empty() {
+        return 0;
+    }
+    sent.len() as u64 + 1
+}
+
+// Shares the letters of a step into the world's, and copies the view that it installed. After `Memory` nothing is sent.
+fn send(
+    alloc: Global,
+    node: &Node,
+    letters: &mut Vec<Letter>,
+    out: &NodeOut,
+) -> Result<Option<View>, Memory>
+    ensures sent { OnOk result (letters.new.items ≡ letters.old.items ++ out.now.letters) }
+    ensures view { IfOk result (λ view. view ≡ view_of out.now.installed node.now) }
+    ensures err { OnErr result (letters.new.items ≡ letters.old.items) }
+{
+    let view = copy_installed(alloc, node, out.installed)?;
+    let mut same = share_letters(alloc, &out.letters)?;
+    letters.append(&mut same)?;
+    Ok(view)
+}
+
+/// Sends the letters of a step that the node has made, and tells what the step shows. After `Memory` nothing is sent, and
+/// the node has what the step replaced.
+pub(crate) fn post(
+    alloc: Global,
+    id: NodeId,
+    call: Option<CallNo>,
+    node: &mut Node,
+    letters: &mut Vec<Letter>,
+    out: NodeOut,
+) -> Result<Shown, Memory>
+    requires rising { IsStrictlySortedBy key_cmp (map (λ f. f.key) out.replaced.rows) }
+    requires there { AllByRecursion (λ f. IsSome (find_row f.key node.old.rows)) out.replaced.rows }
+    requires node { IsNode (given_back out.replaced node.old) }
+    ensures node { OnOk result (node.new ≡ node.old) }
+    ensures letters { OnOk result (letters.new.items ≡ letters.old.items ++ out.letters) }
+    ensures shown { IfOk result (λ shown. shown ≡ posted letters.old.items id node.old out call) }
+    ensures undone { OnErr result (node.new ≡ given_back out.replaced node.old) }
+    ensures unsent { OnErr result (letters.new.items ≡ letters.old.items) }
+{
+    let first_letter = first_number(letters, &out.letters);
+    match send(alloc, node, letters, &out) {
+        Ok(view) => Ok(Shown {
+            call,
+            view,
+            installed: out.installed.map(|_| id),
+            first_letter,
+            letters: out.letters,
+            replies: out.replies,
+        }),
+        Err(error) => {
+            node.give_back(out.replaced);
+            Err(error)
+        }
+    }
+}
