@@ -1,0 +1,6 @@
+use Rattle.hk_parts.specs.EventKinds.{IsAskLease}
+use Rattle.hk_parts.proofs.Runs.{rmws_kept}
+use Rattle.hk_inv_rmw.proofs.keeps_ask_lease.Goals as goal
+
+pub returns : goal.returns
+returns c = rmws_kept c.runs_hold.ensures IsAskLease

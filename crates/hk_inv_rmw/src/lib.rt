@@ -1,0 +1,116 @@
+//! The part of the invariant on read-modify-writes, kept by each kind of event.
+//!
+//! Nothing runs here. Each law is about a run in which all parts held of every key at every moment, and one more accepted event
+//! of its kind: this part holds of every key afterwards. `hk_parts` has the definitions.
+#![tactic(auto)]
+
+ghost use Rattle.hk_parts.specs.EventKinds.{IsCall, IsTake, IsTick, IsTickAll, IsCrash, IsResend, IsReplay, IsCopy, IsStart, IsAgree, IsInstall, IsLease, IsAskLease, IsPropose, IsActivate};
+ghost use Rattle.hk_parts.specs.Held.{Keeps};
+ghost use Rattle.hk_parts.specs.RmwPart.{RmwPart};
+
+use hk_parts::runs_hold;
+
+/// Kept by a call at a node.
+pub fn keeps_call()
+    ensures { Keeps RmwPart IsCall }
+{
+    runs_hold();
+}
+
+/// Kept by a letter that is taken.
+pub fn keeps_take()
+    ensures { Keeps RmwPart IsTake }
+{
+    runs_hold();
+}
+
+/// Kept by a clock that rises.
+pub fn keeps_tick()
+    ensures { Keeps RmwPart IsTick }
+{
+    runs_hold();
+}
+
+/// Kept by all clocks that rise.
+pub fn keeps_tick_all()
+    ensures { Keeps RmwPart IsTickAll }
+{
+    runs_hold();
+}
+
+/// Kept by a crash.
+pub fn keeps_crash()
+    ensures { Keeps RmwPart IsCrash }
+{
+    runs_hold();
+}
+
+/// Kept by a pending update that is sent again.
+pub fn keeps_resend()
+    ensures { Keeps RmwPart IsResend }
+{
+    runs_hold();
+}
+
+/// Kept by an update that is replayed.
+pub fn keeps_replay()
+    ensures { Keeps RmwPart IsReplay }
+{
+    runs_hold();
+}
+
+/// Kept by a joiner that asks for rows.
+pub fn keeps_copy()
+    ensures { Keeps RmwPart IsCopy }
+{
+    runs_hold();
+}
+
+/// Kept by a joiner that starts.
+pub fn keeps_start()
+    ensures { Keeps RmwPart IsStart }
+{
+    runs_hold();
+}
+
+/// Kept by a view that is agreed.
+pub fn keeps_agree()
+    ensures { Keeps RmwPart IsAgree }
+{
+    runs_hold();
+}
+
+/// Kept by a view that is installed.
+pub fn keeps_install()
+    ensures { Keeps RmwPart IsInstall }
+{
+    runs_hold();
+}
+
+/// Kept by a lease that is granted.
+pub fn keeps_lease()
+    ensures { Keeps RmwPart IsLease }
+{
+    runs_hold();
+}
+
+/// Kept by a request for a lease, of which nothing comes.
+pub fn keeps_ask_lease()
+    ensures { Keeps RmwPart IsAskLease }
+{
+    runs_hold();
+}
+
+/// Kept by a proposal. None is accepted: there are no managers.
+pub fn keeps_propose()
+    ensures { Keeps RmwPart IsPropose }
+{
+    runs_hold();
+}
+
+/// Kept by an activation. None is accepted: there are no managers.
+pub fn keeps_activate()
+    ensures { Keeps RmwPart IsActivate }
+{
+    runs_hold();
+}

@@ -1,0 +1,6 @@
+use Rattle.hk_parts.specs.EventKinds.{IsActivate}
+use Rattle.hk_parts.proofs.Runs.{views_kept}
+use Rattle.hk_inv_view.proofs.keeps_activate.Goals as goal
+
+pub returns : goal.returns
+returns c = views_kept c.runs_hold.ensures IsActivate

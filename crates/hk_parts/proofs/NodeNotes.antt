@@ -1,0 +1,141 @@
+-- Notes of read-modify-writes are exact, whatever step a node makes.
+use Rattle.std.proofs.Common.{◌≡◌, ℕ, Bool, true, false, cond, not, ◌&&◌, ◌+◌, List, [], ◌∷◌, ◌∙◌, sym, refl, ap, subst, inl, Option, Some, None, eqb, ltb, nat_cmp}
+use Rattle.std.specs.Option.{option_or}
+use Rattle.hk_base.specs.declared.stamp.Stamp.{Stamp}
+use Rattle.hk_base.specs.declared.stamp.NodeId.{NodeId}
+use Rattle.hk_base.specs.declared.call.CallNo.{CallNo}
+use Rattle.hk_base.specs.declared.call.Op.{Op}
+use Rattle.hk_base.specs.declared.call.Reply.{Reply}
+use Rattle.hk_base.specs.declared.call.State.{State as RowState}
+use Rattle.hk_base.specs.declared.call.State.TheVariants as R
+use Rattle.hk_base.specs.declared.letter.Actor.{Actor}
+use Rattle.hk_base.specs.declared.letter.Actor.TheVariants as A
+use Rattle.hk_base.specs.declared.letter.Body.{Body}
+use Rattle.hk_base.specs.declared.letter.Body.TheVariants.{Inv, Ack, Val, CopyAsk, CopyGive, LeaseAsk, LeaseGive, Prepare, Promise, Accept, Accepted, Chosen, Activate}
+use Rattle.hk_base.specs.declared.letter.CopyItem.{CopyItem}
+use Rattle.hk_base.specs.declared.letter.Letter.{Letter}
+use Rattle.hk_base.specs.declared.view.View.{View}
+use Rattle.hk_base.specs.Register.{act}
+use Rattle.hk_base.specs.Stamp.{tag_of}
+use Rattle.hk_copy.specs.Batches.{is_nil, last_key}
+use Rattle.hk_key.specs.declared.row.Row.{Row}
+use Rattle.hk_key.specs.Notes.{all_noted}
+use Rattle.hk_key.specs.Table.{Done, begin, on_inv, on_ack, on_val, on_copy, resend, replay, still, unnoted}
+use Rattle.hk_register.specs.Machine.{In}
+use Rattle.hk_register.specs.Machine.Letter.{Ack as AckL}
+use Rattle.hk_node.specs.Calls.{kind_of, next_stamp, register_in, at_limit, at_turn, at_state, lease_end, at_lease, called}
+use Rattle.hk_node.specs.Copies.{batch_behind, merged, is_next}
+use Rattle.hk_node.specs.Node.{NodeState, epoch_of, members_of, is_member, is_other}
+use Rattle.hk_node.specs.Rows.{Rows, find_row, row_at, with_row}
+use Rattle.hk_node.specs.Sends.{letters_to}
+use Rattle.hk_node.specs.Stepped.{Stepped, idle, row_step}
+use Rattle.hk_node.specs.Steps.{on_found, installed_in, installs, received, is_addressed, receives_from, receives}
+use Rattle.hk_world.specs.declared.event.Event.{Event}
+use Rattle.hk_world.specs.declared.event.Event.TheVariants.{Call, Take, Tick, TickAll, Crash, Resend, Replay, Copy, Start, Agree, Install, Lease, AskLease, Propose, Activate as ActivateEvent}
+use Rattle.hk_world.specs.World.{WorldState}
+use Rattle.hk_effects.specs.View.{number_of, letters_of}
+use Rattle.hk_effects.proofs.Order.{same_of}
+use Rattle.hk_effects.proofs.Rests.{letter_sent, found_row}
+use Rattle.hk_effects.proofs.Viewed.{row-viewed}
+use Rattle.hk_parts.proofs.Cases.{Steps}
+use Rattle.hk_parts.proofs.RowNotes.{IsNoted, TopIs, started_noted, inv_noted, ack_noted, val_noted, resend_noted, replay_noted, view_noted, copy_noted, with_row_noted}
+
+merged_noted : (key : List ℕ) (items : List CopyItem) (rows : Rows) → IsNoted (row_at key rows).pending → IsNoted (row_at key (merged items rows)).pending
+merged_noted key [] rows ok = ok
+merged_noted key (i ∷ items) rows ok =
+    merged_noted key items (with_row i.key (on_copy (row_at i.key rows) i) rows)
+    (with_row_noted key i.key (on_copy (row_at i.key rows) i) rows ok (λ same. copy_noted (row_at i.key rows) i (subst (λ (k : List ℕ). IsNoted (row_at k rows).pending) same ok)))
+
+module _ (key : List ℕ) (w : WorldState) (x : NodeState) (ok : IsNoted (row_at key x.rows).pending) (tops : (m e : ℕ) (s top : Stamp) → In (letters_of key w.letters) (AckL m e (tag_of s) (tag_of top)) → TopIs (row_at key x.rows).pending s top) where
+  abbrev Noted : Stepped → Type 0
+  Noted s = IsNoted (row_at key s.node.rows).pending
+
+  here : (k : List ℕ) (r : Row) → key ≡ k → row_at k x.rows ≡ r → IsNoted r.pending
+  here k r same e = subst (λ (z : Row). IsNoted z.pending) (ap (λ (j : List ℕ). row_at j x.rows) same ∙ e) ok
+
+  row_keeps : (k : List ℕ) (d : Done) → (key ≡ k → IsNoted d.row.pending) → Noted (row_step x k d)
+  row_keeps k d good = with_row_noted key k d.row x.rows ok good
+
+  found_keeps : (k : List ℕ) (step : Row → Done) → ((r : Row) → row_at k x.rows ≡ r → key ≡ k → IsNoted (step r).row.pending) → (o : Option Row) → find_row k x.rows ≡ o → Noted (on_found o x k step)
+  found_keeps k step good None e = ok
+  found_keeps k step good (Some r) e = row_keeps k (step r) (good r (found_row k x.rows r e))
+
+  called_keeps : (call : CallNo) (k : List ℕ) (op : Op) → Noted (called x call k op)
+  called_keeps call k op = by_lease (ltb (lease_end x) (x.clock + x.skew))
+    where
+      by_limit : (o : Option Stamp) → Noted (at_limit o x call k op (row_at k x.rows))
+      by_limit None = ok
+      by_limit (Some s) =
+          let a = act op (register_in (row_at k x.rows)) (tag_of s) in
+          let reply : Reply = record { call = call; answer = a.answer } in
+          row_keeps k (begin x.id (members_of x) reply s (kind_of op) a.register.content) (λ same.
+          started_noted (all_noted x.id (members_of x) []) (record { state = R.Write; stamp = s; kind = kind_of op; content = a.register.content; kept_val = false; pending = None }) (unnoted (Some reply) s (kind_of op) a.register.content) (λ rmw. tt))
+
+      by_turn : (b : Bool) → Noted (at_turn b x call k op (row_at k x.rows))
+      by_turn true = by_limit (next_stamp (kind_of op) (row_at k x.rows).stamp x.id)
+      by_turn false = ok
+
+      by_state : (s : RowState) → Noted (at_state s x call k op (row_at k x.rows))
+      by_state R.Valid = by_turn (act op (register_in (row_at k x.rows)) 0).changed
+      by_state R.Invalid = ok
+      by_state R.Write = ok
+      by_state R.Replay = ok
+      by_state R.Trans = ok
+
+      by_lease : (b : Bool) → Noted (at_lease b x call k op)
+      by_lease true = ok
+      by_lease false = by_state (row_at k x.rows).state
+
+  -- by whether the node acts
+  either : (b : Bool) (s : Stepped) → Noted s → Noted (cond b s (idle x))
+  either true s good = good
+  either false s good = ok
+
+  received_keeps : (l : Letter) → In w.letters l → (body : Body) → l.body ≡ body → (from : NodeId) → Noted (received body x from)
+  received_keeps l sent (Inv k s kind content) is from = row_keeps k (on_inv (row_at k x.rows) from s kind content) (λ same. inv_noted (nat_cmp (tag_of (row_at k x.rows).stamp) (tag_of s)) (row_at k x.rows) from s kind content (here k (row_at k x.rows) same refl))
+  received_keeps l sent (Ack k s top) is from = found_keeps k (λ row. on_ack x.id (members_of x) row from s top) (λ r e same.
+      let letter : In (letters_of key w.letters) (AckL (number_of l.from) l.epoch (tag_of s) (tag_of top)) = letter_sent key w.letters l (AckL (number_of l.from) l.epoch (tag_of s) (tag_of top)) sent (rw (is, same_of key k same) (inl refl)) in
+      ack_noted x.id (members_of x) r from s top (here k r same e)
+      (subst (λ (z : Row). TopIs z.pending s top) (ap (λ (j : List ℕ). row_at j x.rows) same ∙ e) (tops (number_of l.from) l.epoch s top letter))) (find_row k x.rows) refl
+  received_keeps l sent (Val k s) is from = found_keeps k (λ row. still (on_val row s)) (λ r e same. val_noted r s (here k r same e)) (find_row k x.rows) refl
+  received_keeps l sent (CopyAsk after room) is from = either x.ready (record { node = x; letters = letters_to x (CopyGive after (is_nil (batch_behind x after room).left) (batch_behind x after room).taken) (from ∷ []); told = []; installed = None }) ok
+  received_keeps l sent (CopyGive after done items) is from =
+      either (not x.ready && is_next after x.cursor) (record { node = record x { ready = done; cursor = option_or (last_key items) x.cursor; rows = merged items x.rows }; letters = []; told = []; installed = None }) (merged_noted key items x.rows ok)
+  received_keeps l sent LeaseAsk is from = ok
+  received_keeps l sent (LeaseGive end) is from = ok
+  received_keeps l sent (Prepare ballot) is from = ok
+  received_keeps l sent (Promise ballot vote) is from = ok
+  received_keeps l sent (Accept ballot view) is from = ok
+  received_keeps l sent (Accepted ballot) is from = ok
+  received_keeps l sent (Chosen view) is from = ok
+  received_keeps l sent (Activate view) is from = ok
+
+  receives_keeps : (l : Letter) → In w.letters l → Noted (receives x l)
+  receives_keeps l sent = by_from l.from
+    where
+      by_from : (a : Actor) → Noted (receives_from a x l)
+      by_from (A.Manager m) = ok
+      by_from (A.Node from) = either (is_addressed x l.to && (eqb l.epoch (epoch_of x) && is_other x from)) (received l.body x from) (received_keeps l sent l.body refl from)
+
+  installs_keeps : (v : View) → Noted (installs x v)
+  installs_keeps v =
+      let y : NodeState = record x { view = Some v } in
+      either (ltb (epoch_of x) v.epoch && is_member x.id v.members) (installed_in y v.epoch)
+      (subst (λ (r : Row). IsNoted r.pending) (sym (row-viewed y key x.rows)) (view_noted y.id (members_of y) (row_at key x.rows)))
+
+  pub step_keeps : (event : Event) (s : Stepped) → Steps w x event s → IsNoted (row_at key s.node.rows).pending
+  step_keeps (Call id k op) s is = rw is (called_keeps (record { 0 = w.calls + 1 }) k op)
+  step_keeps (Take n) s is = rw is.2 (receives_keeps is.0 is.1)
+  step_keeps (Tick actor to) s is = rw is ok
+  step_keeps (Resend id k) s is = rw is (found_keeps k resend (λ r e same. resend_noted r (here k r same e)) (find_row k x.rows) refl)
+  step_keeps (Replay id k) s is = rw is (either x.ready (on_found (find_row k x.rows) x k (replay x.id (members_of x))) (found_keeps k (replay x.id (members_of x)) (λ r e same. replay_noted x.id (members_of x) r (here k r same e)) (find_row k x.rows) refl))
+  step_keeps (Copy id from room) s is = rw is (either (not x.ready && is_other x from) (record { node = x; letters = letters_to x (CopyAsk x.cursor room) (from ∷ []); told = []; installed = None }) ok)
+  step_keeps (Install id epoch) s is = rw is.2 (installs_keeps is.0)
+  step_keeps (Lease id end) s is = rw is ok
+  step_keeps (AskLease id manager) s is = rw is ok
+  step_keeps (TickAll to) s is = absurd is
+  step_keeps (Crash actor) s is = absurd is
+  step_keeps (Start id) s is = absurd is
+  step_keeps (Agree change) s is = absurd is
+  step_keeps (Propose manager base change) s is = absurd is
+  step_keeps (ActivateEvent manager) s is = absurd is
