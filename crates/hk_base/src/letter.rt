@@ -1,6 +1,7 @@
 //! The letters that nodes and managers send each other.
 
 ghost use Rattle.std.specs.Prelude.{◌≡◌, ◌++◌, ◌∷◌, [], IfOk, OnOk, take};
+ghost use Rattle.hk_base.specs.declared.letter.Body.TheVariants.{Inv, CopyGive, Promise};
 
 use crate::call::{Content, share_content};
 use crate::key::Key;
@@ -146,6 +147,44 @@ pub enum Body {
     Activate(View),
 }
 
+fn share_update(
+    key: &Key,
+    stamp: Stamp,
+    kind: Kind,
+    content: &Option<Content>,
+) -> Result<Body, Memory>
+    ensures { IfOk result (λ same. same ≡ Inv key.now stamp kind content.now) }
+{
+    let key = key.share()?;
+    let content = share_content(content)?;
+    Ok(Body::Inv {
+        key,
+        stamp,
+        kind,
+        content,
+    })
+}
+
+fn share_batch(
+    alloc: Global,
+    after: &Option<Key>,
+    done: bool,
+    items: &CopyItems,
+) -> Result<Body, Memory>
+    ensures { IfOk result (λ same. same ≡ CopyGive after.now done items.now) }
+{
+    let after = share_after(after)?;
+    let items = share_items(alloc, items)?;
+    Ok(Body::CopyGive { after, done, items })
+}
+
+fn share_promise(alloc: Global, ballot: Ballot, accepted: &Option<Voted>) -> Result<Body, Memory>
+    ensures { IfOk result (λ same. same ≡ Promise ballot accepted.now) }
+{
+    let accepted = share_vote(alloc, accepted)?;
+    Ok(Body::Promise { ballot, accepted })
+}
+
 impl Body {
     /// The same body, which shares keys and contents.
     pub fn share(&self, alloc: Global) -> Result<Body, Memory>
@@ -157,67 +196,32 @@ impl Body {
                 stamp,
                 kind,
                 content,
-            } => {
-                let key = key.share()?;
-                let content = share_content(content)?;
-                Ok(Body::Inv {
-                    key,
-                    stamp: *stamp,
-                    kind: *kind,
-                    content,
-                })
-            }
-            Body::Ack { key, stamp, top } => {
-                let key = key.share()?;
-                Ok(Body::Ack {
-                    key,
-                    stamp: *stamp,
-                    top: *top,
-                })
-            }
-            Body::Val { key, stamp } => {
-                let key = key.share()?;
-                Ok(Body::Val { key, stamp: *stamp })
-            }
-            Body::CopyAsk { after, room } => {
-                let after = share_after(after)?;
-                Ok(Body::CopyAsk { after, room: *room })
-            }
-            Body::CopyGive { after, done, items } => {
-                let after = share_after(after)?;
-                let items = share_items(alloc, items)?;
-                Ok(Body::CopyGive {
-                    after,
-                    done: *done,
-                    items,
-                })
-            }
+            } => share_update(key, *stamp, *kind, content),
+            Body::Ack { key, stamp, top } => Ok(Body::Ack {
+                key: key.share()?,
+                stamp: *stamp,
+                top: *top,
+            }),
+            Body::Val { key, stamp } => Ok(Body::Val {
+                key: key.share()?,
+                stamp: *stamp,
+            }),
+            Body::CopyAsk { after, room } => Ok(Body::CopyAsk {
+                after: share_after(after)?,
+                room: *room,
+            }),
+            Body::CopyGive { after, done, items } => share_batch(alloc, after, *done, items),
             Body::LeaseAsk => Ok(Body::LeaseAsk),
             Body::LeaseGive { end } => Ok(Body::LeaseGive { end: *end }),
             Body::Prepare(ballot) => Ok(Body::Prepare(*ballot)),
-            Body::Promise { ballot, accepted } => {
-                let accepted = share_vote(alloc, accepted)?;
-                Ok(Body::Promise {
-                    ballot: *ballot,
-                    accepted,
-                })
-            }
-            Body::Accept { ballot, view } => {
-                let view = view.copy(alloc)?;
-                Ok(Body::Accept {
-                    ballot: *ballot,
-                    view,
-                })
-            }
+            Body::Promise { ballot, accepted } => share_promise(alloc, *ballot, accepted),
+            Body::Accept { ballot, view } => Ok(Body::Accept {
+                ballot: *ballot,
+                view: view.copy(alloc)?,
+            }),
             Body::Accepted(ballot) => Ok(Body::Accepted(*ballot)),
-            Body::Chosen(view) => {
-                let view = view.copy(alloc)?;
-                Ok(Body::Chosen(view))
-            }
-            Body::Activate(view) => {
-                let view = view.copy(alloc)?;
-                Ok(Body::Activate(view))
-            }
+            Body::Chosen(view) => Ok(Body::Chosen(view.copy(alloc)?)),
+            Body::Activate(view) => Ok(Body::Activate(view.copy(alloc)?)),
         }
     }
 }

@@ -120,3 +120,44 @@ fn a_shadow_has_no_lease(rt: HostRuntime) -> Result<(), Fail> {
     assert!(rt; out.replies.get(0).map(|reply| &reply.answer) == Some(&busy));
     Ok(())
 }
+
+// A founder whose key an update of the other member left Invalid.
+fn invalid(alloc: Global, key: &Key) -> Result<Node, Fail> {
+    let mut node = founder(alloc)?;
+    let inv = Body::Inv {
+        key: key.share()?,
+        stamp: LAST_WRITE,
+        kind: Kind::Write,
+        content: None,
+    };
+    node.receive(alloc, &letter(1, inv))?;
+    Ok(node)
+}
+
+#[test]
+fn replays_and_sends_again(rt: HostRuntime) -> Result<(), Fail> {
+    let alloc = rt.alloc();
+    let key = Key::read(alloc, b"k")?;
+    let mut node = invalid(alloc, &key)?;
+    let replayed = node.replay(alloc, &key)?;
+    let resent = node.resend(alloc, &key)?;
+    assert!(rt; replayed.letters.len() == 1 && resent.letters.len() == 1);
+    Ok(())
+}
+
+// Makes the step of a lease that is granted.
+fn grant(alloc: Global, node: &mut Node) -> Result<(), Fail> {
+    let event = NodeEvent::Grant { end: 2000 };
+    node.step(alloc, &event)?;
+    Ok(())
+}
+
+#[test]
+fn steps_and_is_copied(rt: HostRuntime) -> Result<(), Fail> {
+    let alloc = rt.alloc();
+    let mut node = founder(alloc)?;
+    grant(alloc, &mut node)?;
+    let same = node.copy(alloc)?;
+    assert!(rt; same.granted() == 2000);
+    Ok(())
+}

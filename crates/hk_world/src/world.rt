@@ -123,6 +123,13 @@ impl World {
         numbered(number, &self.letters)
     }
 
+    /// The agreed view of this epoch. None exactly where none was agreed.
+    pub fn view(&self, epoch: u64) -> Option<&View>
+        ensures { option_copied result ≡ numbered epoch self.now.views }
+    {
+        numbered(epoch, &self.views)
+    }
+
     /// How many calls were made.
     pub fn calls(&self) -> u64
         ensures { result ≡ self.now.calls }
