@@ -38,3 +38,4 @@ pub mod Numbered
 pub mod Founders
 pub mod Runs
 pub mod Legality
+pub mod Shown

@@ -3,3 +3,4 @@ pub mod Own
 pub mod Laws
 pub mod Runs
 pub mod Orders
+pub mod Worked

@@ -3,15 +3,19 @@
 //! Nothing runs here: the crate is definitions and laws about them. `specs/View.antt` says what one key has of a world: the nodes'
 //! rows, the letters that tell of the key, and what grows with the run, its marks, updates and history. Whatever event a world
 //! accepts, the key sees one effect of `hk_register`, or two. So the laws of the register hold of every run of a world, and the
-//! order that is printed of a key is legal: no premise is left, since the world refuses what would break one.
+//! order that is printed of a key is legal: no premise is left, since the world refuses what would break one. `specs/Worked.antt`
+//! has worlds worked by hand, in which each effect is seen.
 #![tactic(auto)]
 
 ghost use Rattle.hk_effects.specs.Laws.{EventIsEffects, EventKeepsOwn};
 ghost use Rattle.hk_effects.specs.Orders.{OrdersAreLegal};
 ghost use Rattle.hk_effects.specs.Runs.{RunsKeepParts};
 
+mod worked;
+
 use hk_register::printed_is_legal;
 use hk_world::worlds_stay_sound;
+pub use worked::each_effect_shows;
 
 /// Each accepted event is, for each key, one effect or two.
 pub fn event_is_effects()

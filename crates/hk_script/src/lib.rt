@@ -1,7 +1,8 @@
 //! The lines of a script: the header of a group, and the events of its world.
 //!
 //! Each event has one line, `specs/Grammar.antt`, and each line is one event's or none. So a line is read exactly: as the event
-//! whose line it is, or as Bad; and what is printed is read again.
+//! whose line it is, or as Bad; and what is printed is read again. The words of a line are printed one at a time by [`put_text`],
+//! [`put_number`], [`put_word`] and [`put_actor`].
 #![tactic(auto)]
 
 mod event;
@@ -20,4 +21,5 @@ mod words;
 pub use fault::LineFault;
 pub use laws::lines_are_one;
 pub use print::{print_event, print_header};
+pub use put::{put as put_text, put_actor, put_number, put_word};
 pub use read::{read_event, read_header};

@@ -4,7 +4,7 @@ ghost use Rattle.std.specs.Prelude.{◌≡◌, ◌++◌, OnOk, codes, decimal};
 ghost use Rattle.hk_base.specs.declared.letter.Actor.TheVariants.{Manager};
 ghost use Rattle.hk_world.specs.declared.event.Event.TheVariants.{Call, Tick, Copy, Agree, AskLease, Propose};
 ghost use Rattle.hk_script.specs.Words.{word_of, actor_word};
-ghost use Rattle.hk_script.specs.Grammar.{IsWritten, IsHeaderWritten, event_line, header_line};
+ghost use Rattle.hk_script.specs.Grammar.{IsHeaderWritten, event_line, header_line};
 
 use crate::put::{put, put_actor, put_change, put_node, put_number, put_op, put_word};
 use hk_base::{Actor, Change, Key, Memory, NodeId, Op};
@@ -121,7 +121,6 @@ pub fn print_header(header: &Header, out: &mut Vec<u8>) -> Result<(), Memory>
 
 /// Puts the line of an event behind what is there, without a line feed. After `Memory` a front of it may stand there.
 pub fn print_event(event: &Event, out: &mut Vec<u8>) -> Result<(), Memory>
-    requires { IsWritten event.now }
     ensures { OnOk result (out.new.items ≡ out.old.items ++ event_line event.now) }
 {
     match event {

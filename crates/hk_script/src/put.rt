@@ -9,16 +9,16 @@ use crate::words::is_plain;
 use hk_base::{Actor, Change, Content, Memory, NodeId, Op};
 use itoa::Buffer;
 
-/// Puts a text behind what is there.
-pub(crate) fn put(out: &mut Vec<u8>, text: &[u8]) -> Result<(), Memory>
+/// Puts a text behind what is there. After `Memory` a front of it may stand there.
+pub fn put(out: &mut Vec<u8>, text: &[u8]) -> Result<(), Memory>
     ensures { OnOk result (out.new.items ≡ out.old.items ++ text.now) }
 {
     out.extend_from_slice(text)?;
     Ok(())
 }
 
-/// Puts a decimal number.
-pub(crate) fn put_number(out: &mut Vec<u8>, number: u64) -> Result<(), Memory>
+/// Puts a decimal number behind what is there. After `Memory` a front of it may stand there.
+pub fn put_number(out: &mut Vec<u8>, number: u64) -> Result<(), Memory>
     ensures { OnOk result (out.new.items ≡ out.old.items ++ decimal number) }
 {
     let mut buffer = Buffer::new();
@@ -58,8 +58,8 @@ fn put_bytes(out: &mut Vec<u8>, bytes: &[u8]) -> Result<(), Memory>
     Ok(())
 }
 
-/// Puts the word of some bytes.
-pub(crate) fn put_word(out: &mut Vec<u8>, bytes: &[u8]) -> Result<(), Memory>
+/// Puts the word of some bytes behind what is there. After `Memory` a front of it may stand there.
+pub fn put_word(out: &mut Vec<u8>, bytes: &[u8]) -> Result<(), Memory>
     ensures { OnOk result (out.new.items ≡ out.old.items ++ word_of bytes.now) }
 {
     match bytes {
@@ -75,8 +75,8 @@ pub(crate) fn put_word(out: &mut Vec<u8>, bytes: &[u8]) -> Result<(), Memory>
     }
 }
 
-/// Puts the word of an actor.
-pub(crate) fn put_actor(out: &mut Vec<u8>, actor: Actor) -> Result<(), Memory>
+/// Puts the word of an actor behind what is there: its number, with `m` before a manager's. After `Memory` a front of it may stand there.
+pub fn put_actor(out: &mut Vec<u8>, actor: Actor) -> Result<(), Memory>
     ensures { OnOk result (out.new.items ≡ out.old.items ++ actor_word actor) }
 {
     match actor {
