@@ -1,117 +1,1266 @@
-// A plain program of the same form as `hermes drill` on a group of one: it holds its input whole, splits it into
-// lines, keeps what it knows of each key in an ordered map, and writes the transcript at the end. It proves nothing.
-// `plain gen LINES KEYS` writes a script instead.
-use std::collections::BTreeMap;
-use std::io::{Read, Write};
+// A plain program of the same form as `hermes drill`, for groups without managers: it holds its input whole, follows its
+// lines one after the other over a world of nodes, keeps of each key what its history and order are made of, and writes the
+// transcript at the end. It proves nothing.
+//
+// `plain gen EVENTS KEYS NODES` writes a script of so many mixed events instead, none of which is refused. `plain letters
+// LETTERS NODES` writes a script that sends nearly so many letters over few keys. `plain drill` is `plain`.
+use std::collections::btree_map::{BTreeMap, Entry};
+use std::io::{self, Read, Write};
 use std::rc::Rc;
 
-struct KeyRun {
-    content: Option<(u32, Rc<[u8]>)>,
-    version: u64,
-    calls: Vec<u64>,
-    order: Vec<(u64, Option<u64>)>,
+const MAX_TIME: u64 = 1_000_000_000_000;
+const MAX_LINE_LEN: usize = 4096;
+const MAX_LINES: u64 = 1_000_000;
+const MAX_LETTERS: usize = 4_000_000;
+const MAX_VERSION: u64 = (1 << 48) - 1;
+const MAX_MEMBERS: usize = 16;
+const MAX_NODES: u64 = 65_536;
+const MAX_BATCH_BYTES: usize = 2_097_152;
+
+// ---- keys, contents, stamps
+type Key = Rc<[u8]>;
+
+#[derive(Clone)]
+struct Content {
+    flags: u32,
+    data: Rc<[u8]>,
 }
 
-fn number(word: &[u8], limit: u64) -> Option<u64> {
-    if word.is_empty() || !word.iter().all(u8::is_ascii_digit) || (word.len() > 1 && word[0] == b'0') {
+#[derive(Clone, Copy, PartialEq)]
+enum Kind {
+    Write,
+    Rmw,
+}
+
+#[derive(Clone, Copy, PartialEq)]
+enum State {
+    Valid,
+    Invalid,
+    Write,
+    Replay,
+    Trans,
+}
+
+/// A version and a node in one number, which is also the tag. So stamps are ordered by version, then by node.
+#[derive(Clone, Copy, PartialEq, Eq, PartialOrd, Ord)]
+struct Stamp(u64);
+
+/// The stamp of a key that nothing has touched.
+const ZERO: Stamp = Stamp(0);
+
+impl Stamp {
+    fn version(self) -> u64 {
+        self.0 >> 16
+    }
+
+    fn node(self) -> u64 {
+        self.0 & 0xffff
+    }
+
+    fn next(self, kind: Kind, node: u16) -> Option<Stamp> {
+        let step = if kind == Kind::Write { 2 } else { 1 };
+        let version = self.version() + step;
+        (version <= MAX_VERSION).then_some(Stamp(version << 16 | u64::from(node)))
+    }
+}
+
+// ---- operations
+enum Op {
+    Read,
+    Write(Content),
+    Cas { tag: u64, content: Content },
+    Incr(u64),
+    Decr(u64),
+}
+
+enum Answer {
+    Found(Content, u64),
+    Missing,
+    Stored,
+    Number(u64),
+    Exists,
+    NotFound,
+    NotNumber,
+    BusyLease { end: u64, now: u64 },
+    BusyRow(State, Stamp),
+    Aborted(Stamp),
+    Exhausted(Stamp),
+}
+
+struct Reply {
+    call: u64,
+    answer: Answer,
+}
+
+/// The number that data is: 1 to 20 digits of 64 bits, where zeros may stand in front.
+fn value_of(data: &[u8]) -> Option<u64> {
+    if data.is_empty() || data.len() > 20 || !data.iter().all(u8::is_ascii_digit) {
         return None;
     }
-    std::str::from_utf8(word).ok()?.parse().ok().filter(|n| *n <= limit)
+    std::str::from_utf8(data).ok()?.parse().ok()
 }
 
-fn bytes(word: &[u8]) -> Option<&[u8]> {
-    match word {
-        [] => None,
-        b"-" => Some(b""),
-        _ => word.iter().all(|b| (33..=126).contains(b) && *b != b'%').then_some(word),
+fn turn_number(held: &Content, step: impl Fn(u64) -> u64) -> Result<(Content, Answer), Answer> {
+    let value = step(value_of(&held.data).ok_or(Answer::NotNumber)?);
+    let mut text = Text::default();
+    text.number(value);
+    Ok((Content { flags: held.flags, data: text.0.into() }, Answer::Number(value)))
+}
+
+/// What an operation makes of the content and stamp of a row, with its answer; or the answer where nothing changes.
+fn turn(op: Op, held: Option<(&Content, Stamp)>) -> Result<(Content, Answer), Answer> {
+    match (op, held) {
+        (Op::Write(content), _) => Ok((content, Answer::Stored)),
+        (Op::Read, None) => Err(Answer::Missing),
+        (_, None) => Err(Answer::NotFound),
+        (Op::Read, Some((held, stamp))) => Err(Answer::Found(held.clone(), stamp.0)),
+        (Op::Cas { tag, .. }, Some((_, stamp))) if tag != stamp.0 => Err(Answer::Exists),
+        (Op::Cas { content, .. }, Some(_)) => Ok((content, Answer::Stored)),
+        (Op::Incr(by), Some((held, _))) => turn_number(held, |value| value.wrapping_add(by)),
+        (Op::Decr(by), Some((held, _))) => turn_number(held, |value| value.saturating_sub(by)),
     }
 }
 
-fn generate(lines: u64, keys: u64) {
-    let mut out = std::io::BufWriter::new(std::io::stdout().lock());
-    writeln!(out, "group 1 managers 0 lease 1000 skew 0").unwrap();
-    let mut state = 1u64;
-    for _ in 1..lines {
-        state = state.wrapping_mul(6364136223846793005).wrapping_add(1442695040888963407);
-        let key = (state >> 33) % keys;
-        if state >> 63 == 0 {
-            writeln!(out, "call 0 set key:{key} 0 value-{}", (state >> 40) % 1000).unwrap();
-        } else {
-            writeln!(out, "call 0 get key:{key}").unwrap();
-        }
+// ---- views and letters
+struct View {
+    epoch: u64,
+    next: u64,
+    members: Vec<u16>,
+}
+
+struct CopyItem {
+    key: Key,
+    stamp: Stamp,
+    kind: Kind,
+    valid: bool,
+    content: Content,
+}
+
+#[derive(Clone)]
+enum Body {
+    Inv { key: Key, stamp: Stamp, kind: Kind, content: Content },
+    Ack { key: Key, stamp: Stamp, top: Stamp },
+    Val { key: Key, stamp: Stamp },
+    CopyAsk { after: Option<Key>, room: u8 },
+    CopyGive { after: Option<Key>, done: bool, items: Rc<[CopyItem]> },
+}
+
+#[derive(Clone)]
+struct Letter {
+    epoch: u64,
+    from: u16,
+    to: u16,
+    body: Body,
+}
+
+/// A node's number, and the view that it installed last.
+struct Place {
+    id: u16,
+    view: Option<Rc<View>>,
+}
+
+impl Place {
+    fn epoch(&self) -> u64 {
+        self.view.as_ref().map_or(0, |view| view.epoch)
+    }
+
+    fn members(&self) -> &[u16] {
+        self.view.as_ref().map_or(&[], |view| &view.members)
+    }
+
+    fn others(&self) -> impl Iterator<Item = u16> + '_ {
+        self.members().iter().copied().filter(move |member| *member != self.id)
+    }
+
+    fn is_other(&self, node: u16) -> bool {
+        node != self.id && self.members().contains(&node)
+    }
+
+    fn send(&self, to: u16, body: Body, letters: &mut Vec<Letter>) {
+        letters.push(Letter { epoch: self.epoch(), from: self.id, to, body });
     }
 }
 
-fn main() {
-    let words: Vec<String> = std::env::args().collect();
-    if words.len() == 4 && words[1] == "gen" {
-        return generate(words[2].parse().unwrap(), words[3].parse().unwrap());
+// ---- the row of a key
+struct Ack {
+    node: u16,
+    /// The node had the update's own stamp.
+    exact: bool,
+}
+
+struct Pending {
+    reply: Option<Reply>,
+    stamp: Stamp,
+    kind: Kind,
+    content: Content,
+    acks: Vec<Ack>,
+}
+
+struct Row {
+    state: State,
+    stamp: Stamp,
+    kind: Kind,
+    content: Content,
+    kept_val: bool,
+    pending: Option<Pending>,
+}
+
+/// What a step did to one key: the stamps that its node covers by it, and the call that it answers.
+struct Told {
+    key: Key,
+    row: Stamp,
+    pending: Stamp,
+    acked: Stamp,
+    reply: Option<Reply>,
+}
+
+impl Row {
+    fn told(&self, key: &Key, acked: Stamp, reply: Option<Reply>) -> Told {
+        let pending = self.pending.as_ref().map_or(ZERO, |pending| pending.stamp);
+        Told { key: key.clone(), row: self.stamp, pending, acked, reply }
     }
-    let mut input = Vec::new();
-    std::io::stdin().read_to_end(&mut input).unwrap();
-    let lines: Vec<&[u8]> = input.strip_suffix(b"\n").unwrap_or(&input).split(|b| *b == b'\n').collect();
-    let mut calls = Vec::new();
-    for (at, line) in lines.iter().enumerate().skip(1) {
-        let words: Vec<&[u8]> = line.split(|b| *b == b' ').collect();
-        let call = match words.as_slice() {
-            [b"call", b"0", b"get", key] => bytes(key).map(|key| (Rc::<[u8]>::from(key), None)),
-            [b"call", b"0", b"set", key, flags, data] => (|| {
-                let flags = number(flags, u64::from(u32::MAX))? as u32;
-                Some((Rc::<[u8]>::from(bytes(key)?), Some((flags, Rc::<[u8]>::from(bytes(data)?)))))
-            })(),
-            _ => None,
-        };
-        match call {
-            Some(call) => calls.push(call),
-            None => {
-                println!("stop line {} bad", at + 1);
-                std::process::exit(5);
-            }
-        }
+
+    fn inv(&self, key: &Key) -> Body {
+        Body::Inv { key: key.clone(), stamp: self.stamp, kind: self.kind, content: self.content.clone() }
     }
-    let mut text = Vec::new();
-    let mut keys: BTreeMap<Rc<[u8]>, KeyRun> = BTreeMap::new();
-    for (at, (key, content)) in calls.iter().enumerate() {
-        let n = at as u64 + 1;
-        let run = keys.entry(key.clone()).or_insert_with(|| KeyRun { content: None, version: 0, calls: Vec::new(), order: Vec::new() });
-        run.calls.push(n);
-        write!(text, "{n} call {n}\n{n} reply {n} ").unwrap();
-        match content {
-            Some(content) => {
-                run.content = Some(content.clone());
-                run.version += 2;
-                run.order.push((n, Some(run.version * 65536)));
-                text.extend_from_slice(b"stored\n");
-            }
-            None => {
-                run.order.push((n, None));
-                match &run.content {
-                    None => text.extend_from_slice(b"missing\n"),
-                    Some((flags, data)) => {
-                        write!(text, "found {flags} {} ", run.version * 65536).unwrap();
-                        text.extend_from_slice(if data.is_empty() { b"-" } else { data });
-                        text.push(b'\n');
-                    }
+
+    /// The pending update has all acknowledgements.
+    fn complete(&mut self, key: &Key, place: &Place, letters: &mut Vec<Letter>) -> Option<Reply> {
+        let pending = self.pending.take()?;
+        let valid = if self.stamp == pending.stamp {
+            let settled = pending.acks.iter().all(|ack| ack.exact);
+            if settled {
+                for to in place.others() {
+                    place.send(to, Body::Val { key: key.clone(), stamp: self.stamp }, letters);
                 }
             }
-        }
+            settled
+        } else {
+            self.kept_val
+        };
+        self.state = if valid { State::Valid } else { State::Invalid };
+        pending.reply
     }
-    for (key, run) in &keys {
-        text.extend_from_slice(b"key ");
-        text.extend_from_slice(key);
-        text.extend_from_slice(b"\nhistory");
-        for n in &run.calls {
-            write!(text, " c{n} r{n}").unwrap();
+
+    /// The pending update, of which nothing is acknowledged, goes out to all others.
+    fn start(&mut self, key: &Key, place: &Place, letters: &mut Vec<Letter>) -> Option<Reply> {
+        if place.members().len() == 1 {
+            return self.complete(key, place, letters);
         }
-        text.extend_from_slice(b"\norder");
-        for (n, tag) in &run.order {
-            match tag {
-                Some(tag) => write!(text, " {n}@{tag}").unwrap(),
-                None => write!(text, " {n}").unwrap(),
+        self.resend(key, place, letters);
+        None
+    }
+
+    /// INV of the pending update to each other that has not acknowledged it.
+    fn resend(&self, key: &Key, place: &Place, letters: &mut Vec<Letter>) {
+        let Some(pending) = &self.pending else { return };
+        for to in place.others() {
+            if pending.acks.iter().all(|ack| ack.node != to) {
+                let content = pending.content.clone();
+                place.send(to, Body::Inv { key: key.clone(), stamp: pending.stamp, kind: pending.kind, content }, letters);
             }
         }
-        text.push(b'\n');
     }
-    writeln!(text, "end {0} {0} 0", calls.len()).unwrap();
-    std::io::stdout().write_all(&text).unwrap();
+
+    fn replay(&mut self, key: &Key, place: &Place, letters: &mut Vec<Letter>) {
+        if self.state == State::Invalid {
+            self.state = State::Replay;
+            self.wait(None);
+            self.start(key, place, letters);
+        }
+    }
+
+    /// The row's update becomes the pending one.
+    fn wait(&mut self, reply: Option<Reply>) {
+        self.pending = Some(Pending { reply, stamp: self.stamp, kind: self.kind, content: self.content.clone(), acks: Vec::new() });
+    }
+
+    /// An INV above the row: gives the call that is given up.
+    fn overtake(&mut self, stamp: Stamp, kind: Kind, content: Content) -> Option<Reply> {
+        self.stamp = stamp;
+        self.kind = kind;
+        self.content = content;
+        self.kept_val = false;
+        let plain = self.pending.as_ref().is_some_and(|pending| pending.kind == Kind::Write);
+        match self.state {
+            State::Trans => None,
+            State::Write if plain => {
+                self.state = State::Trans;
+                None
+            }
+            State::Write => {
+                self.state = State::Invalid;
+                let reply = self.pending.take()?.reply?;
+                Some(Reply { call: reply.call, answer: Answer::Aborted(stamp) })
+            }
+            State::Valid | State::Invalid | State::Replay => {
+                self.state = State::Invalid;
+                self.pending = None;
+                None
+            }
+        }
+    }
+
+    fn on_ack(&mut self, key: &Key, place: &Place, from: u16, stamp: Stamp, top: Stamp, letters: &mut Vec<Letter>) -> Option<Reply> {
+        let pending = self.pending.as_mut().filter(|pending| pending.stamp == stamp)?;
+        match pending.acks.iter_mut().find(|ack| ack.node == from) {
+            Some(ack) => ack.exact |= top == stamp,
+            None => pending.acks.push(Ack { node: from, exact: top == stamp }),
+        }
+        if pending.acks.len() + 1 < place.members().len() {
+            return None;
+        }
+        self.complete(key, place, letters)
+    }
+
+    fn on_val(&mut self, stamp: Stamp) {
+        match self.state {
+            State::Invalid if self.stamp == stamp => self.state = State::Valid,
+            State::Trans if self.stamp == stamp => self.kept_val = true,
+            _ => {}
+        }
+    }
+
+    fn of_copy(item: &CopyItem) -> Row {
+        Row {
+            state: if item.valid { State::Valid } else { State::Invalid },
+            stamp: item.stamp,
+            kind: item.kind,
+            content: item.content.clone(),
+            kept_val: false,
+            pending: None,
+        }
+    }
+}
+
+// ---- a node
+struct Node {
+    place: Place,
+    ready: bool,
+    cursor: Option<Key>,
+    granted: u64,
+    clock: u64,
+    crashed: bool,
+    rows: BTreeMap<Key, Row>,
+}
+
+impl Node {
+    /// A founder has a view and is ready, a joiner is not.
+    fn new(id: u16, view: Option<Rc<View>>, granted: u64, clock: u64) -> Node {
+        let ready = view.is_some();
+        Node { place: Place { id, view }, ready, cursor: None, granted, clock, crashed: false, rows: BTreeMap::new() }
+    }
+
+    fn call(&mut self, skew: u64, call: u64, key: &Key, op: Op, shown: &mut Shown, letters: &mut Vec<Letter>) {
+        let answered = |row, answer| Told { key: key.clone(), row, pending: ZERO, acked: ZERO, reply: Some(Reply { call, answer }) };
+        let end = if self.ready { self.granted } else { 0 };
+        if self.clock + skew > end {
+            return shown.told.push(answered(ZERO, Answer::BusyLease { end, now: self.clock }));
+        }
+        let entry = self.rows.entry(key.clone());
+        let (state, stamp, held) = match &entry {
+            Entry::Vacant(_) => (State::Valid, ZERO, None),
+            Entry::Occupied(row) => (row.get().state, row.get().stamp, Some((&row.get().content, row.get().stamp))),
+        };
+        if state != State::Valid {
+            return shown.told.push(answered(stamp, Answer::BusyRow(state, stamp)));
+        }
+        let kind = if matches!(op, Op::Write(_)) { Kind::Write } else { Kind::Rmw };
+        let (content, answer) = match turn(op, held) {
+            Ok(changed) => changed,
+            Err(answer) => {
+                shown.looked = true;
+                return shown.told.push(answered(stamp, answer));
+            }
+        };
+        let Some(stamp) = stamp.next(kind, self.place.id) else {
+            return shown.told.push(answered(stamp, Answer::Exhausted(stamp)));
+        };
+        let row = Row { state: State::Write, stamp, kind, content, kept_val: false, pending: None };
+        let row = match entry {
+            Entry::Vacant(vacant) => vacant.insert(row),
+            Entry::Occupied(occupied) => {
+                let held = occupied.into_mut();
+                *held = row;
+                held
+            }
+        };
+        row.wait(Some(Reply { call, answer }));
+        let reply = row.start(key, &self.place, letters);
+        shown.begun = true;
+        shown.told.push(row.told(key, ZERO, reply));
+    }
+
+    fn receive(&mut self, letter: Letter, shown: &mut Shown, letters: &mut Vec<Letter>) {
+        let from = letter.from;
+        if letter.epoch != self.place.epoch() || !self.place.is_other(from) {
+            return;
+        }
+        match letter.body {
+            Body::Inv { key, stamp, kind, content } => {
+                let told = self.receive_inv(from, key, stamp, kind, content, letters);
+                shown.told.push(told);
+            }
+            Body::Ack { key, stamp, top } => {
+                if let Some(row) = self.rows.get_mut(&key) {
+                    let reply = row.on_ack(&key, &self.place, from, stamp, top, letters);
+                    shown.told.push(row.told(&key, ZERO, reply));
+                }
+            }
+            Body::Val { key, stamp } => {
+                if let Some(row) = self.rows.get_mut(&key) {
+                    row.on_val(stamp);
+                }
+            }
+            Body::CopyAsk { after, room } if self.ready => self.give(from, after, room, letters),
+            Body::CopyGive { after, done, items } if !self.ready && after == self.cursor => self.merge(done, &items, shown),
+            Body::CopyAsk { .. } | Body::CopyGive { .. } => {}
+        }
+    }
+
+    fn receive_inv(&mut self, from: u16, key: Key, stamp: Stamp, kind: Kind, content: Content, letters: &mut Vec<Letter>) -> Told {
+        let first = || Row { state: State::Valid, stamp: ZERO, kind: Kind::Write, content: content.clone(), kept_val: false, pending: None };
+        let row = self.rows.entry(key.clone()).or_insert_with(first);
+        let counters = row.stamp > stamp && kind == Kind::Rmw;
+        let reply = if row.stamp < stamp { row.overtake(stamp, kind, content) } else { None };
+        if counters {
+            self.place.send(from, row.inv(&key), letters);
+        } else {
+            self.place.send(from, Body::Ack { key: key.clone(), stamp, top: row.stamp }, letters);
+        }
+        row.told(&key, if counters { ZERO } else { stamp }, reply)
+    }
+
+    fn ask_copy(&self, from: u16, room: u8, letters: &mut Vec<Letter>) {
+        if !self.ready && self.place.is_other(from) {
+            self.place.send(from, Body::CopyAsk { after: self.cursor.clone(), room }, letters);
+        }
+    }
+
+    /// The rows behind a key, as many as there is room for.
+    fn give(&self, to: u16, after: Option<Key>, room: u8, letters: &mut Vec<Letter>) {
+        use std::ops::Bound::{Excluded, Unbounded};
+        let start = after.as_deref().map_or(Unbounded, Excluded);
+        let mut rows = self.rows.range::<[u8], _>((start, Unbounded)).peekable();
+        let mut items = Vec::new();
+        let mut left = MAX_BATCH_BYTES;
+        while items.len() < usize::from(room) {
+            let Some((key, row)) = rows.next_if(|(key, row)| key.len() + row.content.data.len() <= left) else { break };
+            left -= key.len() + row.content.data.len();
+            let valid = row.state == State::Valid;
+            items.push(CopyItem { key: key.clone(), stamp: row.stamp, kind: row.kind, valid, content: row.content.clone() });
+        }
+        let done = rows.peek().is_none();
+        self.place.send(to, Body::CopyGive { after, done, items: items.into() }, letters);
+    }
+
+    fn merge(&mut self, done: bool, items: &[CopyItem], shown: &mut Shown) {
+        for item in items {
+            let row = match self.rows.entry(item.key.clone()) {
+                Entry::Vacant(vacant) => vacant.insert(Row::of_copy(item)),
+                Entry::Occupied(occupied) => {
+                    let row = occupied.into_mut();
+                    if row.stamp < item.stamp {
+                        *row = Row::of_copy(item);
+                    } else if row.stamp == item.stamp && item.valid && row.state == State::Invalid {
+                        row.state = State::Valid;
+                    }
+                    row
+                }
+            };
+            shown.told.push(row.told(&item.key, ZERO, None));
+        }
+        if let Some(last) = items.last() {
+            self.cursor = Some(last.key.clone());
+        }
+        self.ready = done;
+        if done {
+            shown.told.clear();
+            shown.told.extend(self.rows.iter().map(|(key, row)| row.told(key, ZERO, None)));
+        }
+    }
+
+    fn install(&mut self, view: Rc<View>, shown: &mut Shown, letters: &mut Vec<Letter>) {
+        self.place.view = Some(view);
+        for (key, row) in &mut self.rows {
+            let mut told = row.told(key, ZERO, None);
+            if let Some(pending) = &mut row.pending {
+                pending.acks.clear();
+                told.reply = row.start(key, &self.place, letters);
+            }
+            shown.told.push(told);
+        }
+    }
+}
+
+// ---- the world
+enum Change {
+    Drop(u16),
+    Add,
+}
+
+/// Why an event is not made: its line is outside the grammar, or the world refuses it by this text.
+enum Fault {
+    Bad,
+    Refused(String),
+}
+
+fn refused(text: &str) -> Fault {
+    Fault::Refused(text.to_string())
+}
+
+/// What an event shows beside its letters.
+#[derive(Default)]
+struct Shown {
+    call: Option<u64>,
+    agreed: Option<Rc<View>>,
+    installed: bool,
+    /// The node that acted: its number, epoch and whether it is ready.
+    acting: Option<Cover>,
+    /// The call began an update; or it was answered by the row that it found.
+    begun: bool,
+    looked: bool,
+    told: Vec<Told>,
+}
+
+impl Shown {
+    fn act(&mut self, node: &Node) {
+        self.acting = Some(Cover { epoch: node.place.epoch(), node: node.place.id, ready: node.ready });
+    }
+
+    fn clear(&mut self) {
+        let mut told = std::mem::take(&mut self.told);
+        told.clear();
+        *self = Shown { told, ..Shown::default() };
+    }
+}
+
+/// A world's events put what they show into `shown`, and their letters behind all others.
+struct World {
+    skew: u64,
+    nodes: BTreeMap<u16, Node>,
+    letters: Vec<Letter>,
+    views: Vec<Rc<View>>,
+    calls: u64,
+    shown: Shown,
+}
+
+fn live(nodes: &mut BTreeMap<u16, Node>, id: u16) -> Result<&mut Node, Fault> {
+    let node = nodes.get_mut(&id).ok_or_else(|| refused("no-actor"))?;
+    if node.crashed {
+        Err(refused("crashed"))
+    } else {
+        Ok(node)
+    }
+}
+
+impl World {
+    fn new(nodes: u16, lease: u64, skew: u64) -> World {
+        let view = Rc::new(View { epoch: 1, next: u64::from(nodes), members: (0..nodes).collect() });
+        let founders = (0..nodes).map(|id| (id, Node::new(id, Some(view.clone()), lease, 1))).collect();
+        World { skew, nodes: founders, letters: Vec::new(), views: vec![view], calls: 0, shown: Shown::default() }
+    }
+
+    /// The agreed view of an epoch.
+    fn view(&self, epoch: u64) -> Option<&Rc<View>> {
+        self.views.get((epoch as usize).wrapping_sub(1))
+    }
+
+    fn last_view(&self) -> &View {
+        &self.views[self.views.len() - 1]
+    }
+
+    fn live_nodes(&self) -> impl Iterator<Item = &Node> {
+        self.nodes.values().filter(|node| !node.crashed)
+    }
+
+    fn greatest_clock(&self, low: u64) -> u64 {
+        self.live_nodes().map(|node| node.clock).fold(low, u64::max)
+    }
+
+    fn call(&mut self, id: u16, key: Key, op: Op) -> Result<(), Fault> {
+        let node = live(&mut self.nodes, id)?;
+        self.calls += 1;
+        self.shown.call = Some(self.calls);
+        node.call(self.skew, self.calls, &key, op, &mut self.shown, &mut self.letters);
+        self.shown.act(node);
+        Ok(())
+    }
+
+    fn take(&mut self, letter: u64) -> Result<(), Fault> {
+        let letter = self.letters.get((letter as usize).wrapping_sub(1)).ok_or_else(|| refused("no-letter"))?.clone();
+        let node = live(&mut self.nodes, letter.to)?;
+        node.receive(letter, &mut self.shown, &mut self.letters);
+        self.shown.act(node);
+        Ok(())
+    }
+
+    fn tick(&mut self, id: u16, to: u64) -> Result<(), Fault> {
+        let clock = live(&mut self.nodes, id)?.clock;
+        if to < clock {
+            return Err(Fault::Refused(format!("clock-falls {clock}")));
+        }
+        let far = |node: &&Node| node.place.id != id && node.clock.abs_diff(to) > self.skew;
+        if let Some(node) = self.live_nodes().find(far) {
+            return Err(Fault::Refused(format!("skew {to} {}", node.clock)));
+        }
+        live(&mut self.nodes, id)?.clock = to;
+        Ok(())
+    }
+
+    fn tick_all(&mut self, to: u64) -> Result<(), Fault> {
+        let clock = self.greatest_clock(0);
+        if to < clock {
+            return Err(Fault::Refused(format!("clock-falls {clock}")));
+        }
+        for node in self.nodes.values_mut().filter(|node| !node.crashed) {
+            node.clock = to;
+        }
+        Ok(())
+    }
+
+    fn resend(&mut self, id: u16, key: Key) -> Result<(), Fault> {
+        let node = live(&mut self.nodes, id)?;
+        if let Some(row) = node.rows.get(&key) {
+            row.resend(&key, &node.place, &mut self.letters);
+        }
+        Ok(())
+    }
+
+    fn replay(&mut self, id: u16, key: Key) -> Result<(), Fault> {
+        let node = live(&mut self.nodes, id)?;
+        let ready = node.ready;
+        if let Some(row) = node.rows.get_mut(&key).filter(|_| ready) {
+            row.replay(&key, &node.place, &mut self.letters);
+        }
+        Ok(())
+    }
+
+    fn start(&mut self, id: u16) -> Result<(), Fault> {
+        if self.nodes.contains_key(&id) {
+            return Err(refused("started"));
+        }
+        if !self.last_view().members.contains(&id) {
+            return Err(refused("not-member"));
+        }
+        let clock = self.greatest_clock(1);
+        self.nodes.insert(id, Node::new(id, None, 0, clock));
+        Ok(())
+    }
+
+    fn agree(&mut self, change: Change) -> Result<(), Fault> {
+        let View { epoch, mut next, ref members } = *self.last_view();
+        let mut members = members.clone();
+        match change {
+            Change::Drop(id) if !members.contains(&id) => return Err(refused("no-such-member")),
+            Change::Drop(_) if members.len() == 1 => return Err(refused("last-member")),
+            Change::Drop(id) => members.retain(|member| *member != id),
+            Change::Add if members.len() >= MAX_MEMBERS => return Err(refused("full")),
+            Change::Add if next >= MAX_NODES => return Err(refused("no-numbers")),
+            Change::Add => {
+                members.push(next as u16);
+                next += 1;
+            }
+        }
+        let view = Rc::new(View { epoch: epoch + 1, next, members });
+        self.views.push(view.clone());
+        self.shown.agreed = Some(view);
+        Ok(())
+    }
+
+    fn install(&mut self, id: u16, epoch: u64) -> Result<(), Fault> {
+        let held = live(&mut self.nodes, id)?.place.epoch();
+        let view = self.view(epoch).ok_or_else(|| refused("no-view"))?.clone();
+        if !view.members.contains(&id) {
+            return Err(refused("not-member"));
+        }
+        if epoch <= held {
+            return Err(Fault::Refused(format!("behind {held}")));
+        }
+        // Every number that was given before this epoch is that of a member of an earlier view.
+        let given = self.view(epoch - 1).map_or(0, |view| view.next);
+        let is_out = |id: u16| u64::from(id) < given && !view.members.contains(&id);
+        let runs = |node: &&Node| is_out(node.place.id) && node.clock + self.skew <= node.granted;
+        if let Some(node) = self.live_nodes().find(runs) {
+            return Err(Fault::Refused(format!("lease-runs {} {}", node.place.id, node.granted)));
+        }
+        let node = live(&mut self.nodes, id)?;
+        node.install(view, &mut self.shown, &mut self.letters);
+        self.shown.installed = true;
+        self.shown.act(node);
+        Ok(())
+    }
+
+    fn lease(&mut self, id: u16, end: u64) -> Result<(), Fault> {
+        let is_member = self.last_view().members.contains(&id);
+        let node = live(&mut self.nodes, id)?;
+        if !is_member {
+            return Err(refused("not-member"));
+        }
+        node.granted = node.granted.max(end);
+        Ok(())
+    }
+}
+
+// ---- what is kept of each key
+/// That a node covered a stamp in an epoch, and whether it was ready then.
+#[derive(Clone, Copy, PartialEq, Eq, PartialOrd, Ord)]
+struct Cover {
+    epoch: u64,
+    node: u16,
+    ready: bool,
+}
+
+#[derive(Default)]
+struct AtStamp {
+    /// The call that began the update of this stamp.
+    update: Option<u64>,
+    /// Each of them once.
+    covers: Vec<Cover>,
+    /// The calls that found this stamp and changed nothing.
+    looks: Vec<u64>,
+}
+
+impl AtStamp {
+    /// In some epoch all members covered the stamp, and one of them was ready.
+    fn is_complete(&self, world: &World) -> bool {
+        let mut covers = self.covers.clone();
+        covers.sort_unstable();
+        covers.chunk_by(|a, b| a.epoch == b.epoch).any(|covers| {
+            let all = |view: &Rc<View>| view.members.iter().all(|member| covers.iter().any(|cover| cover.node == *member));
+            covers.iter().any(|cover| cover.ready) && world.view(covers[0].epoch).is_some_and(all)
+        })
+    }
+}
+
+enum Item {
+    Call,
+    Reply,
+}
+
+#[derive(Default)]
+struct KeyRun {
+    /// Calls and replies, each with the number of the call.
+    history: Vec<(Item, u64)>,
+    stamps: BTreeMap<Stamp, AtStamp>,
+}
+
+impl KeyRun {
+    fn at(&mut self, stamp: Stamp) -> &mut AtStamp {
+        self.stamps.entry(stamp).or_default()
+    }
+
+    fn cover(&mut self, stamp: Stamp, cover: Cover) {
+        let covers = &mut self.at(stamp).covers;
+        // A node's epoch never falls and it stays ready: so this is its last cover, or a new one.
+        if covers.iter().rev().find(|last| last.node == cover.node) != Some(&cover) {
+            covers.push(cover);
+        }
+    }
+
+    /// Keeps what a step of the acting node did to the key.
+    fn keep(&mut self, told: &Told, acting: Cover) {
+        if told.row != ZERO {
+            self.cover(told.row, acting);
+        }
+        if told.pending != ZERO && told.pending != told.row {
+            self.cover(told.pending, acting);
+        }
+        if told.acked != ZERO && told.acked != told.row {
+            self.cover(told.acked, acting);
+        }
+        if let Some(reply) = &told.reply {
+            self.history.push((Item::Reply, reply.call));
+        }
+    }
+}
+
+// ---- text
+#[derive(Default)]
+struct Text(Vec<u8>);
+
+impl Text {
+    fn str(&mut self, text: &str) -> &mut Text {
+        self.0.extend_from_slice(text.as_bytes());
+        self
+    }
+
+    fn number(&mut self, n: impl Into<u64>) -> &mut Text {
+        let mut n = n.into();
+        let mut digits = [0; 20];
+        let mut at = digits.len();
+        loop {
+            at -= 1;
+            digits[at] = b'0' + (n % 10) as u8;
+            n /= 10;
+            if n == 0 {
+                break;
+            }
+        }
+        self.0.extend_from_slice(&digits[at..]);
+        self
+    }
+
+    fn word(&mut self, bytes: &[u8]) -> &mut Text {
+        match bytes {
+            [] => self.str("-"),
+            b"-" => self.str("%2D"),
+            _ => {
+                for byte in bytes {
+                    if is_plain(*byte) {
+                        self.0.push(*byte);
+                    } else {
+                        write!(self.0, "%{byte:02X}").unwrap();
+                    }
+                }
+                self
+            }
+        }
+    }
+
+    fn stamp(&mut self, stamp: Stamp) -> &mut Text {
+        self.number(stamp.version()).str(".").number(stamp.node())
+    }
+
+    fn update(&mut self, stamp: Stamp, kind: Kind) -> &mut Text {
+        let kind = if kind == Kind::Write { " write" } else { " rmw" };
+        self.stamp(stamp).str(kind)
+    }
+
+    fn content(&mut self, content: &Content) -> &mut Text {
+        self.number(content.flags).str(" ").word(&content.data)
+    }
+
+    fn state(&mut self, state: State) -> &mut Text {
+        self.str(match state {
+            State::Valid => "valid",
+            State::Invalid => "invalid",
+            State::Write => "write",
+            State::Replay => "replay",
+            State::Trans => "trans",
+        })
+    }
+
+    fn answer(&mut self, answer: &Answer) -> &mut Text {
+        match answer {
+            Answer::Found(content, tag) => self.str("found ").number(content.flags).str(" ").number(*tag).str(" ").word(&content.data),
+            Answer::Missing => self.str("missing"),
+            Answer::Stored => self.str("stored"),
+            Answer::Number(n) => self.str("number ").number(*n),
+            Answer::Exists => self.str("exists"),
+            Answer::NotFound => self.str("not-found"),
+            Answer::NotNumber => self.str("not-number"),
+            Answer::BusyLease { end, now } => self.str("busy lease ").number(*end).str(" ").number(*now),
+            Answer::BusyRow(state, stamp) => self.str("busy ").state(*state).str(" ").stamp(*stamp),
+            Answer::Aborted(stamp) => self.str("aborted ").stamp(*stamp),
+            Answer::Exhausted(stamp) => self.str("exhausted ").stamp(*stamp),
+        }
+    }
+
+    fn after(&mut self, after: &Option<Key>) -> &mut Text {
+        match after {
+            Some(key) => self.word(key),
+            None => self.str("-"),
+        }
+    }
+
+    fn body(&mut self, body: &Body) -> &mut Text {
+        match body {
+            Body::Inv { key, stamp, kind, content } => self.str("inv ").word(key).str(" ").update(*stamp, *kind).str(" ").content(content),
+            Body::Ack { key, stamp, top } => self.str("ack ").word(key).str(" ").stamp(*stamp).str(" ").stamp(*top),
+            Body::Val { key, stamp } => self.str("val ").word(key).str(" ").stamp(*stamp),
+            Body::CopyAsk { after, room } => self.str("copyask ").after(after).str(" ").number(*room),
+            Body::CopyGive { after, done, items } => {
+                self.str("copygive ").after(after).str(if *done { " done" } else { " more" });
+                for item in items.iter() {
+                    self.str(" ").word(&item.key).str(" ").update(item.stamp, item.kind);
+                    self.str(if item.valid { " valid " } else { " open " }).content(&item.content);
+                }
+                self
+            }
+        }
+    }
+
+    fn view(&mut self, view: &View) -> &mut Text {
+        self.number(view.epoch).str(":").number(view.next);
+        for (at, member) in view.members.iter().enumerate() {
+            self.str(if at == 0 { ":" } else { "," }).number(*member);
+        }
+        self
+    }
+
+    fn key(&mut self, key: &[u8], run: &KeyRun, world: &World) {
+        self.str("key ").word(key).str("\nhistory");
+        for (item, call) in &run.history {
+            self.str(if matches!(item, Item::Call) { " c" } else { " r" }).number(*call);
+        }
+        self.str("\norder");
+        for (stamp, at) in &run.stamps {
+            if let Some(call) = at.update.filter(|_| at.is_complete(world)) {
+                self.str(" ").number(call).str("@").number(stamp.0);
+            }
+            for call in &at.looks {
+                self.str(" ").number(*call);
+            }
+        }
+        self.str("\n");
+    }
+}
+
+// ---- the lines of scripts
+fn is_plain(byte: u8) -> bool {
+    (0x21..=0x7e).contains(&byte) && byte != b'%'
+}
+
+fn number(word: &[u8], limit: u64) -> Result<u64, Fault> {
+    if !word.iter().all(u8::is_ascii_digit) || (word.len() > 1 && word[0] == b'0') {
+        return Err(Fault::Bad);
+    }
+    let digits = std::str::from_utf8(word).map_err(|_| Fault::Bad)?;
+    digits.parse().ok().filter(|n| *n <= limit).ok_or(Fault::Bad)
+}
+
+fn node(word: &[u8]) -> Result<u16, Fault> {
+    Ok(number(word, MAX_NODES - 1)? as u16)
+}
+
+/// A manager, of whom there are none.
+fn manager(word: &[u8]) -> Result<u64, Fault> {
+    number(word.strip_prefix(b"m").ok_or(Fault::Bad)?, 8)
+}
+
+fn digit(byte: u8) -> Result<u8, Fault> {
+    match byte {
+        b'0'..=b'9' => Ok(byte - b'0'),
+        b'A'..=b'F' => Ok(byte - b'A' + 10),
+        _ => Err(Fault::Bad),
+    }
+}
+
+fn escaped(high: u8, low: u8) -> Result<u8, Fault> {
+    let byte = digit(high)? << 4 | digit(low)?;
+    if is_plain(byte) {
+        Err(Fault::Bad)
+    } else {
+        Ok(byte)
+    }
+}
+
+/// The bytes of a word, in which `%` and two digits stand for each byte that is not plain.
+fn bytes(word: &[u8]) -> Result<Rc<[u8]>, Fault> {
+    match word {
+        b"-" => return Ok(Rc::new([])),
+        b"%2D" => return Ok(Rc::from(&b"-"[..])),
+        _ if !word.is_empty() && word.iter().all(|byte| is_plain(*byte)) => return Ok(word.into()),
+        _ => {}
+    }
+    let mut bytes = Vec::new();
+    let mut rest = word;
+    while let [byte, behind @ ..] = rest {
+        let (byte, behind) = match behind {
+            _ if is_plain(*byte) => (*byte, behind),
+            [high, low, behind @ ..] if *byte == b'%' => (escaped(*high, *low)?, behind),
+            _ => return Err(Fault::Bad),
+        };
+        bytes.push(byte);
+        rest = behind;
+    }
+    Ok(bytes.into())
+}
+
+fn key(word: &[u8]) -> Result<Key, Fault> {
+    let key = bytes(word)?;
+    let fits = (1..=250).contains(&key.len()) && key.iter().all(|byte| *byte >= 0x21 && *byte != 0x7f);
+    if fits {
+        Ok(key)
+    } else {
+        Err(Fault::Bad)
+    }
+}
+
+fn content(flags: &[u8], data: &[u8]) -> Result<Content, Fault> {
+    Ok(Content { flags: number(flags, u64::from(u32::MAX))? as u32, data: bytes(data)? })
+}
+
+fn read_op(words: &[&[u8]]) -> Result<(Key, Op), Fault> {
+    Ok(match words {
+        [b"get", k] => (key(k)?, Op::Read),
+        [b"set", k, flags, data] => (key(k)?, Op::Write(content(flags, data)?)),
+        [b"cas", k, flags, data, tag] => (key(k)?, Op::Cas { content: content(flags, data)?, tag: number(tag, u64::MAX)? }),
+        [b"incr", k, by] => (key(k)?, Op::Incr(number(by, u64::MAX)?)),
+        [b"decr", k, by] => (key(k)?, Op::Decr(number(by, u64::MAX)?)),
+        _ => return Err(Fault::Bad),
+    })
+}
+
+fn read_change(words: &[&[u8]]) -> Result<Change, Fault> {
+    match words {
+        [b"drop", n] => Ok(Change::Drop(node(n)?)),
+        [b"add"] => Ok(Change::Add),
+        _ => Err(Fault::Bad),
+    }
+}
+
+fn read_header(words: &[&[u8]]) -> Result<World, Fault> {
+    let [b"group", nodes, b"managers", b"0", b"lease", lease, b"skew", skew] = words else {
+        return Err(Fault::Bad);
+    };
+    let nodes = number(nodes, MAX_MEMBERS as u64)? as u16;
+    let world = World::new(nodes, number(lease, MAX_TIME)?, number(skew, MAX_TIME)?);
+    if nodes > 0 {
+        Ok(world)
+    } else {
+        Err(Fault::Bad)
+    }
+}
+
+impl World {
+    /// Makes the event of a line.
+    fn step(&mut self, words: &[&[u8]]) -> Result<(), Fault> {
+        self.shown.clear();
+        match words {
+            [b"call", n, op @ ..] => {
+                let (key, op) = read_op(op)?;
+                self.call(node(n)?, key, op)
+            }
+            [b"take", letter] => self.take(number(letter, u64::MAX)?),
+            [b"resend", n, k] => self.resend(node(n)?, key(k)?),
+            [b"replay", n, k] => self.replay(node(n)?, key(k)?),
+            [b"tick", b"all", to] => self.tick_all(number(to, MAX_TIME)?),
+            [b"tick", m @ [b'm', ..], to] => manager(m).and(number(to, MAX_TIME)).and(Err(refused("no-actor"))),
+            [b"tick", n, to] => self.tick(node(n)?, number(to, MAX_TIME)?),
+            [b"crash", m @ [b'm', ..]] => manager(m).and(Err(refused("no-actor"))),
+            [b"crash", n] => {
+                live(&mut self.nodes, node(n)?)?.crashed = true;
+                Ok(())
+            }
+            [b"copy", n, from, room] => {
+                let (id, from, room) = (node(n)?, node(from)?, number(room, 64)? as u8);
+                if room == 0 {
+                    return Err(Fault::Bad);
+                }
+                live(&mut self.nodes, id)?.ask_copy(from, room, &mut self.letters);
+                Ok(())
+            }
+            [b"start", n] => self.start(node(n)?),
+            [b"agree", change @ ..] => self.agree(read_change(change)?),
+            [b"install", n, epoch] => self.install(node(n)?, number(epoch, u64::MAX)?),
+            [b"lease", n, end] => self.lease(node(n)?, number(end, MAX_TIME)?),
+            [b"asklease", n, m] => {
+                let id = manager(m).and(node(n))?;
+                live(&mut self.nodes, id).map(|_| ())
+            }
+            [b"propose", m, base, change @ ..] => manager(m).and(number(base, u64::MAX)).and(read_change(change)).and(Err(refused("no-actor"))),
+            [b"activate", m] => manager(m).and(Err(refused("no-actor"))),
+            _ => Err(Fault::Bad),
+        }
+    }
+}
+
+// ---- the drill
+/// The word of a stop line.
+type Stop = &'static str;
+
+struct Drill {
+    world: World,
+    keys: BTreeMap<Key, KeyRun>,
+    events: u64,
+    text: Text,
+}
+
+impl Drill {
+    fn new(world: World) -> Drill {
+        Drill { world, keys: BTreeMap::new(), events: 0, text: Text::default() }
+    }
+
+    fn event(&mut self, words: &[&[u8]]) -> Result<(), Stop> {
+        let sent = self.world.letters.len();
+        let made = self.world.step(words);
+        self.events += 1;
+        match made {
+            Err(Fault::Bad) => return Err("bad"),
+            Err(Fault::Refused(text)) => {
+                self.text.number(self.events).str(" refused ").str(&text).str("\n");
+            }
+            Ok(()) if self.world.letters.len() > MAX_LETTERS => return Err("letters"),
+            Ok(()) => {
+                self.show(sent);
+                self.keep();
+            }
+        }
+        Ok(())
+    }
+
+    fn show(&mut self, sent: usize) {
+        let Drill { world, text, events: number, .. } = self;
+        let shown = &world.shown;
+        if let Some(call) = shown.call {
+            text.number(*number).str(" call ").number(call).str("\n");
+        }
+        if let Some(view) = &shown.agreed {
+            text.number(*number).str(" view ").view(view).str("\n");
+        }
+        if let Some(acting) = shown.acting.filter(|_| shown.installed) {
+            text.number(*number).str(" installed ").number(acting.node).str(" ").number(acting.epoch).str("\n");
+        }
+        for (at, letter) in world.letters.iter().enumerate().skip(sent) {
+            text.number(*number).str(" send ").number(at as u64 + 1).str(" ").number(letter.from).str(">").number(letter.to);
+            text.str(" ").number(letter.epoch).str(" ").body(&letter.body).str("\n");
+        }
+        for reply in shown.told.iter().filter_map(|told| told.reply.as_ref()) {
+            text.number(*number).str(" reply ").number(reply.call).str(" ").answer(&reply.answer).str("\n");
+        }
+    }
+
+    fn keep(&mut self) {
+        let shown = &self.world.shown;
+        let Some(acting) = shown.acting else { return };
+        if let (Some(call), [told]) = (shown.call, &shown.told[..]) {
+            let run = self.keys.entry(told.key.clone()).or_default();
+            run.history.push((Item::Call, call));
+            if shown.begun {
+                run.at(told.row).update = Some(call);
+            }
+            if shown.looked {
+                run.at(told.row).looks.push(call);
+            }
+            run.keep(told, acting);
+            return;
+        }
+        for told in &shown.told {
+            // only a call brings a key into the world
+            if let Some(run) = self.keys.get_mut(&told.key) {
+                run.keep(told, acting);
+            }
+        }
+    }
+
+    fn end(&mut self) {
+        for (key, run) in &self.keys {
+            self.text.key(key, run, &self.world);
+        }
+        let letters = self.world.letters.len() as u64;
+        self.text.str("end ").number(self.events).str(" ").number(self.world.calls).str(" ").number(letters).str("\n");
+    }
+}
+
+/// Follows a script to its end, or to the line at which it stops.
+fn follow(input: &[u8], drill: &mut Option<Drill>) -> Result<(), (u64, Stop)> {
+    let mut words = Vec::new();
+    let mut line_number = 0;
+    let lines = input.strip_suffix(b"\n").unwrap_or(input).split(|byte| *byte == b'\n');
+    for line in lines.take(if input.is_empty() { 0 } else { usize::MAX }) {
+        line_number += 1;
+        if line_number > MAX_LINES {
+            return Err((line_number, "lines"));
+        }
+        if line.len() > MAX_LINE_LEN {
+            return Err((line_number, "long"));
+        }
+        if line.is_empty() || line[0] == b'#' {
+            continue;
+        }
+        words.clear();
+        words.extend(line.split(|byte| *byte == b' '));
+        match drill {
+            None => *drill = Some(Drill::new(read_header(&words).map_err(|_| (line_number, "bad"))?)),
+            Some(drill) => drill.event(&words).map_err(|stop| (line_number, stop))?,
+        }
+    }
+    if drill.is_none() {
+        Err((line_number + 1, "bad"))
+    } else {
+        Ok(())
+    }
+}
+
+/// The transcript of a script, and the status that goes with it.
+fn transcript(input: &[u8]) -> (Vec<u8>, i32) {
+    let mut drill = None;
+    let stop = follow(input, &mut drill).err();
+    if let (None, Some(drill)) = (stop, &mut drill) {
+        drill.end();
+    }
+    let mut text = drill.map_or(Text::default(), |drill| drill.text);
+    let Some((line, stop)) = stop else { return (text.0, 0) };
+    text.str("stop line ").number(line).str(" ").str(stop).str("\n");
+    (text.0, if stop == "bad" { 5 } else { 6 })
+}
+
+// ---- scripts that are made
+struct Draws(u64);
+
+impl Draws {
+    fn below(&mut self, n: u64) -> u64 {
+        self.0 = self.0.wrapping_mul(6364136223846793005).wrapping_add(1442695040888963407);
+        (self.0 >> 33) % n
+    }
+}
+
+/// A quarter of the events are calls; else one of the last letters is taken, or an update is sent again or replayed.
+fn mixed_line(draws: &mut Draws, letters: u64, keys: u64, nodes: u64) -> String {
+    match draws.below(16) {
+        p if p < 4 || (p < 14 && letters == 0) => {
+            let (node, key) = (draws.below(nodes), draws.below(keys));
+            match draws.below(4) {
+                0 => format!("call {node} get key:{key}"),
+                1 => format!("call {node} set key:{key} 0 {}", draws.below(100)),
+                2 => format!("call {node} incr key:{key} {}", draws.below(100)),
+                _ => format!("call {node} decr key:{key} {}", draws.below(100)),
+            }
+        }
+        14 => format!("resend {} key:{}", draws.below(nodes), draws.below(keys)),
+        15 => format!("replay {} key:{}", draws.below(nodes), draws.below(keys)),
+        _ => format!("take {}", letters - draws.below(letters.min(64))),
+    }
+}
+
+fn mixed(events: u64, keys: u64, nodes: u64, out: &mut impl Write) -> io::Result<()> {
+    writeln!(out, "group {nodes} managers 0 lease {MAX_TIME} skew 0")?;
+    let mut world = World::new(nodes as u16, MAX_TIME, 0);
+    let mut draws = Draws(1);
+    for _ in 0..events {
+        let line = mixed_line(&mut draws, world.letters.len() as u64, keys, nodes);
+        writeln!(out, "{line}")?;
+        let words: Vec<&[u8]> = line.as_bytes().split(|byte| *byte == b' ').collect();
+        assert!(world.step(&words).is_ok());
+    }
+    Ok(())
+}
+
+/// Each node sets a key of its own, and then the updates are sent again and again. Each line sends a letter to each other node.
+fn many_letters(letters: u64, nodes: u64, out: &mut impl Write) -> io::Result<()> {
+    writeln!(out, "group {nodes} managers 0 lease {MAX_TIME} skew 0")?;
+    for line in 0..letters / (nodes - 1).max(1) {
+        let node = line % nodes;
+        if line < nodes {
+            writeln!(out, "call {node} set key:{node} 0 value-{node}")?;
+        } else {
+            writeln!(out, "resend {node} key:{node}")?;
+        }
+    }
+    Ok(())
+}
+
+fn usage() -> ! {
+    eprintln!("usage: plain [drill] | plain gen EVENTS KEYS NODES | plain letters LETTERS NODES");
+    std::process::exit(2);
+}
+
+fn main() -> io::Result<()> {
+    let words: Vec<String> = std::env::args().skip(1).collect();
+    let numbers: Vec<u64> = words.iter().skip(1).map(|word| word.parse().unwrap_or_else(|_| usage())).collect();
+    let mut out = io::stdout().lock();
+    match (words.first().map_or("drill", String::as_str), &numbers[..]) {
+        ("drill", []) => {
+            let mut input = Vec::new();
+            io::stdin().read_to_end(&mut input)?;
+            let (text, status) = transcript(&input);
+            out.write_all(&text)?;
+            std::process::exit(status);
+        }
+        ("gen", [events, keys, nodes @ 1..=16]) if *keys > 0 => mixed(*events, *keys, *nodes, &mut io::BufWriter::new(out)),
+        ("letters", [letters, nodes @ 2..=16]) => many_letters(*letters, *nodes, &mut io::BufWriter::new(out)),
+        _ => usage(),
+    }
 }

@@ -15,7 +15,8 @@ use std::thread::Threads;
 
 /// Does what the words of a command say, and answers the status that the process ends with.
 ///
-/// The one command is the single word `drill`: it reads a script to its end and writes its transcript. For all other
+/// The one command is the single word `drill`: it reads a script to its end and writes its transcript. A script is the header of a group
+/// without managers, and the events of its world: calls, letters that are taken, clocks, crashes, views, leases and copies. For all other
 /// words the status is Usage. The clock, the doors, the spawner and the runtime value are not touched.
 pub fn hermes<
     R: Threads + Wait + Copy + Send + Sync + 'static,
@@ -41,8 +42,11 @@ pub fn hermes<
     // that it printed for each key is legal for the history that it printed.
     ensures done { result ≡ Status.Done → IsDone Status.Done (S.left source.old) (S.left source.new) (K.held sink.old) (K.held sink.new) }
 
-    // One that met a line outside the grammar has written the events before it, and the stop line that names it.
+    // One that met a line outside the grammar has written what the events before it showed, and the stop line that names it.
     ensures bad_line { result ≡ Status.BadLine → IsDone Status.BadLine (S.left source.old) (S.left source.new) (K.held sink.old) (K.held sink.new) }
+
+    // So has one that met a line that passes a limit: too long, too many, or with an event that would send too many letters.
+    ensures too_long { result ≡ Status.TooLong → IsDone Status.TooLong (S.left source.old) (S.left source.new) (K.held sink.old) (K.held sink.new) }
 
     // Whatever the answer, what was written is a front of the transcript.
     ensures front { IsFront (S.left source.old) (K.held sink.old) (K.held sink.new) }

@@ -1,22 +1,52 @@
--- What a run prints of each key is legal.
-use Rattle.std.proofs.Common.{ℕ, List, [], Option, Some, None, IfSome}
-use Rattle.hk_drill.specs.declared.call.Header.{Header}
-use Rattle.hk_drill.specs.declared.call.Call.{Call}
-use Rattle.hk_drill.specs.Run.{run_of}
-use Rattle.hk_drill.specs.Script.{parsed}
-use Rattle.hk_drill.specs.Transcript.{run_under, ran_by}
+-- What a drill prints of each key is legal.
+use Rattle.std.proofs.Common.{◌≡◌, ℕ, ◌+◌, List, [], ◌∷◌, Bool, true, false, Option, Some, None, Result, Ok, Err, IfSome, IfOk, if◌then◌else◌, refl}
+use Rattle.hk_world.specs.declared.event.Header.{Header}
+use Rattle.hk_world.specs.Sound.{IsHeader}
+use Rattle.hk_script.specs.Lines.{header_of}
+use Rattle.hk_safety.specs.Run.{IsRun, RunsAreLegal}
+use Rattle.hk_drill.specs.declared.stop.Stop.{Stop}
+use Rattle.hk_drill.specs.Transcript.{Course, Followed, line_at, limit_at, is_skipped, first_course, follow, follow_under, script_from, lines_of, followed}
 use Rattle.hk_drill.specs.Drilled.{AllLegal}
-use Rattle.hk_drill.proofs.Serves.{served}
-use Rattle.hk_drill.proofs.Standing.{legal}
+use Rattle.hk_drill.proofs.Reading.{read_header_ok}
+use Rattle.hk_drill.proofs.Courses.{IsNext, line_next}
+use Rattle.hk_drill.proofs.Following.{go_on, follow-cons, begin_at, script_from-cons}
 
-under_legal : (h : Option Header) (calls : List Call) → AllLegal (run_under h calls).log
-under_legal None calls = λ key. legal (record { lease = 0; skew = 0 }) key [] tt
-under_legal (Some h) calls = λ key. legal h key (run_of h [] calls).log (served h key [] calls)
+-- the run that was followed, if there is one, is a run
+abbrev HasRun : Followed → Type 0
+HasRun f = IfSome f.course (λ c. IsRun c.run)
 
-pub ran_legal : (bytes : List ℕ) → AllLegal (ran_by bytes).log
-unfolding ran_by
-ran_legal bytes = under_legal (parsed bytes).header (parsed bytes).rest.calls
+goes_on : (n : ℕ) (c : Course) (lines : List (List ℕ)) (made : Result Course Stop) → IfOk made (IsNext c) → IsRun c.run
+    → ((d : Course) → IsRun d.run → HasRun (follow (n + 1) d lines)) → HasRun (go_on n c lines made)
+goes_on n c lines (Ok d) next is rest = rest d (next.run is)
+goes_on n c lines (Err stop) next is rest = is
 
-pub told_legal : (left : Option (List ℕ)) → IfSome left (λ input. AllLegal (ran_by input).log)
-told_legal None = tt
-told_legal (Some input) = ran_legal input
+follow_runs : (lines : List (List ℕ)) (n : ℕ) (c : Course) → IsRun c.run → HasRun (follow n c lines)
+unfolding follow
+follow_runs [] n c is = is
+follow_runs (line ∷ lines) n c is = rw follow-cons (goes_on n c lines (line_at n line c) (line_next n line c) is (follow_runs lines (n + 1)))
+
+under_runs : (n : ℕ) (read : Option Header) (lines : List (List ℕ)) → ((h : Header) → read ≡ Some h → IsHeader h) → HasRun (follow_under n read lines)
+under_runs n None lines ok = tt
+under_runs n (Some header) lines ok = follow_runs lines (n + 1) (first_course header) (record { header = ok header refl; accepted = tt })
+
+begins : (n : ℕ) (line : List ℕ) (lines : List (List ℕ)) (skipped : Bool) → HasRun (script_from (n + 1) lines)
+    → HasRun (if skipped then script_from (n + 1) lines else follow_under n (header_of line) lines)
+begins n line lines true rest = rest
+begins n line lines false rest = under_runs n (header_of line) lines (read_header_ok line)
+
+begins_at : (n : ℕ) (line : List ℕ) (lines : List (List ℕ)) (limit : Option Stop) → HasRun (script_from (n + 1) lines) → HasRun (begin_at n line lines limit)
+begins_at n line lines None rest = begins n line lines (is_skipped line) rest
+begins_at n line lines (Some stop) rest = tt
+
+script_runs : (lines : List (List ℕ)) (n : ℕ) → HasRun (script_from n lines)
+unfolding script_from
+script_runs [] n = tt
+script_runs (line ∷ lines) n = rw script_from-cons (begins_at n line lines (limit_at n line) (script_runs lines (n + 1)))
+
+course_legal : RunsAreLegal → (course : Option Course) → IfSome course (λ c. IsRun c.run) → IfSome course (λ c. AllLegal c.run)
+course_legal legal None is = tt
+course_legal legal (Some c) is = legal c.run is
+
+pub told_legal : RunsAreLegal → (left : Option (List ℕ)) → IfSome left (λ input. IfSome (followed input).course (λ c. AllLegal c.run))
+told_legal legal None = tt
+told_legal legal (Some input) = course_legal legal (followed input).course (script_runs (lines_of input) 1)

@@ -2,9 +2,8 @@
 use Rattle.std.specs.Prelude.{◌≡◌, ℕ, List, [], ◌++◌, Option, Some, take, IfSome}
 use Rattle.hk_outside.specs.declared.status.Status.{Status}
 use Rattle.hk_history.specs.Legal.{Legal}
-use Rattle.hk_drill.specs.Transcript.{transcript, ran_by}
-use Rattle.hk_drill.specs.Run.{Logged}
-use Rattle.hk_drill.specs.Printed.{history_from, order_from}
+use Rattle.hk_safety.specs.Run.{RunState, history, printed}
+use Rattle.hk_drill.specs.Transcript.{transcript, followed}
 
 -- all that was left, where it is told, has been read, and nothing is left
 pub record HasRead (before now : Option (List ℕ)) (all : List ℕ) : Type 0 where
@@ -12,15 +11,15 @@ pub record HasRead (before now : Option (List ℕ)) (all : List ℕ) : Type 0 wh
   pub ended : IfSome before (λ input. now ≡ Some [])
 
 -- the order that is printed for a key is legal for the history that is printed for it
-abbrev pub AllLegal : List Logged → Type 0
-AllLegal log = (key : List ℕ) → Legal (history_from 1 key log) (order_from 1 key log)
+abbrev pub AllLegal : RunState → Type 0
+AllLegal run = (key : List ℕ) → Legal (history run key) (printed run key)
 
 -- Where the bytes are told, the source was read to its end, this is the transcript's status, and its text was
 -- written, whole; and what the text says of each key is legal.
 pub record IsDone (told : Status) (left left' held held' : Option (List ℕ)) : Type 0 where
   pub ended : IfSome left (λ input. left' ≡ Some [])
   pub status : IfSome left (λ input. (transcript input).status ≡ told)
-  pub legal : IfSome left (λ input. AllLegal (ran_by input).log)
+  pub legal : IfSome left (λ input. IfSome (followed input).course (λ course. AllLegal course.run))
   pub text : IfSome left (λ input. IfSome held (λ before. held' ≡ Some (before ++ (transcript input).text)))
 
 -- a front of the transcript's text was written

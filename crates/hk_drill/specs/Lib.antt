@@ -1,9 +1,4 @@
-pub mod Words
-pub mod Script
-pub mod Grammar
-pub mod Reads
-pub mod Run
-pub mod Printed
+pub mod Text
 pub mod Transcript
-pub mod Kept
+pub mod Taken
 pub mod Drilled

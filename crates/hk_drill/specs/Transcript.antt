@@ -1,118 +1,136 @@
--- The transcript of a script: what the drill writes of its run, a line for each thing that happened.
-use Rattle.std.specs.Prelude.{ℕ, ◌+◌, List, [], ◌∷◌, ◌++◌, length, Option, Some, None, codes, decimal}
-use Rattle.std.specs.Map.{keys_of}
-use Rattle.hk_base.specs.declared.call.Answer.{Answer}
-use Rattle.hk_base.specs.declared.call.Answer.TheVariants.{Found, Missing, Stored, Number, Exists, NotFound, NotNumber, Busy, Aborted, Exhausted}
-use Rattle.hk_base.specs.declared.call.Why.{Why}
-use Rattle.hk_base.specs.declared.call.Why.TheVariants.{Lease, Row}
-use Rattle.hk_base.specs.declared.call.State.{State}
-use Rattle.hk_base.specs.declared.call.State.TheVariants as state
-use Rattle.hk_base.specs.declared.stamp.Stamp.{Stamp}
-use Rattle.hk_history.specs.declared.event.Event.{Event}
-use Rattle.hk_history.specs.declared.event.Event.TheVariants.{Call, Reply}
-use Rattle.hk_history.specs.declared.event.Entry.{Entry}
+-- The transcript of a script: its lines, one after the other, the run that they make, and what is written of it.
+use Rattle.std.specs.Prelude.{ℕ, ◌+◌, ◌-◌, List, [], ◌∷◌, ◌++◌, length, Bool, true, Option, Some, None, Result, Ok, Err, nat_lt, ◌==◌, if◌then◌else◌, codes, decimal, slice_index, take}
+use Rattle.std.specs.List.{slice_split}
 use Rattle.hk_outside.specs.declared.status.Status.{Status}
-use Rattle.hk_outside.specs.declared.status.Status.TheVariants.{Done, BadLine}
-use Rattle.hk_drill.specs.declared.call.Header.{Header}
-use Rattle.hk_drill.specs.declared.call.Call as script
-use Rattle.hk_drill.specs.Words.{word_of}
-use Rattle.hk_drill.specs.Script.{parsed}
-use Rattle.hk_drill.specs.Run.{Logged, Ran, run_of}
-use Rattle.hk_drill.specs.Printed.{history_from, order_from}
+use Rattle.hk_outside.specs.declared.status.Status.TheVariants.{Done, BadLine, TooLong}
+use Rattle.hk_world.specs.declared.event.Header.{Header}
+use Rattle.hk_world.specs.declared.event.Event.{Event}
+use Rattle.hk_world.specs.declared.refused.Refused.{Refused}
+use Rattle.hk_world.specs.Steps.{Accepted, world_step}
+use Rattle.hk_script.specs.Lines.{event_of, header_of}
+use Rattle.hk_safety.specs.Run.{RunState, world_of, history, printed, named}
+use Rattle.hk_safety.specs.Push.{with_event}
+use Rattle.hk_drill.specs.declared.stop.Stop.{Stop}
+use Rattle.hk_drill.specs.declared.stop.Stop.TheVariants.{Bad, Long, Lines, Letters}
+use Rattle.hk_drill.specs.declared.line.TheConstants.{MAX_LINE_LEN, MAX_LINES}
+use Rattle.hk_drill.specs.declared.course.TheConstants.{MAX_LETTERS}
+use Rattle.hk_drill.specs.Text.{shown_text, refused_text, key_text, end_text}
 
--- `VERSION.NODE`
-abbrev pub stamp_text : Stamp → List ℕ
-stamp_text s = decimal s.version ++ codes "." ++ decimal s.node
+-- ---- lines
+abbrev pub is_feed : ℕ → Bool
+is_feed b = b == 10
 
-abbrev pub state_text : State → List ℕ
-state_text state.Valid = codes "valid"
-state_text state.Invalid = codes "invalid"
-state_text state.Write = codes "write"
-state_text state.Replay = codes "replay"
-state_text state.Trans = codes "trans"
+-- the input without the line feed that ends its last line
+abbrev pub without_last_feed : List ℕ → List ℕ
+without_last_feed bytes = if slice_index bytes (length bytes - 1) == 10 then take (length bytes - 1) bytes else bytes
 
-abbrev pub why_text : Why → List ℕ
-why_text (Lease end now) = codes "lease " ++ decimal end ++ codes " " ++ decimal now
-why_text (Row s stamp) = state_text s ++ codes " " ++ stamp_text stamp
+-- the lines, where the end of the input ends a last line that is not empty
+abbrev pub lines_of : List ℕ → List (List ℕ)
+lines_of bytes = if length bytes == 0 then [] else slice_split is_feed (without_last_feed bytes)
 
-unfoldable pub answer_text : Answer → List ℕ
-answer_text (Found c tag) = codes "found " ++ decimal c.flags ++ codes " " ++ decimal tag ++ codes " " ++ word_of c.bytes
-answer_text Missing = codes "missing"
-answer_text Stored = codes "stored"
-answer_text (Number n) = codes "number " ++ decimal n
-answer_text Exists = codes "exists"
-answer_text NotFound = codes "not-found"
-answer_text NotNumber = codes "not-number"
-answer_text (Busy why) = codes "busy " ++ why_text why
-answer_text (Aborted s) = codes "aborted " ++ stamp_text s
-answer_text (Exhausted s) = codes "exhausted " ++ stamp_text s
+-- an empty line, or one that begins with `#`
+unfoldable pub is_skipped : List ℕ → Bool
+is_skipped line = if length line == 0 then true else slice_index line 0 == 35
 
--- event n is call n, which is answered at once: a line for the call, and one for its reply
-unfoldable pub event_text : ℕ → Answer → List ℕ
-event_text n answer = decimal n ++ codes " call " ++ decimal n ++ codes "\n" ++ decimal n ++ codes " reply " ++ decimal n ++ codes " " ++ answer_text answer ++ codes "\n"
+-- the limits are looked at before a line is read
+unfoldable pub limit_at : ℕ → List ℕ → Option Stop
+limit_at n line = if nat_lt MAX_LINES n then Some Lines else (if nat_lt MAX_LINE_LEN (length line) then Some Long else None)
 
--- the events of a log, numbered from n
-abbrev pub events_text : ℕ → List Logged → List ℕ
-events_text n [] = []
-events_text n (x ∷ log) = event_text n x.answer ++ events_text (n + 1) log
+-- ---- events
+-- how far a script has come: the run of the events that were accepted, how many event lines there were, and what they showed
+pub record Course : Type 0 where
+  pub run : RunState
+  pub count : ℕ
+  pub text : List ℕ
 
--- an item of a history, and an entry of an order
-abbrev pub item_text : Event → List ℕ
-item_text (Call c op) = codes " c" ++ decimal c.0
-item_text (Reply c answer) = codes " r" ++ decimal c.0
+-- an event that is refused counts, and is told; one that would send a letter too many is not made
+abbrev pub course_with : Course → Event → Result Accepted Refused → Result Course Stop
+course_with c event (Err refused) = Ok (record { run = c.run; count = c.count + 1; text = c.text ++ refused_text (c.count + 1) refused })
+course_with c event (Ok a) =
+    if nat_lt MAX_LETTERS (length a.world.letters) then Err Letters
+    else Ok (record { run = with_event c.run event; count = c.count + 1; text = c.text ++ shown_text (c.count + 1) a.shown })
 
-abbrev pub history_text : List Event → List ℕ
-history_text [] = []
-history_text (item ∷ items) = item_text item ++ history_text items
+abbrev pub event_at : Course → Option Event → Result Course Stop
+event_at c None = Err Bad
+event_at c (Some event) = course_with c event (world_step (world_of c.run) event)
 
-abbrev pub tag_text : Option ℕ → List ℕ
-tag_text None = []
-tag_text (Some t) = codes "@" ++ decimal t
+abbrev pub read_at : Course → Option Stop → List ℕ → Result Course Stop
+read_at c (Some stop) line = Err stop
+read_at c None line = if is_skipped line then Ok c else event_at c (event_of line)
 
-abbrev pub entry_text : Entry → List ℕ
-entry_text e = codes " " ++ decimal e.call.0 ++ tag_text e.tag
+unfoldable pub line_at : ℕ → List ℕ → Course → Result Course Stop
+line_at n line c = read_at c (limit_at n line) line
 
-abbrev pub order_text : List Entry → List ℕ
-order_text [] = []
-order_text (e ∷ es) = entry_text e ++ order_text es
+-- ---- a whole script
+-- how far a script was followed, which is nowhere without a header, and the line at which it stopped, if it did
+pub record Followed : Type 0 where
+  pub course : Option Course
+  pub stop : Option (ℕ × Stop)
 
--- a key with its history and its order
-unfoldable pub key_text : List Logged → List ℕ → List ℕ
-key_text log key = codes "key " ++ word_of key ++ codes "\nhistory" ++ history_text (history_from 1 key log) ++ codes "\norder" ++ order_text (order_from 1 key log) ++ codes "\n"
+abbrev pub stopped : Option Course → ℕ → Stop → Followed
+stopped course n stop = record { course = course; stop = Some (n, stop) }
 
-abbrev pub keys_text : List Logged → List (List ℕ) → List ℕ
-keys_text log [] = []
-keys_text log (key ∷ keys) = key_text log key ++ keys_text log keys
+-- the lines from line n on
+unfoldable pub follow : ℕ → Course → List (List ℕ) → Followed
+follow n c [] = record { course = Some c; stop = None }
+follow n c (line ∷ lines) = elim (line_at n line c) [ Ok d ↦ follow (n + 1) d lines | Err stop ↦ stopped (Some c) n stop ]
 
--- the numbers of events, of calls, and of letters, of which a group of one sends none
-unfoldable pub end_text : ℕ → List ℕ
-end_text n = codes "end " ++ decimal n ++ codes " " ++ decimal n ++ codes " 0\n"
+abbrev pub first_course : Header → Course
+first_course header = record { run = record { header = header; events = [] }; count = 0; text = [] }
 
--- a run that went to its end: its events, then each key that a call named, in byte order, then the end line
-unfoldable pub ran_text : Ran → List ℕ
-ran_text ran = events_text 1 ran.log ++ keys_text ran.log (keys_of ran.rows) ++ end_text (length ran.log)
+abbrev pub follow_under : ℕ → Option Header → List (List ℕ) → Followed
+follow_under n None lines = stopped None n Bad
+follow_under n (Some header) lines = follow (n + 1) (first_course header) lines
 
--- the line that stops a script
-unfoldable pub stop_text : ℕ → List ℕ
-stop_text line = codes "stop line " ++ decimal line ++ codes " bad\n"
+-- the first line that is not skipped is the header; a script without one is bad at the line behind its last
+unfoldable pub script_from : ℕ → List (List ℕ) → Followed
+script_from n [] = stopped None n Bad
+script_from n (line ∷ lines) = elim (limit_at n line) [
+  | None ↦ (if is_skipped line then script_from (n + 1) lines else follow_under n (header_of line) lines)
+  | Some stop ↦ stopped None n stop
+]
+
+abbrev pub followed : List ℕ → Followed
+followed bytes = script_from 1 (lines_of bytes)
+
+-- ---- what is written
+unfoldable pub stop_text : ℕ → Stop → List ℕ
+stop_text n Bad = codes "stop line " ++ decimal n ++ codes " bad\n"
+stop_text n Long = codes "stop line " ++ decimal n ++ codes " long\n"
+stop_text n Lines = codes "stop line " ++ decimal n ++ codes " lines\n"
+stop_text n Letters = codes "stop line " ++ decimal n ++ codes " letters\n"
+
+abbrev pub status_of : Stop → Status
+status_of Bad = BadLine
+status_of Long = TooLong
+status_of Lines = TooLong
+status_of Letters = TooLong
+
+-- each key with its history and its order
+abbrev pub keys_text : RunState → List (List ℕ) → List ℕ
+keys_text run [] = []
+keys_text run (key ∷ keys) = key_text key (history run key) (printed run key) ++ keys_text run keys
+
+-- a run that went to its end: its events, each key that a call named, in the order of their bytes, and the end line
+unfoldable pub course_text : Course → List ℕ
+course_text c = c.text ++ keys_text c.run (named c.run) ++ end_text c.count (world_of c.run).calls (length (world_of c.run).letters)
+
+abbrev pub text_so_far : Option Course → List ℕ
+text_so_far None = []
+text_so_far (Some c) = c.text
+
+abbrev pub whole_text : Option Course → List ℕ
+whole_text None = []
+whole_text (Some c) = course_text c
 
 -- a status and a text
 pub record Transcript : Type 0 where
   pub status : Status
   pub text : List ℕ
 
-abbrev pub run_under : Option Header → List script.Call → Ran
-run_under None calls = record { log = []; rows = [] }
-run_under (Some h) calls = run_of h [] calls
-
--- a script that is whole, or that has a bad line: then the events before that line, and the stop line
-abbrev pub ended : Option ℕ → Ran → Transcript
-ended None ran = record { status = Done; text = ran_text ran }
-ended (Some line) ran = record { status = BadLine; text = events_text 1 ran.log ++ stop_text line }
-
--- the run that some bytes describe, up to the first line outside the grammar
-unfoldable pub ran_by : List ℕ → Ran
-ran_by bytes = run_under (parsed bytes).header (parsed bytes).rest.calls
+abbrev pub written : Option (ℕ × Stop) → Option Course → Transcript
+written None course = record { status = Done; text = whole_text course }
+written (Some stop) course = record { status = status_of stop.1; text = text_so_far course ++ stop_text stop.0 stop.1 }
 
 unfoldable pub transcript : List ℕ → Transcript
-transcript bytes = ended (parsed bytes).rest.bad (ran_by bytes)
+transcript bytes = written (followed bytes).stop (followed bytes).course

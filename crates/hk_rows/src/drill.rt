@@ -121,9 +121,10 @@ fn scripts_of_a_group_of_one(rt: HostRuntime) -> Result<(), Fail> {
             b"stop line 2 bad\n",
             Status::BadLine,
         ),
+        // Empty lines, and lines that begin with `#`, say nothing.
         (
-            b"group 1 managers 0 lease 1000 skew 0\n\n",
-            b"stop line 2 bad\n",
+            b"# one\n\ngroup 1 managers 0 lease 1000 skew 0\n\n#call 0 get k\ncall 0 get k\n call 0 get k\n",
+            b"1 call 1\n1 reply 1 missing\nstop line 7 bad\n",
             Status::BadLine,
         ),
     ];
@@ -136,15 +137,128 @@ fn scripts_of_a_group_of_one(rt: HostRuntime) -> Result<(), Fail> {
 }
 
 #[test]
+fn scripts_of_groups(rt: HostRuntime) -> Result<(), Fail> {
+    let rows: [(&[u8], &[u8]); 3] = [
+        // A read that is answered before the update reaches its node stands before it.
+        (
+            b"group 3 managers 0 lease 1000 skew 0\n\
+              call 0 set k 0 a\n\
+              call 1 get k\n\
+              take 1\n\
+              take 2\n\
+              take 3\n\
+              take 4\n",
+            b"1 call 1\n\
+              1 send 1 0>1 1 inv k 2.0 write 0 a\n\
+              1 send 2 0>2 1 inv k 2.0 write 0 a\n\
+              2 call 2\n\
+              2 reply 2 missing\n\
+              3 send 3 1>0 1 ack k 2.0 2.0\n\
+              4 send 4 2>0 1 ack k 2.0 2.0\n\
+              6 send 5 0>1 1 val k 2.0\n\
+              6 send 6 0>2 1 val k 2.0\n\
+              6 reply 1 stored\n\
+              key k\n\
+              history c1 c2 r2 r1\n\
+              order 2 1@131072\n\
+              end 6 2 6\n",
+        ),
+        // Of two increments at one value the lower one is aborted.
+        (
+            b"group 2 managers 0 lease 1000 skew 0\n\
+              call 0 set k 0 5\n\
+              take 1\n\
+              take 2\n\
+              take 3\n\
+              call 0 incr k 1\n\
+              call 1 incr k 1\n\
+              take 4\n\
+              take 5\n\
+              take 7\n\
+              take 6\n\
+              take 8\n\
+              call 0 get k\n",
+            b"1 call 1\n\
+              1 send 1 0>1 1 inv k 2.0 write 0 5\n\
+              2 send 2 1>0 1 ack k 2.0 2.0\n\
+              3 send 3 0>1 1 val k 2.0\n\
+              3 reply 1 stored\n\
+              5 call 2\n\
+              5 send 4 0>1 1 inv k 3.0 rmw 0 6\n\
+              6 call 3\n\
+              6 send 5 1>0 1 inv k 3.1 rmw 0 6\n\
+              7 send 6 1>0 1 inv k 3.1 rmw 0 6\n\
+              8 send 7 0>1 1 ack k 3.1 3.1\n\
+              8 reply 2 aborted 3.1\n\
+              9 send 8 1>0 1 val k 3.1\n\
+              9 reply 3 number 6\n\
+              10 send 9 0>1 1 ack k 3.1 3.1\n\
+              12 call 4\n\
+              12 reply 4 found 0 196609 6\n\
+              key k\n\
+              history c1 r1 c2 c3 r2 r3 c4 r4\n\
+              order 1@131072 3@196609 4\n\
+              end 12 4 9\n",
+        ),
+        // What a world refuses, and by which name.
+        (
+            b"group 2 managers 0 lease 1000 skew 5\n\
+              tick 0 6\n\
+              tick 0 7\n\
+              tick 0 5\n\
+              take 1\n\
+              call 2 get k\n\
+              crash 1\n\
+              call 1 get k\n\
+              tick 0 900\n\
+              install 0 2\n\
+              agree drop 5\n\
+              propose m0 1 add\n\
+              agree drop 1\n\
+              agree drop 0\n\
+              install 0 2\n\
+              install 0 2\n\
+              start 0\n\
+              start 7\n",
+            b"2 refused skew 7 1\n\
+              3 refused clock-falls 6\n\
+              4 refused no-letter\n\
+              5 refused no-actor\n\
+              7 refused crashed\n\
+              9 refused no-view\n\
+              10 refused no-such-member\n\
+              11 refused no-actor\n\
+              12 view 2:2:0\n\
+              13 refused last-member\n\
+              14 installed 0 2\n\
+              15 refused behind 2\n\
+              16 refused started\n\
+              17 refused not-member\n\
+              end 17 0 0\n",
+        ),
+    ];
+    for (script, text) in rows {
+        let outcome = drill(rt, rt.alloc(), script)?;
+        assert_eq!(rt; outcome.text.as_slice(), text);
+        assert_eq!(rt; outcome.status, Status::Done);
+    }
+    Ok(())
+}
+
+#[test]
 fn a_line_has_4096_bytes_at_most(rt: HostRuntime) -> Result<(), Fail> {
     let alloc = rt.alloc();
-    let rows = [(4_096 - 16, Status::Done), (4_097 - 16, Status::BadLine)];
-    for (count, status) in rows {
+    let rows: [(usize, &[u8], Status); 2] = [
+        (4_096, b"end 0 0 0\n", Status::Done),
+        (4_097, b"stop line 2 long\n", Status::TooLong),
+    ];
+    for (count, text, status) in rows {
         let mut script = HEADER.to_vec(alloc)?;
-        script.extend_from_slice(b"call 0 set k 0 a")?;
-        let data = vec![in alloc; b'a'; count]?;
-        script.extend_from_slice(data.as_slice())?;
-        assert_eq!(rt; drill(rt, alloc, script.as_slice())?.status, status);
+        let line = vec![in alloc; b'#'; count]?;
+        script.extend_from_slice(line.as_slice())?;
+        let outcome = drill(rt, alloc, script.as_slice())?;
+        assert_eq!(rt; outcome.text.as_slice(), text);
+        assert_eq!(rt; outcome.status, status);
     }
     Ok(())
 }

@@ -1,0 +1,72 @@
+//! A key with its history and its order.
+
+ghost use Rattle.std.specs.Prelude.{◌≡◌, ◌++◌, OnOk};
+ghost use Rattle.hk_drill.specs.Text.{item_text, history_text, tag_text, entry_text, order_text, key_text};
+
+use super::parts::put_named;
+use hk_base::{Key, Memory};
+use hk_history::{Entry, Event};
+use hk_script::{put_text, put_word};
+
+fn put_item(out: &mut Vec<u8>, item: &Event) -> Result<(), Memory>
+    ensures { OnOk result (out.new.items ≡ out.old.items ++ item_text item.now) }
+{
+    match item {
+        Event::Call { no, op: _ } => put_named(out, b" c", no.0),
+        Event::Reply { no, answer: _ } => put_named(out, b" r", no.0),
+    }
+}
+
+fn put_history(out: &mut Vec<u8>, history: &[Event]) -> Result<(), Memory>
+    ensures { OnOk result (out.new.items ≡ out.old.items ++ history_text history.now) }
+{
+    for item in history {
+        put_item(out, item)?;
+    }
+    Ok(())
+}
+
+// The tag of a call that changed the register.
+fn put_tag(out: &mut Vec<u8>, tag: Option<u64>) -> Result<(), Memory>
+    ensures { OnOk result (out.new.items ≡ out.old.items ++ tag_text tag) }
+{
+    match tag {
+        None => Ok(()),
+        Some(tag) => put_named(out, b"@", tag),
+    }
+}
+
+fn put_entry(out: &mut Vec<u8>, entry: &Entry) -> Result<(), Memory>
+    ensures { OnOk result (out.new.items ≡ out.old.items ++ entry_text entry.now) }
+{
+    put_named(out, b" ", entry.call.0)?;
+    put_tag(out, entry.tag)
+}
+
+fn put_order(out: &mut Vec<u8>, order: &[Entry]) -> Result<(), Memory>
+    ensures { OnOk result (out.new.items ≡ out.old.items ++ order_text order.now) }
+{
+    for entry in order {
+        put_entry(out, entry)?;
+    }
+    Ok(())
+}
+
+/// A key with its history and its order.
+#[tactic(auto, unfolding(crate::specs::Text::key_text))]
+pub(crate) fn put_key(
+    out: &mut Vec<u8>,
+    key: &Key,
+    history: &[Event],
+    order: &[Entry],
+) -> Result<(), Memory>
+    ensures { OnOk result (out.new.items ≡ out.old.items ++ key_text key.now history.now order.now) }
+{
+    put_text(out, b"key ")?;
+    put_word(out, key.bytes())?;
+    put_text(out, b"\nhistory")?;
+    put_history(out, history)?;
+    put_text(out, b"\norder")?;
+    put_order(out, order)?;
+    put_text(out, b"\n")
+}
