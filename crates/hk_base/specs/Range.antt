@@ -1,6 +1,9 @@
 -- When a letter is in range: each of its parts is within the limit of its kind. What a part's type keeps is not said again.
-use Rattle.std.specs.Prelude.{◌≡◌, ℕ, ◌<◌, ◌≤◌, List, length, All, IfSome, ⊤}
+use Rattle.std.specs.Prelude.{◌≡◌, ℕ, ◌<◌, ◌≤◌, List, length, All, Option, Some, None, IfSome, ⊤}
 use Rattle.hk_base.specs.declared.stamp.Stamp.{Stamp}
+use Rattle.hk_base.specs.declared.stamp.Kind.{Kind}
+use Rattle.hk_base.specs.declared.stamp.Kind.TheVariants.{Rmw}
+use Rattle.hk_base.specs.declared.call.Content.{Content}
 use Rattle.hk_base.specs.declared.stamp.TheConstants.{MAX_VERSION}
 use Rattle.hk_base.specs.declared.time.TheConstants.{MAX_TIME}
 use Rattle.hk_base.specs.declared.view.Ballot.{Ballot}
@@ -16,6 +19,11 @@ use Rattle.hk_base.specs.View.{IsView}
 -- a version of at most 2^48 - 1
 abbrev pub IsWithin : Stamp → Type 0
 IsWithin s = s.version ≤ MAX_VERSION
+
+-- an update leaves a content, or is a read-modify-write that leaves nothing
+abbrev pub Leaves : Kind → Option Content → Type 0
+Leaves kind (Some content) = ⊤
+Leaves kind None = kind ≡ Rmw
 
 -- managers are 0 to 8
 abbrev pub IsBallot : Ballot → Type 0
@@ -33,18 +41,19 @@ pub record IsRoom (room : ℕ) : Type 0 where
 pub record IsBatch (items : List CopyItem) : Type 0 where
   pub few : length items ≤ 64
   pub within : All (λ item. IsWithin item.stamp) items
+  pub leaves : All (λ item. Leaves item.kind item.content) items
 
 pub record IsVote (vote : Voted) : Type 0 where
   pub ballot : IsBallot vote.ballot
   pub view : IsView vote.view
 
 abbrev pub IsBody : Body → Type 0
-IsBody (Inv key s kind content) = IsWithin s
+IsBody (Inv key s kind content) = IsWithin s × Leaves kind content
 IsBody (Ack key s top) = IsWithin s × IsWithin top
 IsBody (Val key s) = IsWithin s
 IsBody (CopyAsk after room) = IsRoom room
 IsBody (CopyGive after done items) = IsBatch items
-IsBody LeaseAsk = ⊤
+IsBody (LeaseAsk asked) = asked ≤ MAX_TIME
 IsBody (LeaseGive end) = end ≤ MAX_TIME
 IsBody (Prepare ballot) = IsBallot ballot
 IsBody (Promise ballot vote) = IsBallot ballot × IfSome vote IsVote

@@ -4,10 +4,11 @@ use Rattle.std.specs.Str.{all_ascii_digits}
 use Rattle.std.specs.Str.Parse.{digits_value}
 use Rattle.hk_base.specs.declared.call.Content.{Content}
 use Rattle.hk_base.specs.declared.call.Op.{Op}
-use Rattle.hk_base.specs.declared.call.Op.TheVariants.{Read, Write, Cas, Incr, Decr}
+use Rattle.hk_base.specs.declared.call.Op.TheVariants.{Read, Write, Cas, Incr, Decr, Add, Replace, Delete}
 use Rattle.hk_base.specs.declared.call.Answer.{Answer}
-use Rattle.hk_base.specs.declared.call.Answer.TheVariants.{Found, Missing, Stored, Number, Exists, NotFound, NotNumber}
+use Rattle.hk_base.specs.declared.call.Answer.TheVariants.{Found, Missing, Stored, Number, Exists, NotFound, NotNumber, NotStored, Deleted}
 
+-- A key that no update touched holds nothing and has tag 0. A deleted key holds nothing and has the tag of its deletion.
 pub record Register : Type 0 where
   pub content : Option Content
   pub tag : ℕ
@@ -24,8 +25,12 @@ pub record Acted : Type 0 where
 abbrev pub stays : Answer → Register → Acted
 stays a r = record { answer = a; changed = false; register = r }
 
+-- what the register holds is replaced, by a content or by nothing
+abbrev pub leaves : Answer → Option Content → ℕ → Acted
+leaves a content newtag = record { answer = a; changed = true; register = record { content = content; tag = newtag } }
+
 abbrev pub changes : Answer → Content → ℕ → Acted
-changes a c newtag = record { answer = a; changed = true; register = record { content = Some c; tag = newtag } }
+changes a c newtag = leaves a (Some c) newtag
 
 -- the value of 1 to 20 decimal digits, if it is below 2 ^ 64
 abbrev pub number_in : List ℕ → Option ℕ
@@ -48,6 +53,9 @@ act_on_nothing (Write c) r newtag = changes Stored c newtag
 act_on_nothing (Cas t c) r newtag = stays NotFound r
 act_on_nothing (Incr n) r newtag = stays NotFound r
 act_on_nothing (Decr n) r newtag = stays NotFound r
+act_on_nothing (Add c) r newtag = changes Stored c newtag
+act_on_nothing (Replace c) r newtag = stays NotStored r
+act_on_nothing Delete r newtag = stays NotFound r
 
 -- an operation on a register that holds something
 abbrev pub act_on : Op → Content → Register → ℕ → Acted
@@ -56,6 +64,9 @@ act_on (Write c) held r newtag = changes Stored c newtag
 act_on (Cas t c) held r newtag = if t == r.tag then changes Stored c newtag else stays Exists r
 act_on (Incr n) held r newtag = acts_number (number_in held.bytes) (λ v. (v + n) % 2 ^ 64) held r newtag
 act_on (Decr n) held r newtag = acts_number (number_in held.bytes) (λ v. v - n) held r newtag
+act_on (Add c) held r newtag = stays NotStored r
+act_on (Replace c) held r newtag = changes Stored c newtag
+act_on Delete held r newtag = leaves Deleted None newtag
 
 -- an operation on a register, where a change takes the new tag
 abbrev pub act : Op → Register → ℕ → Acted

@@ -70,6 +70,12 @@ pub enum Op {
     Incr(u64),
     /// Takes from a decimal number, down to 0.
     Decr(u64),
+    /// Writes the content where the register holds nothing.
+    Add(Content),
+    /// Writes the content where the register holds something.
+    Replace(Content),
+    /// Takes the content away.
+    Delete,
 }
 
 impl Op {
@@ -89,6 +95,15 @@ impl Op {
             }
             Op::Incr(by) => Ok(Op::Incr(*by)),
             Op::Decr(by) => Ok(Op::Decr(*by)),
+            Op::Add(content) => {
+                let content = content.share()?;
+                Ok(Op::Add(content))
+            }
+            Op::Replace(content) => {
+                let content = content.share()?;
+                Ok(Op::Replace(content))
+            }
+            Op::Delete => Ok(Op::Delete),
         }
     }
 }
@@ -109,16 +124,20 @@ pub enum Answer {
     Found { content: Content, tag: u64 },
     /// A read found nothing.
     Missing,
-    /// A write, or a cas whose tag was right, is done.
+    /// A write is done, or a cas whose tag was right, an add where nothing was held or a replace where something was.
     Stored,
     /// The number that an incr or decr left.
     Number(u64),
     /// The tag of a cas was another.
     Exists,
-    /// A cas, incr or decr found nothing.
+    /// A cas, incr, decr or delete found nothing.
     NotFound,
     /// An incr or decr found data that is no number of 64 bits.
     NotNumber,
+    /// An add found something, or a replace found nothing.
+    NotStored,
+    /// A delete took the content away.
+    Deleted,
     /// Refused for now, with nothing begun.
     Busy(Why),
     /// The update was given up for one with this stamp. It may take effect yet, once.
@@ -143,6 +162,8 @@ impl Answer {
             Answer::Exists => Answer::Exists,
             Answer::NotFound => Answer::NotFound,
             Answer::NotNumber => Answer::NotNumber,
+            Answer::NotStored => Answer::NotStored,
+            Answer::Deleted => Answer::Deleted,
             Answer::Busy(why) => Answer::Busy(*why),
             Answer::Aborted(stamp) => Answer::Aborted(*stamp),
             Answer::Exhausted(stamp) => Answer::Exhausted(*stamp),

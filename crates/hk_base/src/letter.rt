@@ -19,7 +19,7 @@ pub enum Actor {
     Manager(u8),
 }
 
-/// A row as a member copies it to a joiner. No content is what an update left that took the content away.
+/// A row as a member copies it to a joiner. Only a read-modify-write leaves no content: it took the content away.
 #[derive(Drop)]
 pub struct CopyItem {
     pub key: Key,
@@ -92,7 +92,7 @@ fn share_vote(alloc: Global, vote: &Option<Voted>) -> Result<Option<Voted>, Memo
 /// What a letter says.
 #[derive(Drop)]
 pub enum Body {
-    /// An update is announced: the key is invalid until it is known to be complete.
+    /// An update is announced: the key is invalid until it is known to be complete. Only a read-modify-write leaves no content.
     Inv {
         key: Key,
         stamp: Stamp,
@@ -121,9 +121,11 @@ pub enum Body {
         done: bool,
         items: CopyItems,
     },
-    /// A node asks a manager for a lease.
-    LeaseAsk,
-    /// A manager grants one that ends at `end` milliseconds.
+    /// A node asks a manager for a lease, at `asked` milliseconds by its own clock.
+    LeaseAsk {
+        asked: u64,
+    },
+    /// A manager grants one that ends at `end` milliseconds by the asker's clock.
     LeaseGive {
         end: u64,
     },
@@ -211,7 +213,7 @@ impl Body {
                 room: *room,
             }),
             Body::CopyGive { after, done, items } => share_batch(alloc, after, *done, items),
-            Body::LeaseAsk => Ok(Body::LeaseAsk),
+            Body::LeaseAsk { asked } => Ok(Body::LeaseAsk { asked: *asked }),
             Body::LeaseGive { end } => Ok(Body::LeaseGive { end: *end }),
             Body::Prepare(ballot) => Ok(Body::Prepare(*ballot)),
             Body::Promise { ballot, accepted } => share_promise(alloc, *ballot, accepted),
