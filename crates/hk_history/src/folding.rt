@@ -18,17 +18,12 @@ use hk_base::{Answer, Content, Memory, Op};
 use hk_rmw::{Turn, turn};
 use std::alloc::Global;
 
-/// What the register holds.
-#[derive(Drop)]
-pub struct Held {
-    pub content: Content,
-    pub tag: u64,
-}
-
 /// The register so far, and the last tag that stood in the order.
 #[derive(Drop)]
 pub struct Folding {
-    pub held: Option<Held>,
+    /// What the register holds. Nothing too has a tag, that of the change which left it.
+    pub content: Option<Content>,
+    pub tag: u64,
     pub last: Option<u64>,
 }
 
@@ -112,7 +107,8 @@ impl Folding {
         ensures last { result.last ≡ None }
     {
         Folding {
-            held: None,
+            content: None,
+            tag: 0,
             last: None,
         }
     }
@@ -121,8 +117,8 @@ impl Folding {
         ensures { IfOk result (λ turn. (newtag : ℕ) →
             acted_of turn (register_in self.now) newtag ≡ act op.now (register_in self.now) newtag) }
     {
-        match &self.held {
-            Some(held) => turn(alloc, op, Some((&held.content, held.tag))),
+        match &self.content {
+            Some(content) => turn(alloc, op, Some((content, self.tag))),
             None => turn(alloc, op, None),
         }
     }
@@ -148,24 +144,24 @@ impl Folding {
         }
     }
 
-    // Acts by an entry that changes the register to this content.
+    // Acts by an entry that changes the register to this content, or to nothing.
     fn change(
         &mut self,
-        content: Content,
+        content: Option<Content>,
         told: &Answer,
         given: Option<&Answer>,
         entry: &Entry,
     ) -> Result<(), CheckFault>
         ensures told { (register : Register) → StepGives self.old.last entry.now (option_copied given.entry)
             (record { answer = told.now; changed = true; register = register }) result }
-        ensures register { OnOk result (register_in self.new ≡ record { content = Some content; tag = unwrap_or entry.now.tag 0 }) }
+        ensures register { OnOk result (register_in self.new ≡ record { content = content; tag = unwrap_or entry.now.tag 0 }) }
         ensures last { OnOk result (self.new.last ≡ option_or entry.now.tag self.old.last) }
         ensures err { OnErr result (self.new ≡ self.old) }
     {
         match judged(given, told, true, entry, self.last) {
             Ok(()) => {
-                let tag = entry.tag.unwrap_or(0);
-                self.held = Some(Held { content, tag });
+                self.content = content;
+                self.tag = entry.tag.unwrap_or(0);
                 self.last = entry.tag.or(self.last);
                 Ok(())
             }

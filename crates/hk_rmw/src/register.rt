@@ -1,8 +1,8 @@
 //! Operations on a register.
 
-ghost use Rattle.std.specs.Prelude.{◌≡◌, ◌+◌, ◌-◌, ◌%◌, ◌^◌, ℕ, IfOk, Some};
-ghost use Rattle.hk_base.specs.Register.{Register, first, act, act_on, act_on_nothing, content_of_number};
-ghost use Rattle.hk_rmw.specs.Held.{register_of};
+ghost use Rattle.std.specs.Prelude.{◌≡◌, ◌+◌, ◌-◌, ◌%◌, ◌^◌, ℕ, IfOk, Some, None};
+ghost use Rattle.hk_base.specs.Register.{Register, act, act_on, act_on_nothing, content_of_number};
+ghost use Rattle.hk_rmw.specs.Held.{IsGiven};
 ghost use Rattle.hk_rmw.specs.Turned.{acted_of};
 
 use crate::number::{content_of_number, number_in};
@@ -10,11 +10,12 @@ use crate::outcome::Turn;
 use hk_base::{Answer, Content, Memory, Op};
 use std::alloc::Global;
 
-/// What the operation does to the register that holds `now`, a content with its tag, or nothing under tag 0.
-/// A content that is written is shared, and a number is written anew. Memory is the only error.
+/// What the operation does to the register that holds `now`, a content with its tag, or nothing. What holds nothing
+/// may have any tag, since no operation looks at it there. A content that is written is shared, and a number is
+/// written anew. Memory is the only error.
 pub fn turn(alloc: Global, op: &Op, now: Option<(&Content, u64)>) -> Result<Turn, Memory>
-    ensures { IfOk result (λ turn. (newtag : ℕ) →
-        acted_of turn (register_of now.entry) newtag ≡ act op.now (register_of now.entry) newtag) }
+    ensures { IfOk result (λ turn. (register : Register) → IsGiven now.entry register → (newtag : ℕ) →
+        acted_of turn register newtag ≡ act op.now register newtag) }
 {
     match now {
         None => turn_on_nothing(op),
@@ -23,12 +24,15 @@ pub fn turn(alloc: Global, op: &Op, now: Option<(&Content, u64)>) -> Result<Turn
 }
 
 fn turn_on_nothing(op: &Op) -> Result<Turn, Memory>
-    ensures { IfOk result (λ turn. (newtag : ℕ) → acted_of turn first newtag ≡ act_on_nothing op.now first newtag) }
+    ensures { IfOk result (λ turn. (register : Register) (newtag : ℕ) → acted_of turn register newtag ≡ act_on_nothing op.now register newtag) }
 {
     match op {
         Op::Read => Ok(Turn::Stay(Answer::Missing)),
-        Op::Write(content) => stored(content),
-        Op::Cas { .. } | Op::Incr(_) | Op::Decr(_) => Ok(Turn::Stay(Answer::NotFound)),
+        Op::Write(content) | Op::Add(content) => stored(content),
+        Op::Replace(_) => Ok(Turn::Stay(Answer::NotStored)),
+        Op::Cas { .. } | Op::Incr(_) | Op::Decr(_) | Op::Delete => {
+            Ok(Turn::Stay(Answer::NotFound))
+        }
     }
 }
 
@@ -41,7 +45,12 @@ fn turn_on(alloc: Global, op: &Op, held: &Content, tag: u64) -> Result<Turn, Mem
             let content = held.share()?;
             Ok(Turn::Stay(Answer::Found { content, tag }))
         }
-        Op::Write(content) => stored(content),
+        Op::Write(content) | Op::Replace(content) => stored(content),
+        Op::Add(_) => Ok(Turn::Stay(Answer::NotStored)),
+        Op::Delete => Ok(Turn::Change {
+            content: None,
+            answer: Answer::Deleted,
+        }),
         Op::Cas {
             tag: wanted,
             content,
@@ -65,22 +74,22 @@ fn turn_on(alloc: Global, op: &Op, held: &Content, tag: u64) -> Result<Turn, Mem
 
 // The content is written.
 fn stored(content: &Content) -> Result<Turn, Memory>
-    ensures { IfOk result (λ turn. turn ≡ Turn.Change content.now Answer.Stored) }
+    ensures { IfOk result (λ turn. turn ≡ Turn.Change (Some content.now) Answer.Stored) }
 {
     let content = content.share()?;
     Ok(Turn::Change {
-        content,
+        content: Some(content),
         answer: Answer::Stored,
     })
 }
 
 // The number is written in place of what was held.
 fn numbered(alloc: Global, held: &Content, number: u64) -> Result<Turn, Memory>
-    ensures { IfOk result (λ turn. turn ≡ Turn.Change (content_of_number held.now number) (Answer.Number number)) }
+    ensures { IfOk result (λ turn. turn ≡ Turn.Change (Some (content_of_number held.now number)) (Answer.Number number)) }
 {
     let content = content_of_number(alloc, held, number)?;
     Ok(Turn::Change {
-        content,
+        content: Some(content),
         answer: Answer::Number(number),
     })
 }

@@ -14,7 +14,7 @@ returns-in-Ok-Change-clause-told c =
     let P : Acted → Type 0 = λ done. StepGives c.args.self.now.last c.args.entry.now (option_copied c.args.given) done c.change.result in
     let newtag = unwrap_or c.args.entry.now.tag 0 in
     subst P (sym (ap (λ (t : Turn). acted_of t (register_in c.args.self.now) newtag) c.in-Ok-Change.field-0-is) ∙ c.in-Ok-Change.ensures newtag)
-    (c.change.ensures.told (record { content = Some c.in-Ok-Change.content; tag = newtag }))
+    (c.change.ensures.told (record { content = c.in-Ok-Change.content; tag = newtag }))
 
 pub returns-in-Ok-Stay-clause-told : goal.returns-in-Ok-Stay-clause-told
 returns-in-Ok-Stay-clause-told c =
