@@ -1,10 +1,11 @@
 -- What a desk was asked and told.
 use Rattle.std.specs.Prelude.{◌≡◌, ℕ, List, [], ◌∷◌, ◌++◌, Option, None, Some, Result, Ok, Err, ⊤, Bool, true, false, IsTrue, if◌then◌else◌}
 use Rattle.hk_base.specs.declared.call.Op.{Op}
-use Rattle.hk_base.specs.declared.call.Op.TheVariants.{Read, Write, Cas, Incr, Decr}
+use Rattle.hk_base.specs.declared.call.Op.TheVariants.{Read, Write, Cas, Incr, Decr, Add, Replace, Delete}
 use Rattle.hk_base.specs.declared.call.Answer.{Answer}
-use Rattle.hk_base.specs.declared.call.Answer.TheVariants.{Found, Missing, Stored, Number, Exists, NotFound, NotNumber, Busy, Aborted, Exhausted}
+use Rattle.hk_base.specs.declared.call.Answer.TheVariants.{Found, Missing, Stored, Number, Exists, NotFound, NotNumber, NotStored, Deleted, Busy, Aborted, Exhausted}
 use Rattle.hk_base.specs.declared.call.Why.TheVariants.{Lease}
+use Rattle.hk_base.specs.Register.{Register, act}
 use Rattle.hk_outside.specs.declared.desk.Asked.{Asked}
 use Rattle.hk_outside.specs.declared.desk.Asked.TheVariants.{Replied, NoMemory}
 use Rattle.hk_outside.specs.declared.desk.DeskReply.{DeskReply}
@@ -44,7 +45,23 @@ answers (Decr n) NotFound = true
 answers (Decr n) NotNumber = true
 answers (Decr n) (Aborted s) = true
 answers (Decr n) (Exhausted s) = true
+answers (Add c) Stored = true
+answers (Add c) NotStored = true
+answers (Add c) (Aborted s) = true
+answers (Add c) (Exhausted s) = true
+answers (Replace c) Stored = true
+answers (Replace c) NotStored = true
+answers (Replace c) (Aborted s) = true
+answers (Replace c) (Exhausted s) = true
+answers Delete Deleted = true
+answers Delete NotFound = true
+answers Delete (Aborted s) = true
+answers Delete (Exhausted s) = true
 answers op answer = false
+
+-- what an operation answers on a register can be an answer to it
+abbrev pub ActSuits : Type 0
+ActSuits = (op : Op) (register : Register) (newtag : ℕ) → answers op (act op register newtag).answer ≡ true
 
 abbrev pub is_update : Op → Bool
 is_update Read = false

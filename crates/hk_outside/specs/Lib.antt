@@ -1,4 +1,5 @@
 pub mod Causes
 pub mod Counts
 pub mod Desk
+pub mod Records
 pub mod Status

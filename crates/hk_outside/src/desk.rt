@@ -1,7 +1,7 @@
 //! A desk, which is asked one operation at a time.
 
 ghost use Rattle.std.specs.Prelude.{◌≡◌, ◌++◌, ◌∷◌, [], drop, List, Option, Some, None, true, IfOk, if◌then◌else◌};
-ghost use Rattle.hk_outside.specs.Desk.{Asks, Suits, answers, suits, next_of};
+ghost use Rattle.hk_outside.specs.Desk.{ActSuits, Asks, Suits, answers, suits, next_of};
 ghost use Rattle.hk_outside.specs.declared.desk.Asked.{Asked};
 
 use hk_base::{Answer, Key, Memory, Op, Why};
@@ -53,42 +53,37 @@ impl DeskReply {
     }
 }
 
-// Whether an answer can be one to the operation.
-fn answers(op: &Op, answer: &Answer) -> bool
+/// Whether an answer can be one to the operation. Each may be refused for now; an update may be Exhausted, and one
+/// that looks at what is held, which is each but a write, may be Aborted.
+pub fn answers(op: &Op, answer: &Answer) -> bool
     ensures { result ≡ answers op.now answer.now }
 {
-    match op {
-        Op::Read => matches!(
-            answer,
-            Answer::Found { .. } | Answer::Missing | Answer::Busy(_)
+    match answer {
+        Answer::Busy(_) => true,
+        Answer::Found { .. } | Answer::Missing => matches!(op, Op::Read),
+        Answer::Stored => matches!(
+            op,
+            Op::Write(_) | Op::Cas { .. } | Op::Add(_) | Op::Replace(_)
         ),
-        Op::Write(_) => matches!(
-            answer,
-            Answer::Stored | Answer::Busy(_) | Answer::Exhausted(_)
-        ),
-        Op::Cas { .. } => matches!(
-            answer,
-            Answer::Stored
-                | Answer::Exists
-                | Answer::NotFound
-                | Answer::Busy(_)
-                | Answer::Aborted(_)
-                | Answer::Exhausted(_)
-        ),
-        Op::Incr(_) | Op::Decr(_) => matches!(
-            answer,
-            Answer::Number(_)
-                | Answer::NotFound
-                | Answer::NotNumber
-                | Answer::Busy(_)
-                | Answer::Aborted(_)
-                | Answer::Exhausted(_)
-        ),
+        Answer::Number(_) | Answer::NotNumber => matches!(op, Op::Incr(_) | Op::Decr(_)),
+        Answer::Exists => matches!(op, Op::Cas { .. }),
+        Answer::NotFound => matches!(op, Op::Cas { .. } | Op::Incr(_) | Op::Decr(_) | Op::Delete),
+        Answer::NotStored => matches!(op, Op::Add(_) | Op::Replace(_)),
+        Answer::Deleted => matches!(op, Op::Delete),
+        Answer::Aborted(_) => !matches!(op, Op::Read | Op::Write(_)),
+        Answer::Exhausted(_) => !matches!(op, Op::Read),
     }
 }
 
-// Whether a desk may tell this of the operation.
-fn suits(op: &Op, reply: &DeskReply) -> bool
+/// What the operation `op` answers on a register, by the definition `act`, is an answer to it: a desk that asks `act`
+/// alone tells what suits.
+pub fn act_suits()
+    ensures { ActSuits }
+{}
+
+/// Whether a desk may tell this of the operation: an answer to it; an unknown outcome of an update alone; or that it
+/// has made all its asks.
+pub fn suits(op: &Op, reply: &DeskReply) -> bool
     ensures { result ≡ suits op.now reply.now }
 {
     match reply {

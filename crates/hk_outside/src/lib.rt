@@ -6,13 +6,15 @@
 //! bytes that it has left and a sink those that it was given, where they know: contracts speak of these bytes.
 //!
 //! Each trait has a form in memory, for tests and for use without an outside, and an adapter over the machine:
-//! standard input and output, TCP on 127.0.0.1, the steady clock, threads. Adapters tell nothing of their bytes.
+//! standard input and output, TCP on 127.0.0.1, the steady clock, threads. An adapter over a reader or a writer can't tell
+//! what is left, but it records what its reader gave and its writer took: contracts speak of these bytes.
 #![tactic(auto)]
 
 mod clock;
 mod desk;
 mod doors;
 mod memory;
+mod record;
 mod standard;
 mod status;
 mod stream;
@@ -22,11 +24,12 @@ mod tests;
 mod threads;
 
 pub use clock::{Clock, HandClock, SteadyClock};
-pub use desk::{Asked, Desk, DeskReply, FakeDesk};
+pub use desk::{Asked, Desk, DeskReply, FakeDesk, act_suits, answers, suits};
 pub use doors::{Doors, MemoryDoors};
 pub use memory::{MemoryConnection, MemorySink, MemorySource, SureSink, SureSource};
+pub use record::Record;
 pub use standard::{ReaderSource, WriterSink};
 pub use status::Status;
-pub use stream::{Connection, Failed, Sink, Source};
+pub use stream::{Connection, Failed, Sink, Source, write_all};
 pub use tcp::{TcpConnection, TcpDoors};
 pub use threads::{Job, NoSpawner, Refusal, Spawner, ThreadSpawner};

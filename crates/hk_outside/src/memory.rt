@@ -231,4 +231,6 @@ impl Connection for MemoryConnection {
     ghost read_keeps = { λ c. refl };
 
     ghost write_keeps = { λ c. refl };
+
+    ghost one_record = { λ c. refl };
 }

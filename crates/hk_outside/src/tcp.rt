@@ -1,30 +1,39 @@
 //! Connections over TCP on 127.0.0.1.
 
-ghost use Rattle.std.specs.Prelude.{None, refl};
+ghost use Rattle.std.specs.Prelude.{None, Some, refl};
+ghost use Rattle.std.specs.List.{concat};
 
 use crate::doors::Doors;
+use crate::record::Record;
 use crate::stream::{Connection, Failed, Sink, Source};
 use std::io::{Read, Write};
 use std::net::{Ipv4Addr, Net, OpenListener, SocketAddr, TcpListener, TcpStream};
 
-/// A connection over TCP. It tells nothing of its bytes.
+/// A connection over TCP. It records the bytes that came and those that were taken, and can't tell what is left.
 #[derive(Drop)]
 pub struct TcpConnection {
     stream: TcpStream,
     read_faults: u64,
     write_faults: u64,
+    given: Record,
+    taken: Record,
 }
 
 impl Source for TcpConnection {
     ghost left = { λ c. None };
 
+    ghost given = { λ c. Some c.given.pieces };
+
     ghost faults = { λ c. c.read_faults };
 
-    ghost beside = { λ c. (None, c.write_faults) };
+    ghost beside = { λ c. (Some (concat c.taken.pieces), c.write_faults) };
 
     fn read(&mut self, room: &mut [u8]) -> Result<usize, Failed> {
         match self.stream.read(room) {
-            Ok(count) => Ok(count),
+            Ok(count) => {
+                self.given.note(&room[..count]);
+                Ok(count)
+            }
             Err(_) => {
                 self.read_faults = self.read_faults.saturating_add(1);
                 Err(Failed)
@@ -34,15 +43,19 @@ impl Source for TcpConnection {
 }
 
 impl Sink for TcpConnection {
-    ghost held = { λ c. None };
+    ghost held = { λ c. Some (concat c.taken.pieces) };
+
+    ghost given = { λ c. Some c.given.pieces };
 
     ghost faults = { λ c. c.write_faults };
 
     ghost beside = { λ c. (None, c.read_faults) };
 
+    #[tactic(auto, using(crate::proofs::Records::one_more))]
     fn write(&mut self, piece: &[u8]) -> Result<usize, Failed> {
         match self.stream.write(piece) {
             Ok(count) => {
+                self.taken.note(&piece[..count]);
                 if count == 0 && !piece.is_empty() {
                     self.write_faults = self.write_faults.saturating_add(1);
                 }
@@ -60,6 +73,8 @@ impl Connection for TcpConnection {
     ghost read_keeps = { λ c. refl };
 
     ghost write_keeps = { λ c. refl };
+
+    ghost one_record = { λ c. refl };
 }
 
 /// Doors on a port of 127.0.0.1. Before a port is open no connection comes.
@@ -112,6 +127,8 @@ impl<R: Net<Listener = TcpListener, Stream = TcpStream> + Drop> Doors for TcpDoo
                 stream,
                 read_faults: 0,
                 write_faults: 0,
+                given: Record::new(),
+                taken: Record::new(),
             })),
             Err(_) => {
                 self.faults = self.faults.saturating_add(1);

@@ -1,0 +1,18 @@
+-- What a source records of its reads.
+use Rattle.std.specs.Prelude.{◌≡◌, ℕ, List, [], ◌∷◌, ◌++◌, take, Option, None, Some, Result, MatchResult, ⊤}
+use Rattle.std.specs.List.{concat}
+
+-- a read adds the n bytes that it gave at `Ok(n)` as one piece, and nothing at `Err`
+abbrev pub RecordsRead : {E : Type 0} → Option (List (List ℕ)) → Option (List (List ℕ)) → Result ℕ E → List ℕ → Type 0
+RecordsRead None new r room = ⊤
+RecordsRead (Some pieces) new r room = MatchResult r (λ n. new ≡ Some (pieces ++ take n room ∷ [])) (λ _. new ≡ Some pieces)
+
+-- the pieces that were given since then, joined, are these bytes
+abbrev pub Gave : Option (List (List ℕ)) → Option (List (List ℕ)) → List ℕ → Type 0
+Gave None now bytes = ⊤
+Gave (Some before) now bytes = (pieces : List (List ℕ)) × (now ≡ Some (before ++ pieces)) × (concat pieces ≡ bytes)
+
+-- and the last of them, behind these, is empty: the source told its end
+abbrev pub GaveAll : Option (List (List ℕ)) → Option (List (List ℕ)) → List ℕ → Type 0
+GaveAll None now bytes = ⊤
+GaveAll (Some before) now bytes = (pieces : List (List ℕ)) × (now ≡ Some (before ++ (pieces ++ [] ∷ []))) × (concat pieces ≡ bytes)
