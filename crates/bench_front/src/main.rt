@@ -4,7 +4,7 @@
 
 use hk_base::MAX_DATA_LEN;
 use hk_lines::{Cutter, Step};
-use hk_request::{Head, StoreHead, finish, read_request};
+use hk_request::{Head, StoreHead, Verb, finish, read_request};
 use std::alloc::Global;
 use std::io;
 use std::io::Read;
@@ -46,6 +46,9 @@ impl Counts {
         };
         let bytes = head.bytes as usize;
         if bytes > MAX_DATA_LEN || block.len() != bytes + 2 {
+            return;
+        }
+        if head.tag.is_some() != (head.verb == Verb::Cas) {
             return;
         }
         if finish(alloc, head, block).is_ok() {

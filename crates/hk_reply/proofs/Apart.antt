@@ -3,7 +3,7 @@ use Rattle.std.proofs.Common.{◌≡◌, List, [], ◌∷◌, ◌++◌, true, fa
 use Rattle.std.specs.Prelude.{map, codes}
 use Rattle.std.specs.List.{AllByRecursion}
 use Rattle.hk_reply.specs.declared.reply.Item.{Item}
-use Rattle.hk_reply.specs.declared.reply.Reply.TheVariants.{Values, Stored, Exists, NotFound, Number, Error, ClientError, ServerError, Version}
+use Rattle.hk_reply.specs.declared.reply.Reply.TheVariants.{Values, Stored, Exists, NotFound, NotStored, Deleted, Number, Error, ClientError, ServerError, Version}
 use Rattle.hk_reply.specs.Reading.{reply_at}
 use Rattle.hk_reply.specs.Texts.{text_of, values_text, value_text, head_text}
 use Rattle.hk_reply.specs.Replies.{IsPlainItem, untagged}
@@ -40,5 +40,7 @@ texts_tell (ServerError t) p = (tt, refl)
 texts_tell Stored p = (tt, refl)
 texts_tell Exists p = (tt, refl)
 texts_tell NotFound p = (tt, refl)
+texts_tell NotStored p = (tt, refl)
+texts_tell Deleted p = (tt, refl)
 texts_tell Error p = (tt, refl)
 texts_tell Version p = (tt, refl)

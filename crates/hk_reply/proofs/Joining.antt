@@ -8,7 +8,7 @@ use Rattle.hk_reply.specs.declared.scan.Stop.TheVariants.{Memory, Need, Bad}
 use Rattle.hk_reply.specs.declared.reply.ClientText.TheVariants as client
 use Rattle.hk_reply.specs.declared.reply.ServerText.TheVariants as server
 use Rattle.hk_reply.specs.declared.opening.Opening.{Opening}
-use Rattle.hk_reply.specs.declared.opening.Opening.TheVariants.{Value, End, Stored, Exists, NotFound, Error, Version, Client, Server}
+use Rattle.hk_reply.specs.declared.opening.Opening.TheVariants.{Value, End, Stored, Exists, NotFound, NotStored, Deleted, Error, Version, Client, Server}
 use Rattle.hk_reply.specs.Scans.{◌>>=◌, literal_at}
 use Rattle.hk_reply.specs.Openings.{opening_text, opening_in, opening_at, openings, or_others, lesser}
 use Rattle.hk_reply.specs.Stops.{Begins, StopsAt}
@@ -128,21 +128,23 @@ of_all P End h = h.1.0
 of_all P Stored h = h.1.1.0
 of_all P Exists h = h.1.1.1.0
 of_all P NotFound h = h.1.1.1.1.0
-of_all P Error h = h.1.1.1.1.1.0
-of_all P Version h = h.1.1.1.1.1.1.0
-of_all P (Client client.BadKey) h = h.1.1.1.1.1.1.1.0
-of_all P (Client client.BadNumber) h = h.1.1.1.1.1.1.1.1.0
-of_all P (Client client.BadChunk) h = h.1.1.1.1.1.1.1.1.1.0
-of_all P (Client client.NotNumber) h = h.1.1.1.1.1.1.1.1.1.1.0
-of_all P (Client client.TooLong) h = h.1.1.1.1.1.1.1.1.1.1.1.0
-of_all P (Server server.TooLarge) h = h.1.1.1.1.1.1.1.1.1.1.1.1.0
-of_all P (Server server.Expiry) h = h.1.1.1.1.1.1.1.1.1.1.1.1.1.0
-of_all P (Server server.Busy) h = h.1.1.1.1.1.1.1.1.1.1.1.1.1.1.0
-of_all P (Server server.Aborted) h = h.1.1.1.1.1.1.1.1.1.1.1.1.1.1.1.0
-of_all P (Server server.Unknown) h = h.1.1.1.1.1.1.1.1.1.1.1.1.1.1.1.1.0
-of_all P (Server server.Spent) h = h.1.1.1.1.1.1.1.1.1.1.1.1.1.1.1.1.1.0
-of_all P (Server server.VersionLimit) h = h.1.1.1.1.1.1.1.1.1.1.1.1.1.1.1.1.1.1.0
-of_all P (Server server.Memory) h = h.1.1.1.1.1.1.1.1.1.1.1.1.1.1.1.1.1.1.1.0
+of_all P NotStored h = h.1.1.1.1.1.0
+of_all P Deleted h = h.1.1.1.1.1.1.0
+of_all P Error h = h.1.1.1.1.1.1.1.0
+of_all P Version h = h.1.1.1.1.1.1.1.1.0
+of_all P (Client client.BadKey) h = h.1.1.1.1.1.1.1.1.1.0
+of_all P (Client client.BadNumber) h = h.1.1.1.1.1.1.1.1.1.1.0
+of_all P (Client client.BadChunk) h = h.1.1.1.1.1.1.1.1.1.1.1.0
+of_all P (Client client.NotNumber) h = h.1.1.1.1.1.1.1.1.1.1.1.1.0
+of_all P (Client client.TooLong) h = h.1.1.1.1.1.1.1.1.1.1.1.1.1.0
+of_all P (Server server.TooLarge) h = h.1.1.1.1.1.1.1.1.1.1.1.1.1.1.0
+of_all P (Server server.Expiry) h = h.1.1.1.1.1.1.1.1.1.1.1.1.1.1.1.0
+of_all P (Server server.Busy) h = h.1.1.1.1.1.1.1.1.1.1.1.1.1.1.1.1.0
+of_all P (Server server.Aborted) h = h.1.1.1.1.1.1.1.1.1.1.1.1.1.1.1.1.1.0
+of_all P (Server server.Unknown) h = h.1.1.1.1.1.1.1.1.1.1.1.1.1.1.1.1.1.1.0
+of_all P (Server server.Spent) h = h.1.1.1.1.1.1.1.1.1.1.1.1.1.1.1.1.1.1.1.0
+of_all P (Server server.VersionLimit) h = h.1.1.1.1.1.1.1.1.1.1.1.1.1.1.1.1.1.1.1.1.0
+of_all P (Server server.Memory) h = h.1.1.1.1.1.1.1.1.1.1.1.1.1.1.1.1.1.1.1.1.1.0
 
 opening_again : (o : Opening) (rest : List ℕ) → opening_at (opening_text o ++ rest) ≡ Ok (o, rest)
 unfolding opening_at
@@ -151,6 +153,8 @@ opening_again End rest = refl
 opening_again Stored rest = refl
 opening_again Exists rest = refl
 opening_again NotFound rest = refl
+opening_again NotStored rest = refl
+opening_again Deleted rest = refl
 opening_again Error rest = refl
 opening_again Version rest = refl
 opening_again (Client client.BadKey) rest = refl

@@ -53,6 +53,8 @@ Behind opening.End = IsNothing (reply.Values [] false)
 Behind opening.Stored = IsNothing reply.Stored
 Behind opening.Exists = IsNothing reply.Exists
 Behind opening.NotFound = IsNothing reply.NotFound
+Behind opening.NotStored = IsNothing reply.NotStored
+Behind opening.Deleted = IsNothing reply.Deleted
 Behind opening.Error = IsNothing reply.Error
 Behind opening.Version = IsNothing reply.Version
 Behind (opening.Client text) = IsNothing (reply.ClientError text)
@@ -65,6 +67,8 @@ behind_read opening.End = nothing (reply.Values [] false)
 behind_read opening.Stored = nothing reply.Stored
 behind_read opening.Exists = nothing reply.Exists
 behind_read opening.NotFound = nothing reply.NotFound
+behind_read opening.NotStored = nothing reply.NotStored
+behind_read opening.Deleted = nothing reply.Deleted
 behind_read opening.Error = nothing reply.Error
 behind_read opening.Version = nothing reply.Version
 behind_read (opening.Client text) = nothing (reply.ClientError text)
@@ -93,6 +97,8 @@ opening_letter opening.End = (_, _, refl, refl)
 opening_letter opening.Stored = (_, _, refl, refl)
 opening_letter opening.Exists = (_, _, refl, refl)
 opening_letter opening.NotFound = (_, _, refl, refl)
+opening_letter opening.NotStored = (_, _, refl, refl)
+opening_letter opening.Deleted = (_, _, refl, refl)
 opening_letter opening.Error = (_, _, refl, refl)
 opening_letter opening.Version = (_, _, refl, refl)
 opening_letter (opening.Client client.BadKey) = (_, _, refl, refl)
@@ -233,6 +239,8 @@ worded_told r text q = by_opening q.value r q.first q.second q.is_first q.is_sec
     by_opening opening.Stored r t u p q w = subst (λ z. IsText z text) q.0 (tt, w ∙ ap (λ z. z ++ u) p ∙ ap (λ z. opening_text opening.Stored ++ z) q.1)
     by_opening opening.Exists r t u p q w = subst (λ z. IsText z text) q.0 (tt, w ∙ ap (λ z. z ++ u) p ∙ ap (λ z. opening_text opening.Exists ++ z) q.1)
     by_opening opening.NotFound r t u p q w = subst (λ z. IsText z text) q.0 (tt, w ∙ ap (λ z. z ++ u) p ∙ ap (λ z. opening_text opening.NotFound ++ z) q.1)
+    by_opening opening.NotStored r t u p q w = subst (λ z. IsText z text) q.0 (tt, w ∙ ap (λ z. z ++ u) p ∙ ap (λ z. opening_text opening.NotStored ++ z) q.1)
+    by_opening opening.Deleted r t u p q w = subst (λ z. IsText z text) q.0 (tt, w ∙ ap (λ z. z ++ u) p ∙ ap (λ z. opening_text opening.Deleted ++ z) q.1)
     by_opening opening.Error r t u p q w = subst (λ z. IsText z text) q.0 (tt, w ∙ ap (λ z. z ++ u) p ∙ ap (λ z. opening_text opening.Error ++ z) q.1)
     by_opening opening.Version r t u p q w = subst (λ z. IsText z text) q.0 (tt, w ∙ ap (λ z. z ++ u) p ∙ ap (λ z. opening_text opening.Version ++ z) q.1)
     by_opening (opening.Client client.BadKey) r t u p q w = subst (λ z. IsText z text) q.0 (tt, w ∙ ap (λ z. z ++ u) p ∙ ap (λ z. opening_text (opening.Client client.BadKey) ++ z) q.1)
@@ -257,6 +265,8 @@ of_text (reply.Number n) text q = inl (record { value = (n, 13); first = decimal
 of_text reply.Stored text q = inr (record { value = opening.Stored; first = opening_text opening.Stored; second = []; is_first = refl; is_second = (refl, refl); whole = q.1 })
 of_text reply.Exists text q = inr (record { value = opening.Exists; first = opening_text opening.Exists; second = []; is_first = refl; is_second = (refl, refl); whole = q.1 })
 of_text reply.NotFound text q = inr (record { value = opening.NotFound; first = opening_text opening.NotFound; second = []; is_first = refl; is_second = (refl, refl); whole = q.1 })
+of_text reply.NotStored text q = inr (record { value = opening.NotStored; first = opening_text opening.NotStored; second = []; is_first = refl; is_second = (refl, refl); whole = q.1 })
+of_text reply.Deleted text q = inr (record { value = opening.Deleted; first = opening_text opening.Deleted; second = []; is_first = refl; is_second = (refl, refl); whole = q.1 })
 of_text reply.Error text q = inr (record { value = opening.Error; first = opening_text opening.Error; second = []; is_first = refl; is_second = (refl, refl); whole = q.1 })
 of_text reply.Version text q = inr (record { value = opening.Version; first = opening_text opening.Version; second = []; is_first = refl; is_second = (refl, refl); whole = q.1 })
 of_text (reply.ClientError client.BadKey) text q = inr (record { value = opening.Client client.BadKey; first = opening_text (opening.Client client.BadKey); second = []; is_first = refl; is_second = (refl, refl); whole = q.1 })

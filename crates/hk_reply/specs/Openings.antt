@@ -5,7 +5,7 @@ use Rattle.hk_reply.specs.declared.scan.Stop.TheVariants.{Memory, Need, Bad}
 use Rattle.hk_reply.specs.declared.reply.ClientText.TheVariants as client
 use Rattle.hk_reply.specs.declared.reply.ServerText.TheVariants as server
 use Rattle.hk_reply.specs.declared.opening.Opening.{Opening}
-use Rattle.hk_reply.specs.declared.opening.Opening.TheVariants.{Value, End, Stored, Exists, NotFound, Error, Version, Client, Server}
+use Rattle.hk_reply.specs.declared.opening.Opening.TheVariants.{Value, End, Stored, Exists, NotFound, NotStored, Deleted, Error, Version, Client, Server}
 use Rattle.hk_reply.specs.Texts.{client_text, server_text}
 use Rattle.hk_reply.specs.Scans.{literal_at}
 
@@ -15,6 +15,8 @@ opening_text End = codes "END\r\n"
 opening_text Stored = codes "STORED\r\n"
 opening_text Exists = codes "EXISTS\r\n"
 opening_text NotFound = codes "NOT_FOUND\r\n"
+opening_text NotStored = codes "NOT_STORED\r\n"
+opening_text Deleted = codes "DELETED\r\n"
 opening_text Error = codes "ERROR\r\n"
 opening_text Version = codes "VERSION hermes-1\r\n"
 opening_text (Client text) = client_text text
@@ -36,7 +38,7 @@ opening_in [] least bytes = Err (Bad least)
 opening_in (o ∷ os) least bytes = or_others o (literal_at (opening_text o) bytes) (λ left. opening_in os (lesser left least) bytes)
 
 abbrev pub openings : List Opening
-openings = Value ∷ End ∷ Stored ∷ Exists ∷ NotFound ∷ Error ∷ Version ∷ Client client.BadKey ∷ Client client.BadNumber ∷ Client client.BadChunk ∷ Client client.NotNumber ∷ Client client.TooLong ∷ Server server.TooLarge ∷ Server server.Expiry ∷ Server server.Busy ∷ Server server.Aborted ∷ Server server.Unknown ∷ Server server.Spent ∷ Server server.VersionLimit ∷ Server server.Memory ∷ []
+openings = Value ∷ End ∷ Stored ∷ Exists ∷ NotFound ∷ NotStored ∷ Deleted ∷ Error ∷ Version ∷ Client client.BadKey ∷ Client client.BadNumber ∷ Client client.BadChunk ∷ Client client.NotNumber ∷ Client client.TooLong ∷ Server server.TooLarge ∷ Server server.Expiry ∷ Server server.Busy ∷ Server server.Aborted ∷ Server server.Unknown ∷ Server server.Spent ∷ Server server.VersionLimit ∷ Server server.Memory ∷ []
 
 unfoldable pub opening_at : List ℕ → Result (Opening × List ℕ) Stop
 opening_at bytes = opening_in openings (length bytes + 1) bytes

@@ -1,15 +1,23 @@
 -- The text of a reply, as memcached's `protocol.txt` has it.
-use Rattle.std.specs.Prelude.{ℕ, List, [], ◌∷◌, ◌++◌, length, Bool, true, false, codes, decimal}
+use Rattle.std.specs.Prelude.{◌≡◌, ℕ, List, [], ◌∷◌, ◌++◌, length, take, Bool, true, false, codes, decimal}
 use Rattle.hk_reply.specs.declared.reply.Item.{Item}
 use Rattle.hk_reply.specs.declared.reply.Reply.{Reply}
-use Rattle.hk_reply.specs.declared.reply.Reply.TheVariants.{Values, Stored, Exists, NotFound, Number, Error, ClientError, ServerError, Version}
+use Rattle.hk_reply.specs.declared.reply.Reply.TheVariants.{Values, Stored, Exists, NotFound, NotStored, Deleted, Number, Error, ClientError, ServerError, Version}
 use Rattle.hk_reply.specs.declared.reply.ClientText.{ClientText}
 use Rattle.hk_reply.specs.declared.reply.ClientText.TheVariants as client
 use Rattle.hk_reply.specs.declared.reply.ServerText.{ServerText}
 use Rattle.hk_reply.specs.declared.reply.ServerText.TheVariants as server
 
+-- what was there stands at the front still
+abbrev pub IsKept : List ℕ → List ℕ → Type 0
+IsKept before after = take (length before) after ≡ before
+
+-- a number behind a space
+abbrev pub spaced_text : ℕ → List ℕ
+spaced_text n = codes " " ++ decimal n
+
 abbrev pub tag_text : Bool → ℕ → List ℕ
-tag_text true tag = codes " " ++ decimal tag
+tag_text true tag = spaced_text tag
 tag_text false tag = []
 
 -- the line before a value, with its tag where tags are wanted: VALUE, the key, the flags, the length
@@ -47,6 +55,8 @@ text_of (Values items tags) = values_text tags items ++ codes "END\r\n"
 text_of Stored = codes "STORED\r\n"
 text_of Exists = codes "EXISTS\r\n"
 text_of NotFound = codes "NOT_FOUND\r\n"
+text_of NotStored = codes "NOT_STORED\r\n"
+text_of Deleted = codes "DELETED\r\n"
 text_of (Number n) = decimal n ++ codes "\r\n"
 text_of Error = codes "ERROR\r\n"
 text_of (ClientError t) = client_text t

@@ -17,18 +17,22 @@ pub enum Opening {
     Stored,
     Exists,
     NotFound,
+    NotStored,
+    Deleted,
     Error,
     Version,
     Client(ClientText),
     Server(ServerText),
 }
 
-const OPENINGS: [Opening; 20] = [
+const OPENINGS: [Opening; 22] = [
     Opening::Value,
     Opening::End,
     Opening::Stored,
     Opening::Exists,
     Opening::NotFound,
+    Opening::NotStored,
+    Opening::Deleted,
     Opening::Error,
     Opening::Version,
     Opening::Client(ClientText::BadKey),
@@ -82,6 +86,8 @@ fn opening_text(opening: Opening) -> &'static [u8]
         Opening::Stored => b"STORED\r\n",
         Opening::Exists => b"EXISTS\r\n",
         Opening::NotFound => b"NOT_FOUND\r\n",
+        Opening::NotStored => b"NOT_STORED\r\n",
+        Opening::Deleted => b"DELETED\r\n",
         Opening::Error => b"ERROR\r\n",
         Opening::Version => b"VERSION hermes-1\r\n",
         Opening::Client(text) => client_text(text),

@@ -81,6 +81,8 @@ fn behind(alloc: Global, opening: Opening, bytes: &[u8]) -> Result<(Reply, &[u8]
         Opening::Stored => Ok((Reply::Stored, bytes)),
         Opening::Exists => Ok((Reply::Exists, bytes)),
         Opening::NotFound => Ok((Reply::NotFound, bytes)),
+        Opening::NotStored => Ok((Reply::NotStored, bytes)),
+        Opening::Deleted => Ok((Reply::Deleted, bytes)),
         Opening::Error => Ok((Reply::Error, bytes)),
         Opening::Version => Ok((Reply::Version, bytes)),
         Opening::Client(text) => Ok((Reply::ClientError(text), bytes)),

@@ -57,6 +57,8 @@ pub enum Reply {
     Stored,
     Exists,
     NotFound,
+    NotStored,
+    Deleted,
     /// What an incr or decr left.
     Number(u64),
     /// The line is no request.

@@ -1,18 +1,22 @@
 -- What a head and its block are together.
-use Rattle.std.specs.Prelude.{◌≡◌, ◌≢◌, ℕ, List, take, drop, Option, None, Some, codes, Result, Ok, Err}
+use Rattle.std.specs.Prelude.{◌≡◌, ◌≢◌, ℕ, List, take, drop, Option, unwrap_or, codes, Result, Ok, Err}
 use Rattle.hk_base.specs.declared.call.Op.{Op}
-use Rattle.hk_base.specs.declared.call.Op.TheVariants.{Write, Cas}
+use Rattle.hk_base.specs.declared.call.Op.TheVariants as op
 use Rattle.hk_base.specs.declared.call.Content.{Content}
 use Rattle.hk_request.specs.declared.request.Request.{Request}
 use Rattle.hk_request.specs.declared.request.Request.TheVariants.{Update}
+use Rattle.hk_request.specs.declared.request.Verb.{Verb}
+use Rattle.hk_request.specs.declared.request.Verb.TheVariants.{Set, Cas, Add, Replace}
 use Rattle.hk_request.specs.declared.request.StoreHead.{StoreHead}
 use Rattle.hk_request.specs.declared.request.BlockFault.{BlockFault}
 use Rattle.hk_request.specs.declared.request.BlockFault.TheVariants.{Memory, BadEnd}
 
--- a set, or a cas where there is a tag
-abbrev pub op_of : Option ℕ → Content → Op
-op_of None content = Write content
-op_of (Some tag) content = Cas tag content
+-- the operation of a store; a cas has a tag
+abbrev pub op_of : Verb → Option ℕ → Content → Op
+op_of Set tag content = op.Write content
+op_of Cas tag content = op.Cas (unwrap_or tag 0) content
+op_of Add tag content = op.Add content
+op_of Replace tag content = op.Replace content
 
 abbrev pub data_of : StoreHead → List ℕ → List ℕ
 data_of head block = take head.bytes block
@@ -22,7 +26,7 @@ end_of head block = drop head.bytes block
 
 -- the update of the block's data
 abbrev pub update_of : StoreHead → List ℕ → Request
-update_of head block = Update head.key (op_of head.tag (record { flags = head.flags; bytes = data_of head block })) head.noreply
+update_of head block = Update head.key (op_of head.verb head.tag (record { flags = head.flags; bytes = data_of head block })) head.noreply
 
 -- what finishing a head gives: its update exactly where the block ends as it must, else BadEnd
 abbrev pub IsBlockFault : BlockFault → StoreHead → List ℕ → Type 0

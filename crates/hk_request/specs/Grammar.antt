@@ -5,7 +5,7 @@ use Rattle.std.specs.Char.{is_ascii_digit}
 use Rattle.std.specs.Str.Parse.{digits_value}
 use Rattle.hk_base.specs.Key.{IsKey}
 use Rattle.hk_base.specs.declared.call.Op.{Op}
-use Rattle.hk_base.specs.declared.call.Op.TheVariants.{Incr, Decr}
+use Rattle.hk_base.specs.declared.call.Op.TheVariants.{Incr, Decr, Delete}
 use Rattle.hk_base.specs.declared.data.TheConstants.{MAX_DATA_LEN}
 use Rattle.hk_request.specs.declared.request.Request.{Request}
 use Rattle.hk_request.specs.declared.request.Request.TheVariants.{Get, Update, Quit, Version}
@@ -14,6 +14,7 @@ use Rattle.hk_request.specs.declared.request.Head.{Head}
 use Rattle.hk_request.specs.declared.request.Head.TheVariants.{Whole, Store}
 use Rattle.hk_request.specs.declared.request.RequestCause.TheVariants as cause
 use Rattle.hk_request.specs.declared.request.RequestFault.{RequestFault}
+use Rattle.hk_request.specs.Heads.{word_of, HasItsTag}
 
 -- 1 to 20 decimal digits of this value, at most the limit; there may be zeros in front
 pub record IsNumber (limit : ℕ) (word : List ℕ) (n : ℕ) : Type 0 where
@@ -45,11 +46,14 @@ pub record IsChange (command : List ℕ) (words : List (List ℕ)) (key : List �
   pub by_word : IsNumber large digits by
   pub last_words : IsNoreply last noreply
 
--- a set, KEY FLAGS EXPTIME BYTES [noreply], or a cas, KEY FLAGS EXPTIME BYTES TAG [noreply]
-abbrev pub command_with : Option ℕ → List ℕ
-command_with None = codes "set"
-command_with (Some tag) = codes "cas"
+-- a delete, KEY [noreply]
+pub record IsDeletion (words : List (List ℕ)) (key : List ℕ) (noreply : Bool) : Type 0 where
+  pub last : List (List ℕ)
+  pub spelling : words ≡ codes "delete" ∷ key ∷ last
+  pub key_word : IsKey key
+  pub last_words : IsNoreply last noreply
 
+-- a set, an add or a replace, KEY FLAGS EXPTIME BYTES [noreply], or a cas, KEY FLAGS EXPTIME BYTES TAG [noreply]
 abbrev pub IsTagged : Option ℕ → List (List ℕ) → Bool → Type 0
 IsTagged None words noreply = IsNoreply words noreply
 IsTagged (Some tag) [] noreply = ⊥
@@ -60,18 +64,20 @@ pub record IsStore (words : List (List ℕ)) (head : StoreHead) : Type 0 where
   pub expiry : List ℕ
   pub size : List ℕ
   pub others : List (List ℕ)
-  pub spelling : words ≡ command_with head.tag ∷ head.key ∷ flags ∷ expiry ∷ size ∷ others
+  pub spelling : words ≡ word_of head.verb ∷ head.key ∷ flags ∷ expiry ∷ size ∷ others
   pub key_word : IsKey head.key
   pub flags_word : IsNumber small flags head.flags
   pub expiry_word : IsNumber large expiry 0
   pub size_word : IsNumber small size head.bytes
   pub short : head.bytes ≤ MAX_DATA_LEN
+  pub its_tag : HasItsTag head
   pub other_words : IsTagged head.tag others head.noreply
 
 -- an update whose operation stands on its line
 abbrev pub IsUpdate : List (List ℕ) → List ℕ → Op → Bool → Type 0
 IsUpdate words key (Incr by) noreply = IsChange (codes "incr") words key by noreply
 IsUpdate words key (Decr by) noreply = IsChange (codes "decr") words key by noreply
+IsUpdate words key Delete noreply = IsDeletion words key noreply
 IsUpdate words key op noreply = ⊥
 
 abbrev pub IsWhole : List (List ℕ) → Request → Type 0

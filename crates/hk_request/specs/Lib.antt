@@ -1,5 +1,6 @@
 pub mod Words
 pub mod Commands
+pub mod Heads
 pub mod Fields
 pub mod Reading
 pub mod Grammar

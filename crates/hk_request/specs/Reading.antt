@@ -7,6 +7,8 @@ use Rattle.hk_request.specs.declared.command.Command.TheVariants as command
 use Rattle.hk_request.specs.declared.line.Change.{Change}
 use Rattle.hk_request.specs.declared.request.Request.{Request}
 use Rattle.hk_request.specs.declared.request.Request.TheVariants.{Get, Update, Quit, Version}
+use Rattle.hk_request.specs.declared.request.Verb.{Verb}
+use Rattle.hk_request.specs.declared.request.Verb.TheVariants as verb
 use Rattle.hk_request.specs.declared.request.Head.{Head}
 use Rattle.hk_request.specs.declared.request.Head.TheVariants.{Whole, Store}
 use Rattle.hk_request.specs.declared.request.RequestCause.{RequestCause}
@@ -17,23 +19,24 @@ use Rattle.hk_request.specs.Commands.{command_of, has_block}
 use Rattle.hk_request.specs.Fields.{◌>>=◌, key_of, number_at, expiry_of, size_of, tag_of, noreply_of}
 
 -- a store of the words behind its command, each tested before the next
-unfoldable pub store_of : List ℕ → List ℕ → List ℕ → List ℕ → Option (List ℕ) → Bool → Result Head RequestCause
-store_of k f e b t noreply = do
+unfoldable pub store_of : Verb → List ℕ → List ℕ → List ℕ → List ℕ → Option (List ℕ) → Bool → Result Head RequestCause
+store_of v k f e b t noreply = do
   key ← key_of k
   flags ← number_at 3 4294967295 f
   never ← expiry_of e
   size ← size_of b
   tag ← tag_of t
-  Ok (Store (record { key = key; flags = flags; tag = tag; bytes = size; noreply = noreply }))
+  Ok (Store (record { verb = v; key = key; flags = flags; tag = tag; bytes = size; noreply = noreply }))
 
-unfoldable pub set_of : List (List ℕ) → Result Head RequestCause
-set_of (k ∷ f ∷ e ∷ b ∷ []) = store_of k f e b None false
-set_of (k ∷ f ∷ e ∷ b ∷ last ∷ []) = noreply_of last >>= λ noreply. store_of k f e b None noreply
-set_of words = Err cause.WrongCount
+-- a store without a tag
+unfoldable pub untagged_of : Verb → List (List ℕ) → Result Head RequestCause
+untagged_of v (k ∷ f ∷ e ∷ b ∷ []) = store_of v k f e b None false
+untagged_of v (k ∷ f ∷ e ∷ b ∷ last ∷ []) = noreply_of last >>= λ noreply. store_of v k f e b None noreply
+untagged_of v words = Err cause.WrongCount
 
 unfoldable pub cas_of : List (List ℕ) → Result Head RequestCause
-cas_of (k ∷ f ∷ e ∷ b ∷ t ∷ []) = store_of k f e b (Some t) false
-cas_of (k ∷ f ∷ e ∷ b ∷ t ∷ last ∷ []) = noreply_of last >>= λ noreply. store_of k f e b (Some t) noreply
+cas_of (k ∷ f ∷ e ∷ b ∷ t ∷ []) = store_of verb.Cas k f e b (Some t) false
+cas_of (k ∷ f ∷ e ∷ b ∷ t ∷ last ∷ []) = noreply_of last >>= λ noreply. store_of verb.Cas k f e b (Some t) noreply
 cas_of words = Err cause.WrongCount
 
 -- what an incr or a decr tells
@@ -47,6 +50,15 @@ unfoldable pub change_of : List (List ℕ) → Result Change RequestCause
 change_of (k ∷ v ∷ []) = step_of k v false
 change_of (k ∷ v ∷ last ∷ []) = noreply_of last >>= λ noreply. step_of k v noreply
 change_of words = Err cause.WrongCount
+
+-- a delete of a key
+unfoldable pub deletion_of : List ℕ → Bool → Result Head RequestCause
+deletion_of k noreply = key_of k >>= λ key. Ok (Whole (Update key op.Delete noreply))
+
+unfoldable pub delete_of : List (List ℕ) → Result Head RequestCause
+delete_of (k ∷ []) = deletion_of k false
+delete_of (k ∷ last ∷ []) = noreply_of last >>= λ noreply. deletion_of k noreply
+delete_of words = Err cause.WrongCount
 
 -- the keys that words are
 abbrev pub keys_of : List (List ℕ) → Result (List (List ℕ)) RequestCause
@@ -65,10 +77,13 @@ alone_of (w ∷ ws) request = Err cause.WrongCount
 unfoldable pub asked_of : Command → List (List ℕ) → Result Head RequestCause
 asked_of command.Get words = get_of false words
 asked_of command.Gets words = get_of true words
-asked_of command.Set words = set_of words
+asked_of command.Set words = untagged_of verb.Set words
 asked_of command.Cas words = cas_of words
+asked_of command.Add words = untagged_of verb.Add words
+asked_of command.Replace words = untagged_of verb.Replace words
 asked_of command.Incr words = change_of words >>= λ c. Ok (Whole (Update c.key (op.Incr c.by) c.noreply))
 asked_of command.Decr words = change_of words >>= λ c. Ok (Whole (Update c.key (op.Decr c.by) c.noreply))
+asked_of command.Delete words = delete_of words
 asked_of command.Quit words = alone_of words Quit
 asked_of command.Version words = alone_of words Version
 

@@ -1,10 +1,11 @@
 //! The block behind the line of a store.
 
-ghost use Rattle.std.specs.Prelude.{◌≡◌, ◌+◌, ◌≤◌, length};
+ghost use Rattle.std.specs.Prelude.{◌≡◌, ◌+◌, ◌≤◌, length, is_some};
 ghost use Rattle.hk_base.specs.declared.data.TheConstants.{MAX_DATA_LEN};
-ghost use Rattle.hk_request.specs.Blocks.{IsFinished};
+ghost use Rattle.hk_request.specs.Blocks.{IsFinished, op_of};
+ghost use Rattle.hk_request.specs.Heads.{HasItsTag, is_cas};
 
-use crate::request::{BlockFault, Request, StoreHead};
+use crate::request::{BlockFault, Request, StoreHead, Verb};
 use crate::words::is;
 use hk_base::{Content, Data, Key, Op};
 use std::alloc::Global;
@@ -14,9 +15,11 @@ use std::alloc::Global;
 pub fn finish(alloc: Global, head: StoreHead, block: &[u8]) -> Result<Request, BlockFault>
     requires within { head.bytes ≤ MAX_DATA_LEN }
     requires whole { length block.now ≡ head.bytes + 2 }
+    requires its_tag { HasItsTag head }
     ensures { IsFinished result head block.now }
 {
     let StoreHead {
+        verb,
         key,
         flags,
         tag,
@@ -31,17 +34,25 @@ pub fn finish(alloc: Global, head: StoreHead, block: &[u8]) -> Result<Request, B
         Ok(bytes) => bytes,
         Err(_) => return Err(BlockFault::Memory),
     };
-    let content = Content { flags, bytes };
-    match tag {
-        None => Ok(Request::Update {
-            key,
-            op: Op::Write(content),
-            noreply,
-        }),
-        Some(tag) => Ok(Request::Update {
-            key,
-            op: Op::Cas { tag, content },
-            noreply,
-        }),
+    Ok(Request::Update {
+        key,
+        op: op_of(verb, tag, Content { flags, bytes }),
+        noreply,
+    })
+}
+
+// The operation of a store. A cas has a tag.
+fn op_of(verb: Verb, tag: Option<u64>, content: Content) -> Op
+    requires { is_some tag ≡ is_cas verb }
+    ensures { result ≡ op_of verb tag content }
+{
+    match verb {
+        Verb::Set => Op::Write(content),
+        Verb::Cas => match tag {
+            Some(tag) => Op::Cas { tag, content },
+            None => unreachable!(),
+        },
+        Verb::Add => Op::Add(content),
+        Verb::Replace => Op::Replace(content),
     }
 }

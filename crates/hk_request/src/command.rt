@@ -12,8 +12,11 @@ pub enum Command {
     Gets,
     Set,
     Cas,
+    Add,
+    Replace,
     Incr,
     Decr,
+    Delete,
     Quit,
     Version,
 }
@@ -35,11 +38,20 @@ pub fn find_command(word: &[u8]) -> Option<Command>
     if is(word, b"cas") {
         return Some(Command::Cas);
     }
+    if is(word, b"add") {
+        return Some(Command::Add);
+    }
+    if is(word, b"replace") {
+        return Some(Command::Replace);
+    }
     if is(word, b"incr") {
         return Some(Command::Incr);
     }
     if is(word, b"decr") {
         return Some(Command::Decr);
+    }
+    if is(word, b"delete") {
+        return Some(Command::Delete);
     }
     if is(word, b"quit") {
         return Some(Command::Quit);

@@ -8,9 +8,10 @@
 //! | Line | Words |
 //! |---|---|
 //! | `get` or `gets`, then one key or more | 2 or more |
-//! | `set KEY FLAGS EXPTIME BYTES [noreply]` | 5 or 6 |
+//! | `set`, `add` or `replace`, then `KEY FLAGS EXPTIME BYTES [noreply]` | 5 or 6 |
 //! | `cas KEY FLAGS EXPTIME BYTES TAG [noreply]` | 6 or 7 |
 //! | `incr KEY NUMBER [noreply]`, `decr KEY NUMBER [noreply]` | 3 or 4 |
+//! | `delete KEY [noreply]` | 2 or 3 |
 //! | `quit`, `version` | 1 |
 //!
 //! FLAGS and BYTES are numbers of 32 bits, TAG and NUMBER of 64, all of 1 to 20 decimal digits. BYTES is at most
@@ -27,4 +28,4 @@ mod words;
 
 pub use block::finish;
 pub use line::read_request;
-pub use request::{BlockFault, Head, Keys, Request, RequestCause, RequestFault, StoreHead};
+pub use request::{BlockFault, Head, Keys, Request, RequestCause, RequestFault, StoreHead, Verb};

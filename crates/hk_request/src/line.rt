@@ -5,14 +5,15 @@ ghost use Rattle.std.specs.Option.{option_map};
 ghost use Rattle.hk_request.specs.Fields.{Gives};
 ghost use Rattle.hk_request.specs.Words.{words_of};
 ghost use Rattle.hk_request.specs.Grammar.{IsHead, IsReadAs};
-ghost use Rattle.hk_request.specs.Reading.{ReadsHead, IsWithin, IsWithinHead, head_of, head_of_words, asked_of, keys_of, get_of, store_of, set_of, cas_of, change_of, step_of, alone_of, skip_of};
+ghost use Rattle.hk_request.specs.Heads.{HasItsTagIfStore};
+ghost use Rattle.hk_request.specs.Reading.{ReadsHead, IsWithin, IsWithinHead, head_of, head_of_words, asked_of, keys_of, get_of, store_of, untagged_of, cas_of, change_of, step_of, delete_of, deletion_of, alone_of, skip_of};
 
 use crate::command::{Command, find_command, has_block};
 use crate::fields::{
     number_at, read_expiry, read_flags, read_key, read_noreply, read_size, read_tag,
 };
 use crate::numbers::number;
-use crate::request::{Head, Keys, Request, RequestCause, RequestFault, StoreHead};
+use crate::request::{Head, Keys, Request, RequestCause, RequestFault, StoreHead, Verb};
 use crate::words::split;
 use hk_base::{Key, Op};
 use std::alloc::Global;
@@ -27,6 +28,7 @@ pub fn read_request(alloc: Global, line: &[u8]) -> Result<Head, RequestFault>
     // Which fault it is, and how much is to be skipped.
     ensures exact { ReadsHead result (head_of line.now) }
     ensures within { IsWithin result }
+    ensures its_tag { IfOk result HasItsTagIfStore }
 {
     read_line(alloc, line)
 }
@@ -91,8 +93,10 @@ fn read_asked(alloc: Global, command: Command, others: &[&[u8]]) -> Result<Head,
     match command {
         Command::Get => read_get(alloc, others, false),
         Command::Gets => read_get(alloc, others, true),
-        Command::Set => read_set(alloc, others),
+        Command::Set => read_untagged(alloc, Verb::Set, others),
         Command::Cas => read_cas(alloc, others),
+        Command::Add => read_untagged(alloc, Verb::Add, others),
+        Command::Replace => read_untagged(alloc, Verb::Replace, others),
         Command::Incr => {
             let change = read_change(alloc, others)?;
             Ok(update(change.key, Op::Incr(change.by), change.noreply))
@@ -101,6 +105,7 @@ fn read_asked(alloc: Global, command: Command, others: &[&[u8]]) -> Result<Head,
             let change = read_change(alloc, others)?;
             Ok(update(change.key, Op::Decr(change.by), change.noreply))
         }
+        Command::Delete => read_delete(alloc, others),
         Command::Quit => alone(others, Request::Quit),
         Command::Version => alone(others, Request::Version),
     }
@@ -148,16 +153,19 @@ fn read_keys(alloc: Global, others: &[&[u8]]) -> Result<Keys, RequestCause>
     Ok(keys)
 }
 
-#[tactic(auto, unfolding(crate::specs::Reading::set_of))]
-fn read_set(alloc: Global, others: &[&[u8]]) -> Result<Head, RequestCause>
-    ensures exact { Gives result (set_of (map (λ w. w.now) others.now)) }
+// A store without a tag.
+#[tactic(auto, unfolding(crate::specs::Reading::untagged_of))]
+fn read_untagged(alloc: Global, verb: Verb, others: &[&[u8]]) -> Result<Head, RequestCause>
+    ensures exact { Gives result (untagged_of verb (map (λ w. w.now) others.now)) }
     ensures within { IfOk result IsWithinHead }
 {
     match others {
-        [key, flags, expiry, bytes] => { read_store(alloc, key, flags, expiry, bytes, None, false) }
+        [key, flags, expiry, bytes] => {
+            read_store(alloc, verb, key, flags, expiry, bytes, None, false)
+        }
         [key, flags, expiry, bytes, last] => {
             let noreply = read_noreply(last)?;
-            read_store(alloc, key, flags, expiry, bytes, None, noreply)
+            read_store(alloc, verb, key, flags, expiry, bytes, None, noreply)
         }
         _ => Err(RequestCause::WrongCount),
     }
@@ -170,11 +178,29 @@ fn read_cas(alloc: Global, others: &[&[u8]]) -> Result<Head, RequestCause>
 {
     match others {
         [key, flags, expiry, bytes, tag] => {
-            read_store(alloc, key, flags, expiry, bytes, Some(tag), false)
+            read_store(
+                alloc,
+                Verb::Cas,
+                key,
+                flags,
+                expiry,
+                bytes,
+                Some(tag),
+                false,
+            )
         }
         [key, flags, expiry, bytes, tag, last] => {
             let noreply = read_noreply(last)?;
-            read_store(alloc, key, flags, expiry, bytes, Some(tag), noreply)
+            read_store(
+                alloc,
+                Verb::Cas,
+                key,
+                flags,
+                expiry,
+                bytes,
+                Some(tag),
+                noreply,
+            )
         }
         _ => Err(RequestCause::WrongCount),
     }
@@ -183,6 +209,7 @@ fn read_cas(alloc: Global, others: &[&[u8]]) -> Result<Head, RequestCause>
 #[tactic(auto, unfolding(crate::specs::Reading::store_of))]
 fn read_store(
     alloc: Global,
+    verb: Verb,
     key: &[u8],
     flags: &[u8],
     expiry: &[u8],
@@ -190,7 +217,7 @@ fn read_store(
     tag: Option<&[u8]>,
     noreply: bool,
 ) -> Result<Head, RequestCause>
-    ensures exact { Gives result (store_of key.now flags.now expiry.now bytes.now (option_map (λ w. w.now) tag.entry) noreply) }
+    ensures exact { Gives result (store_of verb key.now flags.now expiry.now bytes.now (option_map (λ w. w.now) tag.entry) noreply) }
     ensures within { IfOk result IsWithinHead }
 {
     let key = read_key(alloc, key)?;
@@ -199,6 +226,7 @@ fn read_store(
     let bytes = read_size(bytes)?;
     let tag = read_tag(tag)?;
     Ok(Head::Store(StoreHead {
+        verb,
         key,
         flags,
         tag,
@@ -236,4 +264,25 @@ fn read_step(alloc: Global, key: &[u8], by: &[u8], noreply: bool) -> Result<Chan
     let key = read_key(alloc, key)?;
     let by = number_at(3, u64::MAX, by)?;
     Ok(Change { key, by, noreply })
+}
+
+#[tactic(auto, unfolding(crate::specs::Reading::delete_of))]
+fn read_delete(alloc: Global, others: &[&[u8]]) -> Result<Head, RequestCause>
+    ensures exact { Gives result (delete_of (map (λ w. w.now) others.now)) }
+    ensures within { IfOk result IsWithinHead }
+{
+    match others {
+        [key] => read_deletion(alloc, key, false),
+        [key, last] => read_deletion(alloc, key, read_noreply(last)?),
+        _ => Err(RequestCause::WrongCount),
+    }
+}
+
+#[tactic(auto, unfolding(crate::specs::Reading::deletion_of))]
+fn read_deletion(alloc: Global, key: &[u8], noreply: bool) -> Result<Head, RequestCause>
+    ensures exact { Gives result (deletion_of key.now noreply) }
+    ensures within { IfOk result IsWithinHead }
+{
+    let key = read_key(alloc, key)?;
+    Ok(update(key, Op::Delete, noreply))
 }

@@ -16,11 +16,26 @@ pub enum Request {
     Version,
 }
 
-/// The line of a store, whose block is to come: a `cas` where it has a tag, else a `set`.
+/// The command of a store.
+#[derive(Clone, Copy, Debug, PartialEq, Eq)]
+pub enum Verb {
+    /// Writes the content.
+    Set,
+    /// Writes it where the key's tag is the one that is given.
+    Cas,
+    /// Writes it where the key holds nothing.
+    Add,
+    /// Writes it where the key holds something.
+    Replace,
+}
+
+/// The line of a store, whose block is to come.
 #[derive(Drop)]
 pub struct StoreHead {
+    pub verb: Verb,
     pub key: Key,
     pub flags: u32,
+    /// The tag of a `cas`. No other store has one.
     pub tag: Option<u64>,
     /// How long the data is, at most 1,048,576 bytes. The block has two more, which end it.
     pub bytes: u32,
