@@ -1,4 +1,4 @@
--- When a node's lease ends.
+-- When a node's lease ends, by the ends that managers granted it. All are times on the node's clock.
 use Rattle.std.specs.Prelude.{ℕ, ◌*◌, ◌<◌, ◌≤◌, List, [], ◌∷◌, length, Bool, max, nat_le, nat_lt, if◌then◌else◌}
 use Rattle.std.specs.List.{count_by}
 

@@ -1,4 +1,4 @@
--- The greatest end that was granted to each node: nodes and ends, in rising order of the nodes.
+-- The greatest until that was noted for each node: nodes and untils, in rising order of the nodes.
 use Rattle.std.specs.Prelude.{ℕ, List, unwrap_or, max}
 use Rattle.std.specs.declared.cmp.Ordering.{Ordering}
 use Rattle.std.specs.Ordering.{nat_cmp}
@@ -9,10 +9,10 @@ use Rattle.hk_base.specs.declared.stamp.NodeId.{NodeId}
 abbrev pub by_number : NodeId → NodeId → Ordering
 by_number a b = nat_cmp a.0 b.0
 
--- the end of a node, 0 where it was granted nothing
-abbrev pub end_of : List (NodeId × ℕ) → NodeId → ℕ
-end_of grants node = unwrap_or (lookup (is_at (by_number node)) grants) 0
+-- the until of a node, 0 where none was noted
+abbrev pub until_of : List (NodeId × ℕ) → NodeId → ℕ
+until_of grants node = unwrap_or (lookup (is_at (by_number node)) grants) 0
 
--- the node was granted the end too
+-- the until is noted too
 abbrev pub with_grant : List (NodeId × ℕ) → NodeId → ℕ → List (NodeId × ℕ)
-with_grant grants node end = insert_entry by_number grants node (max (end_of grants node) end)
+with_grant grants node until = insert_entry by_number grants node (max (until_of grants node) until)

@@ -1,4 +1,4 @@
 pub mod Ends
 pub mod Grants
 pub mod Past
-pub mod Run
+pub mod Wait

@@ -1,4 +1,4 @@
--- Whether what was granted outside a view is past.
+-- Whether what was noted outside a view is past.
 use Rattle.std.specs.Prelude.{◌≡◌, ◌⊎◌, ◌<◌, ◌≤◌, ℕ, List, [], ◌∷◌, Option, None, Some, Bool, false, nat_le, ◌==◌, ◌&&◌, not, Result, Ok, Err}
 use Rattle.std.specs.List.{list_any, find, AllByRecursion}
 use Rattle.hk_base.specs.declared.stamp.NodeId.{NodeId}
@@ -8,7 +8,7 @@ use Rattle.hk_lease.specs.declared.grants.NotPast.{NotPast}
 abbrev pub is_member : View → NodeId → Bool
 is_member view node = list_any (λ member. member.0 == node.0) view.members
 
--- the end is not below now, and its node is outside the view
+-- the until is not below now, and its node is outside the view
 abbrev pub may_run : View → ℕ → NodeId × ℕ → Bool
 may_run view now grant = nat_le now grant.1 && not (is_member view grant.0)
 
@@ -16,7 +16,7 @@ may_run view now grant = nat_le now grant.1 && not (is_member view grant.0)
 abbrev pub first_running : List (NodeId × ℕ) → View → ℕ → Option (NodeId × ℕ)
 first_running grants view now = find (may_run view now) grants
 
--- Ok where none may run; else the first
+-- Ok where none may run; else the first, told with its until
 abbrev pub past_or : Option (NodeId × ℕ) → Result Unit NotPast
 past_or None = Ok tt
 past_or (Some grant) = Err (record { node = grant.0; end = grant.1 })
@@ -29,7 +29,7 @@ abbrev pub Among : {X : Type 0} → List X → X → Type 0
 Among [] x = ⊥
 Among (y ∷ ys) x = (x ≡ y) ⊎ Among ys x
 
--- Ok exactly where every end that was granted outside the view is below now. Else a node outside whose end is not, and no
+-- Ok exactly where every until that was noted outside the view is below now. Else a node outside whose until is not, and no
 -- lower node is one.
 abbrev pub IsAllPast : Result Unit NotPast → List (NodeId × ℕ) → View → ℕ → Type 0
 IsAllPast (Ok _) grants view now = AllByRecursion (λ grant. is_member view grant.0 ≡ false → grant.1 < now) grants

@@ -5,5 +5,5 @@ use Rattle.hk_lease.proofs.grants.Grants.grant.Goals as goal
 
 pub returns-clause-others : goal.returns-clause-others
 returns-clause-others c = λ other apart.
-    let same : c.insert.new.self.entries ≡ with_grant c.args.self.now c.args.node c.args.end = search rules in
-    rw same (granted_other c.args.self.now c.args.node c.args.end other apart)
+    let same : c.insert.new.self.entries ≡ with_grant c.args.self.now c.args.node c.args.until = search rules in
+    rw same (granted_other c.args.self.now c.args.node c.args.until other apart)
