@@ -3,3 +3,4 @@ pub mod Quorums
 pub mod Parts
 pub mod Events
 pub mod Runs
+mod Worked

@@ -1,2 +1,3 @@
 pub mod Paxos
 pub mod Run
+pub mod Worked

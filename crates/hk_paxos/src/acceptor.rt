@@ -21,8 +21,8 @@ pub struct Acceptor {
     accepted: Option<Voted>,
 }
 
-// An equal vote.
-fn copy_of_vote(alloc: Global, voted: &Option<Voted>) -> Result<Option<Voted>, Memory>
+/// An equal vote, if there is one.
+pub(crate) fn copy_of_vote(alloc: Global, voted: &Option<Voted>) -> Result<Option<Voted>, Memory>
     ensures { IfOk result (λ copy. copy ≡ voted.now) }
 {
     match voted {
@@ -47,6 +47,20 @@ fn is_refused(promised: Option<Ballot>, ballot: Ballot) -> bool
     }
 }
 
+impl Promise {
+    /// A promise at the ballot that tells an equal vote, if there is one.
+    pub fn telling(
+        alloc: Global,
+        ballot: Ballot,
+        accepted: &Option<Voted>,
+    ) -> Result<Promise, Memory>
+        ensures { IfOk result (λ promise. promise ≡ record { ballot = ballot; accepted = accepted.now }) }
+    {
+        let accepted = copy_of_vote(alloc, accepted)?;
+        Ok(Promise { ballot, accepted })
+    }
+}
+
 impl Acceptor {
     /// An acceptor that promised and accepted nothing.
     pub fn new() -> Acceptor
@@ -56,6 +70,17 @@ impl Acceptor {
             promised: None,
             accepted: None,
         }
+    }
+
+    /// An equal acceptor.
+    pub fn copy(&self, alloc: Global) -> Result<Acceptor, Memory>
+        ensures { IfOk result (λ copy. copy ≡ self.now) }
+    {
+        let accepted = copy_of_vote(alloc, &self.accepted)?;
+        Ok(Acceptor {
+            promised: self.promised,
+            accepted,
+        })
     }
 
     /// Phase 1b: promises a ballot that is not below the one promised before. None exactly where it is below.

@@ -1,8 +1,15 @@
 //! The law of Paxos.
 
 ghost use Rattle.hk_paxos.specs.Run.{Agreement};
+ghost use Rattle.hk_paxos.specs.Worked.{Overtaken};
 
 /// Over every run of one instance: two chosen views are equal, and a view that a proposer reports is chosen.
 pub fn agreement()
     ensures { Agreement }
+{}
+
+/// A run that is worked by hand: two managers propose, the second overtakes the first and learns of its view, which is
+/// chosen.
+pub fn worked_run()
+    ensures { Overtaken }
 {}

@@ -3,7 +3,7 @@
 ghost use Rattle.std.specs.Prelude.{◌≡◌, ◌+◌, length, Some, None, if◌then◌else◌, IfOk, OnOk, OnErr};
 ghost use Rattle.hk_paxos.specs.Paxos.{is_majority, is_higher, value_or, value_of, counts_promise, counts_acceptance, proposer_new, proposer_on_promise, proposer_on_accepted};
 
-use crate::acceptor::Promise;
+use crate::acceptor::{Promise, copy_of_vote};
 use hk_base::{Ballot, Memory, Sequence, View, Voted};
 use std::alloc::Global;
 
@@ -73,6 +73,25 @@ impl Proposer {
             managers,
             promised: Sequence::from_vec(promised),
             highest: None,
+            accepted: Sequence::from_vec(accepted),
+        })
+    }
+
+    /// An equal proposer.
+    pub fn copy(&self, alloc: Global) -> Result<Proposer, Memory>
+        ensures { IfOk result (λ copy. copy ≡ self.now) }
+    {
+        let own = self.own.copy(alloc)?;
+        let highest = copy_of_vote(alloc, &self.highest)?;
+        let promised = self.promised.as_slice().to_vec(alloc)?;
+        let accepted = self.accepted.as_slice().to_vec(alloc)?;
+        Ok(Proposer {
+            epoch: self.epoch,
+            ballot: self.ballot,
+            own,
+            managers: self.managers,
+            promised: Sequence::from_vec(promised),
+            highest,
             accepted: Sequence::from_vec(accepted),
         })
     }
