@@ -1,5 +1,5 @@
 -- Where lines end, by the places of line feeds.
-use Rattle.std.proofs.Common.{◌≡◌, ◌≢◌, ℕ, zero, suc, ◌+◌, ◌-◌, ◌<◌, ◌≤◌, List, [], ◌∷◌, length, drop, get_or, Bool, true, false, Option, Some, None, refl, ap, ◌∙◌, sym, arith}
+use Rattle.std.proofs.Common.{◌≡◌, ◌≢◌, ℕ, zero, suc, ◌+◌, ◌-◌, ◌<◌, ◌≤◌, List, [], ◌∷◌, length, take, drop, get_or, Bool, true, false, Option, Some, None, refl, ap, ◌∙◌, sym, arith}
 use Rattle.std.specs.Prelude.{◌==◌, ◌&&◌, if◌then◌else◌}
 use Rattle.std.specs.Option.{option_map}
 use Rattle.std.proofs.lemmas.Bool.Decides.{nat_tests}
@@ -116,3 +116,29 @@ end_within (b ∷ bs) n h = within_at ((b == 13) && begins_with_feed bs) (line_e
     within_at true o bs e h f n k = let z : 0 ≡ n = cc in let l : 1 ≤ length bs = f refl in grind (arith, z, l)
     within_at false None bs e h f n k = absurd (cc)
     within_at false (Some m) bs e h f n k = let z : 1 + m ≡ n = cc in let l : m + 2 ≤ length bs = h m e in grind (arith, z, l)
+
+-- a byte that is searched with another behind it
+passes_within : (b c : ℕ) (cs front : List ℕ) → line_end (b ∷ c ∷ front) ≡ None → (line_end (b ∷ c ∷ cs) ≡ shifted 1 (line_end (c ∷ cs))) × (line_end (c ∷ front) ≡ None)
+passes_within b c cs front h = at ((b == 13) && (c == 10)) (line_end (c ∷ front)) refl h
+  where
+    at : (t : Bool) (o : Option ℕ) → ((b == 13) && (c == 10)) ≡ t → (if t then Some 0 else option_map (λ n. 1 + n) o) ≡ None → ((if t then Some 0 else option_map (λ n. 1 + n) (line_end (c ∷ cs))) ≡ shifted 1 (line_end (c ∷ cs))) × (o ≡ None)
+    at true o e h = absurd (cc)
+    at false None e h = (refl, refl)
+    at false (Some m) e h = absurd (cc)
+
+-- where no line ends in the first bytes, the search may begin at the last of them
+pub searched_on : (k : ℕ) (xs : List ℕ) → line_end (take k xs) ≡ None → line_end xs ≡ shifted (k - 1) (line_end (drop (k - 1) xs))
+searched_on zero xs h = sym (shifted_none (line_end xs))
+searched_on (suc zero) xs h = sym (shifted_none (line_end xs))
+searched_on (suc (suc k)) [] h = let e : suc (suc k) - 1 ≡ suc k = omega arith in rw e refl
+searched_on (suc (suc k)) (b ∷ []) h = let e : suc (suc k) - 1 ≡ suc k = omega arith in rw e (passes b [] (λ e z. absurd (cc)) ∙ none_left k)
+  where
+    none_left : (k : ℕ) → shifted 1 (line_end []) ≡ shifted (suc k) (line_end (drop k []))
+    none_left zero = refl
+    none_left (suc k) = refl
+searched_on (suc (suc k)) (b ∷ c ∷ cs) h =
+    let p = passes_within b c cs (take k cs) h in
+    let e : suc (suc k) - 1 ≡ suc k = omega arith in
+    let d : suc k - 1 ≡ k = omega arith in
+    let on : line_end (c ∷ cs) ≡ shifted k (line_end (drop k (c ∷ cs))) = rw d at (searched_on (suc k) (c ∷ cs) p.1) in
+    rw e (p.0 ∙ ap (shifted 1) on ∙ shifted_twice 1 k (line_end (drop k (c ∷ cs))) ∙ ap (λ n. shifted n (line_end (drop k (c ∷ cs)))) (omega arith))

@@ -26,14 +26,28 @@ pub record Cutting : Type 0 where
   pub block : Option ℕ
   -- the line or block that was given last; nothing where the last step gave none
   pub given : List ℕ
+  -- what stands in the room behind the unread bytes
+  pub room : List ℕ
 
 -- while bytes are to be dropped, nothing is unread
 abbrev pub IsCutting : Cutting → Type 0
 IsCutting c = 0 < c.dropping → c.unread ≡ []
 
--- a piece comes
+-- a piece comes, and no room is left
 abbrev pub fed : Cutting → List ℕ → Cutting
-fed c piece = record c { unread = c.unread ++ drop c.dropping piece; dropping = c.dropping - length piece; given = [] }
+fed c piece = record c { unread = c.unread ++ drop c.dropping piece; dropping = c.dropping - length piece; given = []; room = [] }
+
+-- some room is made, whatever stands in it
+abbrev pub with_room : Cutting → List ℕ → Cutting
+with_room c room = record c { given = []; room = room }
+
+-- bytes are written to the front of the room, which stays as long as it is
+abbrev pub written : Cutting → List ℕ → Cutting
+written c bytes = record c { room = take (length c.room) (bytes ++ drop (length bytes) c.room) }
+
+-- the first bytes of the room come as a piece, and what is behind them is the room
+abbrev pub filled : Cutting → ℕ → Cutting
+filled c count = record (fed c (take count c.room)) { room = drop count c.room }
 
 -- the next bytes are dropped, as many as are there at once and the others as they come
 abbrev pub skipped : Cutting → ℕ → Cutting

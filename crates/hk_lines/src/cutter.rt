@@ -1,7 +1,9 @@
 //! The cutter.
 
+ghost use Rattle.std.specs.Borrow.{sem};
 ghost use Rattle.std.specs.Prelude.{◌≡◌, ◌≢◌, ◌+◌, ◌<◌, ◌≤◌, ◌^◌, [], length, take, drop, nat_le, None, OnOk, OnErr, IfOk, IfSome};
-ghost use Rattle.hk_lines.specs.Cut.{line_end, fed, skipped, expecting, stepped, line_step, block_step, giving};
+ghost use Rattle.hk_lines.specs.Cut.{line_end, fed, with_room, filled, skipped, expecting, stepped, line_step, block_step, giving};
+ghost use Rattle.hk_lines.specs.Lending.{LendsRoom};
 
 use crate::ends::line_end;
 use crate::step::Step;
@@ -11,11 +13,17 @@ use std::marker::Model;
 
 /// Holds the bytes that came and were not given yet, in one buffer, and knows what is due of them: a line, or a block
 /// of a count that was told. No line is longer than the limit.
+///
+/// Bytes come by `feed`, which copies them, or are written into the cutter's own room: `make_room`, then `room` lends
+/// it, then `filled`.
 #[derive(Drop)]
 pub struct Cutter {
     bytes: Vec<u8>,
-    // where the unread bytes begin
+    // the unread bytes are those from here to `end`; behind them is the room
     start: usize,
+    end: usize,
+    // no line ends in so many of the unread bytes
+    searched: usize,
     // how many of the bytes to come are dropped
     dropping: u64,
     limit: usize,
@@ -27,24 +35,27 @@ pub struct Cutter {
 }
 
 impl Model for Cutter {
-    ghost use Rattle.std.specs.Prelude.{◌≡◌, ◌<◌, ◌≤◌, drop, length, slice_range};
-    ghost use Rattle.hk_lines.specs.Cut.{Cutting, IsCutting};
+    ghost use Rattle.std.specs.Prelude.{◌≡◌, ◌+◌, ◌<◌, ◌≤◌, drop, take, length, slice_range};
+    ghost use Rattle.hk_lines.specs.Cut.{Cutting};
+    ghost use Rattle.hk_lines.specs.Searched.{IsSearched};
 
     ghost Value = { Cutting };
 
-    ghost view = { λ c. record { unread = drop c.start c.bytes.items; dropping = c.dropping; limit = c.limit; block = c.block; given = slice_range c.bytes.items c.from c.to } };
+    ghost view = { λ c. record { unread = drop c.start (take c.end c.bytes.items); dropping = c.dropping; limit = c.limit; block = c.block; given = slice_range (take c.end c.bytes.items) c.from c.to; room = drop c.end c.bytes.items } };
 
-    ghost invariant = { λ c. (c.start ≤ length c.bytes.items) × (0 < c.dropping → c.start ≡ length c.bytes.items) × (c.from ≤ c.to) × (c.to ≤ c.start) };
+    ghost invariant = { λ c. (c.start ≤ c.end) × (c.end ≤ length c.bytes.items) × (0 < c.dropping → c.start ≡ c.end) × (c.from ≤ c.to) × (c.to ≤ c.start) × IsSearched c.searched c.limit (drop c.start (take c.end c.bytes.items)) };
 }
 
 impl Cutter {
     /// Nothing came yet, and a line is due, of at most `limit` bytes.
     pub fn new(alloc: Global, limit: usize) -> Result<Cutter, Memory>
-        ensures { IfOk result (λ c. c ≡ record { unread = []; dropping = 0; limit = limit; block = None; given = [] }) }
+        ensures { IfOk result (λ c. c ≡ record { unread = []; dropping = 0; limit = limit; block = None; given = []; room = [] }) }
     {
         Ok(Cutter {
             bytes: Vec::new(alloc),
             start: 0,
+            end: 0,
+            searched: 0,
             dropping: 0,
             limit,
             block: None,
@@ -53,28 +64,70 @@ impl Cutter {
         })
     }
 
-    /// The piece comes behind what is there. After an `Err` all is as it was, but that `given` is empty.
+    /// The piece comes behind what is there. After an `Err` all is as it was, but that `given` and the room are empty.
     ///
     /// Each byte is copied into the buffer once, and moved within it at most once on average.
     pub fn feed(&mut self, piece: &[u8]) -> Result<(), Memory>
         ensures ok { OnOk result (self.new ≡ fed self.old piece.now) }
-        ensures err { OnErr result (self.new ≡ record self.old { given = [] }) }
+        ensures err { OnErr result (self.new ≡ with_room self.old []) }
     {
         self.compact();
+        self.bytes.truncate(self.end);
         let kept = kept_of(piece, self.dropping);
         self.bytes.extend_from_slice(kept)?;
+        self.end = self.bytes.len();
         self.dropping = self.dropping.saturating_sub(piece.len() as u64);
         Ok(())
     }
 
-    // Once more than half of the buffer was given, what is left moves to its front. So less is moved than was given.
-    fn compact(&mut self)
-        ensures { self.new ≡ record self.old { given = [] } }
+    /// Makes room for at least `count` bytes, so that they can be read into the cutter with nothing between. After an
+    /// `Err` there may be less room. `given` is empty afterwards.
+    pub fn make_room(&mut self, count: usize) -> Result<(), Memory>
+        requires { count < 2 ^ 63 }
+        ensures same { self.new ≡ with_room self.old self.new.room }
+        ensures enough { OnOk result (count ≤ length self.new.room) }
+    {
+        self.compact();
+        let needed = self.end + count;
+        if self.bytes.len() < needed {
+            self.bytes.resize(needed, 0)?;
+        }
+        Ok(())
+    }
+
+    /// Lends the room. What is written to its front comes with `filled`.
+    pub fn room(&mut self) -> &mut [u8]
+        ensures* writes { sem 𝓛 (LendsRoom self.entry result) }
+        ensures room { result.now ≡ self.old.room }
+    {
+        self.bytes.slice_mut(self.end..)
+    }
+
+    /// The first `count` bytes of the room come, as a piece does that is fed. It takes no memory.
+    pub fn filled(&mut self, count: usize)
+        requires { count ≤ length self.old.room }
+        ensures { self.new ≡ filled self.old count }
     {
         self.from = 0;
         self.to = 0;
-        if self.start > self.bytes.len() / 2 {
+        let dropped = self.dropping.min(count as u64);
+        self.end += count;
+        self.start += dropped as usize;
+        self.dropping -= dropped;
+    }
+
+    // Once more than half of what is held was given, what is left moves to the front. So less is moved than was given.
+    fn compact(&mut self)
+        ensures { self.new ≡ with_room self.old self.new.room }
+    {
+        self.from = 0;
+        self.to = 0;
+        if self.start == self.end {
+            self.start = 0;
+            self.end = 0;
+        } else if self.start > self.end / 2 {
             self.bytes.drain(..self.start);
+            self.end -= self.start;
             self.start = 0;
         }
     }
@@ -92,11 +145,12 @@ impl Cutter {
         requires { self.old.dropping + count < 2 ^ 64 }
         ensures { self.new ≡ skipped self.old count }
     {
-        let unread = (self.bytes.len() - self.start) as u64;
+        self.searched = 0;
+        let unread = (self.end - self.start) as u64;
         if count <= unread {
             self.start += count as usize;
         } else {
-            self.start = self.bytes.len();
+            self.start = self.end;
             self.dropping += count - unread;
         }
     }
@@ -141,7 +195,7 @@ impl Cutter {
         ensures step { result ≡ (block_step self.old count).step }
         ensures rest { self.new ≡ (block_step self.old count).rest }
     {
-        if self.bytes.len() - self.start < count + 2 {
+        if self.end - self.start < count + 2 {
             self.give_nothing();
             return Step::Need;
         }
@@ -149,22 +203,35 @@ impl Cutter {
         Step::Block
     }
 
-    // Where the line ends, if it does within the limit.
-    fn ends(&self) -> Option<usize>
-        ensures end { result ≡ line_end (take (self.now.limit + 2) self.now.unread) }
-        ensures within { IfSome result (λ n. n + 2 ≤ length self.now.unread) }
+    // Where the line ends, if it does within the limit. What was searched before is not searched again.
+    fn ends(&mut self) -> Option<usize>
+        ensures same { self.new ≡ self.old }
+        ensures end { result ≡ line_end (take (self.old.limit + 2) self.old.unread) }
+        ensures within { IfSome result (λ n. n + 2 ≤ length self.old.unread) }
         ensures fits { IfSome result (λ n. n + 2 < 2 ^ 64) }
     {
-        let (_, unread) = self.bytes.split_at(self.start);
+        let end = line_end(self.window(), self.searched);
+        if end.is_none() {
+            self.searched = self.window().len();
+        }
+        end
+    }
+
+    // The bytes in which a line that is due must end.
+    fn window(&self) -> &[u8]
+        ensures { result.now ≡ take (self.now.limit + 2) self.now.unread }
+    {
+        let (held, _) = self.bytes.split_at(self.end);
+        let (_, unread) = held.split_at(self.start);
         let (window, _) = unread.split_at(unread.len().min(self.limit.saturating_add(2)));
-        line_end(window)
+        window
     }
 
     // Whether so many bytes are there that a line of the limit's length would have ended.
     fn is_long(&self) -> bool
         ensures { result ≡ nat_le (self.now.limit + 2) (length self.now.unread) }
     {
-        let held = self.bytes.len() - self.start;
+        let held = self.end - self.start;
         held >= self.limit && held - self.limit >= 2
     }
 
@@ -177,6 +244,7 @@ impl Cutter {
         self.from = self.start;
         self.to = self.start + count;
         self.start += gone;
+        self.searched = 0;
         self.block = None;
     }
 
@@ -187,11 +255,12 @@ impl Cutter {
         self.to = 0;
     }
 
-    /// The bytes of the line or block that the last step gave, until the next call of `feed` or `next`.
+    /// The bytes of the line or block that the last step gave, until the next call of `next`, or until bytes come.
     pub fn given(&self) -> &[u8]
         ensures { result.now ≡ self.now.given }
     {
-        &self.bytes[self.from..self.to]
+        let (held, _) = self.bytes.split_at(self.end);
+        &held[self.from..self.to]
     }
 }
 

@@ -1,7 +1,12 @@
 use Rattle.std.proofs.Common.{rules, arith, ◌≡◌, ℕ, suc, ◌+◌, ◌-◌, ◌≤◌, length, sym, ◌≢◌, get_or}
-use Rattle.hk_lines.proofs.Feeds.{turn_none, turn_found, turn_passed}
+use Rattle.hk_lines.proofs.Feeds.{turn_none, turn_found, turn_passed, searched_on}
 use Rattle.hk_lines.proofs.ends.line_end.Goals as goal
 use Rattle.hk_lines.proofs.ends.line_end.Goals.{else-feed-gt0-via-then-feed-gt0+else-rest-feed-eq13, else-feed-gt0-via-else-feed-gt0}
+
+pub loop-feed-init : goal.loop-feed-init
+loop-feed-init c =
+    let at : c.saturating_sub-at.result ≡ c.args.searched - 1 = search rules in
+    rw at (grind (arith, c.requires.there), searched_on c.args.searched c.args.bytes.now c.requires.none)
 
 pub returns-in_default-clause-end : goal.returns-in_default-clause-end
 returns-in_default-clause-end c = sym (turn_none c.args.bytes.now c.split_at.result.1.now c.loop-feed.at (search rules) c.loop-feed.invariant.1 (search rules))

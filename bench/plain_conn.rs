@@ -1,0 +1,145 @@
+// A plain loop that serves the bytes of standard input as one connection, over a map, and writes the replies to
+// standard output. It proves nothing, and knows only the requests that `plain_conn gen KIND REQUESTS` writes: small gets
+// (`get`), sets with 100 bytes of data (`set`), both (`mixed`), and gets of ten keys (`tens`). Before them come sets of
+// every key.
+use std::collections::BTreeMap;
+use std::io::{Read, Write};
+use std::sync::Arc;
+
+const KEYS: u64 = 10_000;
+
+fn generate(kind: &str, requests: u64) {
+    let mut out = std::io::BufWriter::new(std::io::stdout().lock());
+    let data = [b'd'; 100];
+    let mut state = 1u64;
+    let mut draw = move || {
+        state = state.wrapping_mul(6364136223846793005).wrapping_add(1442695040888963407);
+        state >> 33
+    };
+    let set = |out: &mut dyn Write, key: u64| {
+        write!(out, "set key:{key} 0 0 100\r\n").unwrap();
+        out.write_all(&data).unwrap();
+        out.write_all(b"\r\n").unwrap();
+    };
+    for key in 0..KEYS {
+        set(&mut out, key);
+    }
+    for _ in 0..requests {
+        let key = draw() % KEYS;
+        match kind {
+            "set" => set(&mut out, key),
+            "mixed" if draw() % 2 == 0 => set(&mut out, key),
+            "tens" => {
+                write!(out, "get").unwrap();
+                for _ in 0..10 {
+                    write!(out, " key:{}", draw() % KEYS).unwrap();
+                }
+                write!(out, "\r\n").unwrap();
+            }
+            _ => write!(out, "get key:{key}\r\n").unwrap(),
+        }
+    }
+}
+
+struct Content {
+    flags: u32,
+    bytes: Arc<[u8]>,
+}
+
+struct Head {
+    key: Vec<u8>,
+    flags: u32,
+    bytes: usize,
+}
+
+fn number(word: &[u8]) -> Option<u64> {
+    if word.is_empty() || word.len() > 20 || !word.iter().all(u8::is_ascii_digit) {
+        return None;
+    }
+    std::str::from_utf8(word).ok()?.parse().ok()
+}
+
+fn is_key(word: &[u8]) -> bool {
+    (1..=250).contains(&word.len()) && word.iter().all(|b| *b >= 0x21 && *b != 0x7f)
+}
+
+fn line_end(bytes: &[u8]) -> Option<usize> {
+    let mut at = 0;
+    loop {
+        let feed = at + bytes[at..].iter().position(|b| *b == b'\n')?;
+        if feed > 0 && bytes[feed - 1] == b'\r' {
+            return Some(feed - 1);
+        }
+        at = feed + 1;
+    }
+}
+
+fn get(map: &BTreeMap<Vec<u8>, Content>, keys: &[&[u8]], replies: &mut Vec<u8>) {
+    for key in keys {
+        if let Some(content) = map.get(*key) {
+            replies.extend_from_slice(b"VALUE ");
+            replies.extend_from_slice(key);
+            write!(replies, " {} {}\r\n", content.flags, content.bytes.len()).unwrap();
+            replies.extend_from_slice(&content.bytes);
+            replies.extend_from_slice(b"\r\n");
+        }
+    }
+    replies.extend_from_slice(b"END\r\n");
+}
+
+fn main() {
+    let words: Vec<String> = std::env::args().collect();
+    if words.len() == 4 && words[1] == "gen" {
+        return generate(&words[2], words[3].parse().unwrap());
+    }
+    let mut input = Vec::new();
+    std::io::stdin().lock().read_to_end(&mut input).unwrap();
+    let mut source = input.as_slice();
+    let mut written: Vec<u8> = Vec::new();
+    let mut piece = [0u8; 16_384];
+    let mut buffer: Vec<u8> = Vec::new();
+    let mut start = 0;
+    let mut store: Option<Head> = None;
+    let mut map: BTreeMap<Vec<u8>, Content> = BTreeMap::new();
+    let mut replies: Vec<u8> = Vec::new();
+    loop {
+        let count = source.read(&mut piece).unwrap();
+        if count == 0 {
+            break;
+        }
+        if start * 2 > buffer.len() {
+            buffer.drain(..start);
+            start = 0;
+        }
+        buffer.extend_from_slice(&piece[..count]);
+        replies.clear();
+        loop {
+            if let Some(head) = store.take() {
+                if buffer.len() - start < head.bytes + 2 {
+                    store = Some(head);
+                    break;
+                }
+                let data = &buffer[start..start + head.bytes];
+                map.insert(head.key, Content { flags: head.flags, bytes: Arc::from(data) });
+                start += head.bytes + 2;
+                replies.extend_from_slice(b"STORED\r\n");
+                continue;
+            }
+            let Some(end) = line_end(&buffer[start..]) else { break };
+            let line = &buffer[start..start + end];
+            start += end + 2;
+            let words: Vec<&[u8]> = line.split(|b| *b == b' ').filter(|word| !word.is_empty()).collect();
+            match words.as_slice() {
+                [b"get", keys @ ..] if !keys.is_empty() && keys.iter().all(|key| is_key(key)) => get(&map, keys, &mut replies),
+                [b"set", key, flags, expiry, bytes] if is_key(key) && number(expiry) == Some(0) => {
+                    if let (Some(flags), Some(bytes)) = (number(flags), number(bytes)) {
+                        store = Some(Head { key: key.to_vec(), flags: flags as u32, bytes: bytes as usize });
+                    }
+                }
+                _ => replies.extend_from_slice(b"ERROR\r\n"),
+            }
+        }
+        written.extend_from_slice(&replies);
+    }
+    std::io::stdout().lock().write_all(&written).unwrap();
+}

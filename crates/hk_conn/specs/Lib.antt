@@ -1,0 +1,11 @@
+pub mod Said
+pub mod Heard
+pub mod Served
+pub mod Asking
+pub mod Ends
+pub mod Turns
+pub mod Pieces
+pub mod Answering
+pub mod Serving
+pub mod Responding
+pub mod Moments

@@ -1,0 +1,148 @@
+//! Reads what a client says, in whatever pieces it comes.
+
+ghost use Rattle.std.specs.Prelude.{◌≡◌, ◌+◌, ◌≤◌, ◌<◌, ◌^◌, [], length, None, Some, Ok, IfOk, OnOk, OnErr};
+ghost use Rattle.hk_outside.specs.Causes.{Rose};
+ghost use Rattle.hk_request.specs.Heads.{HasItsTag};
+ghost use Rattle.hk_request.specs.Reading.{head_of};
+ghost use Rattle.hk_conn.specs.Said.{said_block};
+ghost use Rattle.hk_conn.specs.Turns.{IsReader, Turns, LineTurns};
+ghost use Rattle.hk_conn.specs.Pieces.{Pieces};
+
+use crate::ends::ConnEnd;
+use crate::said::{Said, Turn};
+use crate::stream::read_some;
+use hk_base::Memory;
+use hk_lines::{Cutter, Step};
+use hk_outside::{Connection, Sink, Source};
+use hk_request::{BlockFault, Head, Request, RequestCause, StoreHead, finish, read_request};
+use std::alloc::Global;
+
+// The longest line, without the two bytes that end it.
+const LINE_LIMIT: usize = 65_536;
+
+// How much room there is at least for what is read.
+const PIECE: usize = 16_384;
+
+/// The unread bytes of a client, and the head of the store whose block is due.
+#[derive(Drop)]
+pub struct Reader {
+    pub cutter: Cutter,
+    pub pending: Option<StoreHead>,
+}
+
+impl Reader {
+    pub fn new(alloc: Global) -> Result<Reader, Memory>
+        ensures reader { IfOk result (λ r. IsReader r.cutter r.pending) }
+        ensures empty { IfOk result (λ r. (r.cutter ≡ record { unread = []; dropping = 0; limit = LINE_LIMIT; block = None; given = []; room = [] }) × (r.pending ≡ None)) }
+    {
+        Ok(Reader {
+            cutter: Cutter::new(alloc, LINE_LIMIT)?,
+            pending: None,
+        })
+    }
+
+    /// Reads some bytes, straight into the cutter. None is the end.
+    pub fn read<C: Connection>(&mut self, conn: &mut C) -> Result<usize, ConnEnd>
+        requires { IsReader self.old.cutter self.old.pending }
+        ensures reader { IsReader self.new.cutter self.new.pending }
+        ensures pending { self.new.pending ≡ self.old.pending }
+        ensures pieces { Pieces result (C.left conn.old) (C.left conn.new) self.old.cutter self.new.cutter }
+        ensures later { C.Source.faults conn.old ≤ C.Source.faults conn.new }
+        ensures failed { OnErr result (result ≡ Err ConnEnd.ReadFault → Rose (C.Source.faults conn.old) (C.Source.faults conn.new)) }
+        ensures held { C.held conn.new ≡ C.held conn.old }
+        ensures writes { C.Sink.faults conn.new ≡ C.Sink.faults conn.old }
+    {
+        if self.cutter.make_room(PIECE).is_err() {
+            return Err(ConnEnd::Memory);
+        }
+        let count = match read_some(conn, self.cutter.room()) {
+            Ok(count) => count,
+            Err(_) => return Err(ConnEnd::ReadFault),
+        };
+        self.cutter.filled(count);
+        Ok(count)
+    }
+
+    /// The next that was said, if all of it is there.
+    pub fn turn(&mut self, alloc: Global) -> Result<Turn, Memory>
+        requires { IsReader self.old.cutter self.old.pending }
+        ensures reader { OnOk result (IsReader self.new.cutter self.new.pending) }
+        ensures turns { IfOk result (λ t. Turns t self.old.pending self.old.cutter self.new.pending self.new.cutter) }
+    {
+        match self.pending.take() {
+            None => self.line_turn(alloc),
+            Some(head) => self.block_turn(alloc, head),
+        }
+    }
+
+    fn line_turn(&mut self, alloc: Global) -> Result<Turn, Memory>
+        requires reader { IsReader self.old.cutter None }
+        requires pending { self.old.pending ≡ None }
+        ensures reader { OnOk result (IsReader self.new.cutter self.new.pending) }
+        ensures turns { IfOk result (λ t. Turns t None self.old.cutter self.new.pending self.new.cutter) }
+    {
+        match self.cutter.next() {
+            Step::Line => self.line(alloc),
+            Step::TooLong => Ok(Turn::Says(Said::LongLine)),
+            Step::Need => Ok(Turn::Need),
+            Step::Block => Ok(Turn::Need),
+        }
+    }
+
+    fn line(&mut self, alloc: Global) -> Result<Turn, Memory>
+        requires reader { IsReader self.old.cutter None }
+        requires free { self.old.cutter.dropping < 2 ^ 63 }
+        requires pending { self.old.pending ≡ None }
+        ensures reader { OnOk result (IsReader self.new.cutter self.new.pending) }
+        ensures turns { IfOk result (λ t. LineTurns t (head_of self.old.cutter.given) self.old.cutter self.new.pending self.new.cutter) }
+    {
+        match read_request(alloc, self.cutter.given()) {
+            Ok(Head::Whole(Request::Quit)) => Ok(Turn::Says(Said::Left)),
+            Ok(Head::Whole(request)) => Ok(Turn::Says(Said::Asked(request))),
+            Ok(Head::Store(head)) => {
+                self.cutter.expect_block(head.bytes);
+                self.pending = Some(head);
+                Ok(Turn::Head)
+            }
+            Err(fault) => match fault.cause {
+                RequestCause::Memory => Err(Memory),
+                _ => {
+                    self.cutter.skip(fault.skip);
+                    Ok(Turn::Says(Said::Refused(fault.cause)))
+                }
+            },
+        }
+    }
+
+    fn block_turn(&mut self, alloc: Global, head: StoreHead) -> Result<Turn, Memory>
+        requires reader { IsReader self.old.cutter (Some head) }
+        requires pending { self.old.pending ≡ None }
+        ensures reader { OnOk result (IsReader self.new.cutter self.new.pending) }
+        ensures turns { IfOk result (λ t. Turns t (Some head) self.old.cutter self.new.pending self.new.cutter) }
+    {
+        match self.cutter.next() {
+            Step::Block => {
+                let said = self.block(alloc, head)?;
+                Ok(Turn::Says(said))
+            }
+            _ => {
+                self.pending = Some(head);
+                Ok(Turn::Need)
+            }
+        }
+    }
+
+    fn block(&self, alloc: Global, head: StoreHead) -> Result<Said, Memory>
+        requires small { head.bytes ≤ 1048576 }
+        requires whole { length self.now.cutter.given ≡ head.bytes + 2 }
+        requires its_tag { HasItsTag head }
+        ensures { IfOk result (λ s. s ≡ said_block head self.now.cutter.given) }
+    {
+        let noreply = head.noreply;
+        match finish(alloc, head, self.cutter.given()) {
+            Ok(request) => Ok(Said::Asked(request)),
+            Err(BlockFault::BadEnd) => Ok(Said::BadEnd { noreply }),
+            Err(BlockFault::Memory) => Err(Memory),
+        }
+    }
+}
