@@ -13,16 +13,17 @@ use Rattle.hk_key.specs.declared.row.Row.{Row}
 use Rattle.hk_key.specs.Sound.{IsSound, IsOther}
 use Rattle.hk_key.specs.Same.{is_same_row}
 use Rattle.hk_key.specs.Answered.{GoesOnOrIsAnswered, HadWaiting}
-use Rattle.hk_base.specs.Range.{IsWithin}
+use Rattle.hk_base.specs.Range.{IsWithin, Leaves}
 use Rattle.hk_base.specs.Stamp.{tag_of}
 use Rattle.hk_key.specs.Table.{first_row, unnoted, still, begin, replay, on_inv, on_ack, on_val, on_view, on_copy, resend}
 
 abbrev pub FirstIsSound : Type 0
 FirstIsSound = (me : NodeId) (members : List NodeId) → IsSound me members first_row
 
+-- an update begins above `0.0`
 abbrev pub BeginIsSound : Type 0
 BeginIsSound = (me : NodeId) (members : List NodeId) (reply : Reply) (s : Stamp) (kind : Kind) (content : Option Content) →
-    IsWithin s → IsSound me members (begin me members reply s kind content).row
+    IsWithin s → 0 < tag_of s → Leaves kind content → IsSound me members (begin me members reply s kind content).row
 
 abbrev pub ReplayKeepsSound : Type 0
 ReplayKeepsSound = (me : NodeId) (members : List NodeId) (row : Row) →
@@ -30,7 +31,7 @@ ReplayKeepsSound = (me : NodeId) (members : List NodeId) (row : Row) →
 
 abbrev pub InvKeepsSound : Type 0
 InvKeepsSound = (me : NodeId) (members : List NodeId) (row : Row) (from : NodeId) (s : Stamp) (kind : Kind) (content : Option Content) →
-    IsWithin s → IsSound me members row → IsSound me members (on_inv row from s kind content).row
+    IsWithin s → Leaves kind content → IsSound me members row → IsSound me members (on_inv row from s kind content).row
 
 abbrev pub AckKeepsSound : Type 0
 AckKeepsSound = (me : NodeId) (members : List NodeId) (row : Row) (from : NodeId) (s top : Stamp) →
@@ -47,7 +48,7 @@ ViewKeepsSound = (me : NodeId) (old members : List NodeId) (row : Row) →
 
 abbrev pub CopyKeepsSound : Type 0
 CopyKeepsSound = (me : NodeId) (members : List NodeId) (row : Row) (item : CopyItem) →
-    IsWithin item.stamp → IsSound me members row → IsSound me members (on_copy row item)
+    IsWithin item.stamp → Leaves item.kind item.content → IsSound me members row → IsSound me members (on_copy row item)
 
 -- A row is the same as itself: where two are not the same, they differ.
 abbrev pub EachIsSame : Type 0

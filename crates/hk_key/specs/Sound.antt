@@ -1,5 +1,5 @@
 -- What every row of a node keeps: which states have a pending update, which of those have a call, stamps within limits,
--- and notes of distinct other members of the node's view.
+-- what an update may leave, and notes of distinct other members of the node's view.
 use Rattle.std.specs.Prelude.{◌≡◌, ◌≢◌, ℕ, ◌<◌, List, map, Option, Some, None, IfSome, nat_eq, true, ⊤}
 use Rattle.std.specs.Option.{IsSome}
 use Rattle.std.specs.List.{IsDistinct, AllByRecursion, list_any}
@@ -10,10 +10,11 @@ use Rattle.hk_base.specs.declared.call.State.{State}
 use Rattle.hk_base.specs.declared.call.State.TheVariants.{Valid, Invalid, Write, Replay, Trans}
 use Rattle.hk_base.specs.Stamp.{tag_of}
 use Rattle.hk_base.specs.View.{member_numbers}
-use Rattle.hk_base.specs.Range.{IsWithin}
+use Rattle.hk_base.specs.Range.{IsWithin, Leaves}
 use Rattle.hk_key.specs.declared.acks.Ack.{Ack}
 use Rattle.hk_key.specs.declared.row.Pending.{Pending}
 use Rattle.hk_key.specs.declared.row.Row.{Row}
+use Rattle.hk_key.specs.Table.{first_row}
 
 -- which states have a pending update, and how its stamp stands to the row's
 abbrev pub Holds : State → Option Pending → Stamp → Type 0
@@ -48,12 +49,21 @@ pub record AreNotes (me : NodeId) (members : List NodeId) (acks : List Ack) : Ty
   pub distinct : IsDistinct nat_eq (note_numbers acks)
   pub others : AllByRecursion (λ ack. IsOther me members ack.node) acks
 
+-- A row holds what its update left, which is nothing only after a read-modify-write. At `0.0` no update has touched it:
+-- it is the first row.
+pub record IsLeft (row : Row) : Type 0 where
+  pub untouched : tag_of row.stamp ≡ 0 → row ≡ first_row
+  pub leaves : 0 < tag_of row.stamp → Leaves row.kind row.content
+
 pub record IsUpdate (me : NodeId) (members : List NodeId) (p : Pending) : Type 0 where
   pub within : IsWithin p.stamp
+  pub above : 0 < tag_of p.stamp
+  pub leaves : Leaves p.kind p.content
   pub notes : AreNotes me members p.acks
 
 pub record IsSound (me : NodeId) (members : List NodeId) (row : Row) : Type 0 where
   pub within : IsWithin row.stamp
   pub holds : Holds row.state row.pending row.stamp
   pub waits : Waits row.state row.pending
+  pub left : IsLeft row
   pub update : IfSome row.pending (λ p. IsUpdate me members p)

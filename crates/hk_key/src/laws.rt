@@ -1,6 +1,6 @@
 //! What the table keeps.
 
-ghost use Rattle.hk_key.specs.Worked.{NotSettled, Settles, WaitsInTrans, GivesUp, Counters, AloneCompletes};
+ghost use Rattle.hk_key.specs.Worked.{NotSettled, Settles, WaitsInTrans, GivesUp, Counters, AloneCompletes, CopiesNothing};
 ghost use Rattle.hk_key.specs.Laws.{FirstIsSound, BeginIsSound, ReplayKeepsSound, InvKeepsSound, AckKeepsSound, ValKeepsSound, ViewKeepsSound, CopyKeepsSound};
 ghost use Rattle.hk_key.specs.Laws.{EachIsSame, SameAfterInv, SameAfterAck, SameAfterVal, SameAfterView, SameAfterCopy, SameAfterReplay, ResendKeepsRow, ReplayChanges, BeginChanges};
 ghost use Rattle.hk_key.specs.Laws.{BeginTakesStamp, ReplayNeverLowers, InvNeverLowers, AckNeverLowers, ValNeverLowers, ViewNeverLowers, CopyNeverLowers, ResendNeverLowers};
@@ -10,7 +10,8 @@ ghost use Rattle.hk_key.specs.Laws.{InvAnswersWaiting, AckAnswersWaiting, ViewAn
 /// Rows stay sound: the first row is sound, `begin` makes a sound row, and every other step keeps one sound. A row is
 /// sound where its version is within the limit, where it has a pending update in just the states Write, Replay and Trans,
 /// with its own stamp in the first two and a lower one in Trans, where that update is a call's in Write and Trans, in
-/// Trans a plain write, and in Replay no call's, and where the notes are of distinct other members.
+/// Trans a plain write, and in Replay no call's, where the row at `0.0` is the first one, and what any other row or a
+/// pending update leaves is nothing only with kind Rmw, and where the notes are of distinct other members.
 pub fn rows_stay_sound()
     ensures first { FirstIsSound }
     ensures begin { BeginIsSound }
@@ -77,8 +78,9 @@ pub fn answers_were_waited_for()
 {}
 
 /// What the table gives for steps worked by hand: a key becomes Valid only where every acknowledgement was exact; a write
-/// that an INV overtakes waits in Trans, a read-modify-write is answered Aborted, and one below the row is countered; and
-/// an update completes at once in a view where its node is alone.
+/// that an INV overtakes waits in Trans, a read-modify-write is answered Aborted, and one below the row is countered;
+/// an update completes at once in a view where its node is alone; and a joiner that copies a row which holds nothing has its
+/// stamp, above which its own updates begin.
 pub fn worked_rows()
     ensures higher { NotSettled }
     ensures exact { Settles }
@@ -86,4 +88,5 @@ pub fn worked_rows()
     ensures aborted { GivesUp }
     ensures countered { Counters }
     ensures alone { AloneCompletes }
+    ensures gone { CopiesNothing }
 {}

@@ -19,6 +19,7 @@ pub struct Pending {
     pub reply: Option<Reply>,
     pub stamp: Stamp,
     pub kind: Kind,
+    /// What it leaves. Only a read-modify-write leaves nothing.
     pub content: Option<Content>,
     /// Who acknowledged it in this epoch.
     pub acks: Acks,
@@ -32,7 +33,7 @@ pub struct Row {
     pub stamp: Stamp,
     /// The kind of that update.
     pub kind: Kind,
-    /// What it left.
+    /// What it left. A row holds nothing at `0.0`, or where a read-modify-write took the content away.
     pub content: Option<Content>,
     /// Whether VAL of the row's stamp came while the row was in Trans.
     pub kept_val: bool,
@@ -60,7 +61,7 @@ fn nothing() -> Out
 
 impl Row {
     ghost use Rattle.hk_base.specs.View.{IsView};
-    ghost use Rattle.hk_base.specs.Range.{IsWithin};
+    ghost use Rattle.hk_base.specs.Range.{IsWithin, Leaves};
     ghost use Rattle.hk_key.specs.Notes.{note_in, all_exact, all_noted};
     ghost use Rattle.hk_key.specs.Sound.{IsSound, IsOther};
     ghost use Rattle.hk_key.specs.Table.{first_row, still, completed, started, begin, replay, displaced, given_up, on_inv, on_ack, on_val, on_view, on_copy, resend};
@@ -142,7 +143,8 @@ impl Row {
     }
 
     /// Begins an update at its coordinator, `me`: its row is Valid and takes the new stamp, and INV goes to all others of
-    /// the view. The reply is kept until the update completes, which it does at once where there are no others.
+    /// the view. The reply is kept until the update completes, which it does at once where there are no others. Only a
+    /// read-modify-write may leave no content.
     pub fn begin(
         &mut self,
         alloc: Global,
@@ -156,6 +158,7 @@ impl Row {
         requires valid { self.old.state ≡ of_state.Valid }
         requires sound { IsSound me view.now.members self.old }
         requires within { IsWithin stamp }
+        requires leaves { Leaves kind content }
         ensures row { OnOk result (self.new ≡ (begin me view.now.members reply stamp kind content).row) }
         ensures out { IfOk result (λ out. out ≡ (begin me view.now.members reply stamp kind content).out) }
         ensures err { OnErr result (self.new ≡ self.old) }
@@ -237,7 +240,8 @@ impl Row {
 
     /// Takes an INV of the node `from`. A stamp above the row's is taken and acknowledged; a plain write of this node that
     /// waits goes on in Trans, and a read-modify-write is answered Aborted. Of a lower stamp a write is acknowledged with
-    /// the row's own stamp as top, and a read-modify-write is countered by INV of the row.
+    /// the row's own stamp as top, and a read-modify-write is countered by INV of the row. Only a read-modify-write may leave
+    /// no content.
     pub fn on_inv(
         &mut self,
         from: NodeId,
@@ -247,6 +251,7 @@ impl Row {
     ) -> Out
         requires row { IsWithin self.old.stamp }
         requires within { IsWithin stamp }
+        requires leaves { Leaves kind content }
         ensures row { self.new ≡ (on_inv self.old from stamp kind content).row }
         ensures out { result ≡ (on_inv self.old from stamp kind content).out }
     {

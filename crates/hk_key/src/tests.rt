@@ -1,5 +1,6 @@
-ghost use Rattle.std.specs.Prelude.{IfOk};
+ghost use Rattle.std.specs.Prelude.{◌<◌, IfOk};
 ghost use Rattle.hk_base.specs.Range.{IsWithin};
+ghost use Rattle.hk_base.specs.Stamp.{tag_of};
 ghost use Rattle.hk_key.specs.Sound.{IsSound};
 
 use super::*;
@@ -91,7 +92,8 @@ fn replays_an_invalid_row(rt: HostRuntime) -> Result<(), Fail> {
 
 #[tactic(auto, using(crate::proofs::Steps::begin_is_sound))]
 fn begun(alloc: Global, view: &View, stamp: Stamp) -> Result<Row, Memory>
-    requires { IsWithin stamp }
+    requires within { IsWithin stamp }
+    requires above { 0 < tag_of stamp }
     ensures { IfOk result (λ row. IsSound (record { 0 = 0 }) view.now.members row) }
 {
     let reply = Reply {

@@ -18,3 +18,4 @@ pub mod Printing
 pub mod Tags
 pub mod Worked
 pub mod Plays
+pub mod Leaving

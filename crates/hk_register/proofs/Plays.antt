@@ -4,7 +4,7 @@ use Rattle.std.specs.Prelude.{take}
 use Rattle.std.proofs.lemmas.Bool.{false≢true}
 use Rattle.hk_register.specs.Machine.{In, State}
 use Rattle.hk_register.specs.Runs.{start, played, Plays}
-use Rattle.hk_register.specs.Worked.{five, nine, exactly, with_more, two, three, shrinking, growing, settled_rule, two_increments, aborted_in_effect, val_kept_in_trans, joiner, SettledRule, TwoIncrements, AbortedInEffect, ValKeptInTrans, Joiner}
+use Rattle.hk_register.specs.Worked.{five, nine, exactly, with_more, two, three, shrinking, growing, settled_rule, two_increments, aborted_in_effect, val_kept_in_trans, joiner, deleted_and_added, SettledRule, TwoIncrements, AbortedInEffect, ValKeptInTrans, Joiner, DeletedAndAdded}
 use Rattle.hk_register.proofs.Worked.{blind, not_plain, fresh, leased, noted, noted_after, inexact, all_exact}
 
 -- node 2 stays, and node 0
@@ -241,3 +241,54 @@ joiner_plays = (
 
 pub joiner_worked : Joiner
 joiner_worked = record { plays = joiner_plays; seen = refl; printed = refl }
+
+pub deleted_and_added_plays : Plays two (start two) deleted_and_added
+deleted_and_added_plays = (
+  (refl, refl, leased two (at 0) 0 refl, omega arith, refl, refl, refl, λ _. blind five, record { changed = refl; register = refl; answer = refl; answered = refl }, fresh (at 0) 1 refl),
+  (
+    (inl refl, omega arith, omega arith, refl),
+    (
+      (inl refl, refl, inr (inl refl), noted_after ([]) 1 131072 131072 true (λ _. refl)),
+      (
+        (refl, noted two 1 0 (exactly 1 ∷ []) refl, refl, all_exact (exactly 1 ∷ []) refl),
+        (
+          (refl, refl, leased two (at 4) 0 refl, omega arith, refl, refl, refl, λ e. not_plain e, record { changed = refl; register = refl; answer = refl; answered = refl }, fresh (at 4) 2 refl),
+          (
+            (inl refl, omega arith, omega arith, refl),
+            (
+              (inl refl, refl, inr (inl refl), noted_after ([]) 1 196608 196608 true (λ _. refl)),
+              (
+                (refl, noted two 1 0 (exactly 1 ∷ []) refl, refl, all_exact (exactly 1 ∷ []) refl),
+                (
+                  (inl refl, refl),
+                  (
+                    (refl, refl, leased two (at 9) 1 refl, λ _. refl, fresh (at 9) 3 refl, refl),
+                    (
+                      (refl, refl, leased two (at 10) 1 refl, omega arith, refl, refl, refl, λ e. not_plain e, record { changed = refl; register = refl; answer = refl; answered = refl }, fresh (at 10) 4 refl),
+                      (
+                        (inl refl, omega arith, omega arith, refl),
+                        (
+                          (inl refl, refl, inl refl, noted_after ([]) 0 262145 262145 true (λ _. refl)),
+                          (
+                            (refl, noted two 1 1 (exactly 0 ∷ []) refl, refl, all_exact (exactly 0 ∷ []) refl),
+                            tt,
+                          ),
+                        ),
+                      ),
+                    ),
+                  ),
+                ),
+              ),
+            ),
+          ),
+        ),
+      ),
+    ),
+  ),
+)
+  where
+    at : ℕ → State
+    at k = played (start two) (take k deleted_and_added)
+
+pub deleted_and_added_worked : DeletedAndAdded
+deleted_and_added_worked = (record { plays = deleted_and_added_plays; seen = refl; printed = refl }, refl, refl)

@@ -2,6 +2,7 @@
 use Rattle.std.specs.Prelude.{◌≡◌, ℕ, Option, Some, None, List, ◌<◌, ◌≤◌}
 use Rattle.hk_base.specs.declared.stamp.Kind.TheVariants.{Rmw}
 use Rattle.hk_base.specs.declared.call.Answer.{Answer}
+use Rattle.hk_base.specs.Range.{Leaves}
 use Rattle.hk_register.specs.Machine.{In, Update, State}
 use Rattle.hk_register.specs.Machine.Phase.{Valid}
 use Rattle.hk_register.specs.Machine.Item.{Answered}
@@ -50,6 +51,10 @@ abbrev pub NothingBetween : Type 0
 NothingBetween =
     (V : ℕ → List ℕ) (st : State) → Reached V st → (r : Update) → In st.begun r → r.kind ≡ Rmw → Complete V st r.stamp →
     (u : Update) → In st.begun u → Complete V st u.stamp → r.base < u.stamp → u.stamp < r.stamp → ⊥
+
+-- an update that leaves nothing is a read-modify-write
+abbrev pub OnlyRmwLeavesNothing : Type 0
+OnlyRmwLeavesNothing = (V : ℕ → List ℕ) (st : State) → Reached V st → (u : Update) → In st.begun u → Leaves u.kind u.content
 
 -- the node at which an effect serves a call, if it does
 abbrev pub served_at : Effect → Option ℕ

@@ -4,7 +4,7 @@ use Rattle.hk_base.specs.declared.call.Content.{Content}
 use Rattle.hk_base.specs.declared.call.Op.{Op}
 use Rattle.hk_base.specs.declared.call.Op.TheVariants as op
 use Rattle.hk_base.specs.declared.call.Answer.{Answer}
-use Rattle.hk_base.specs.declared.call.Answer.TheVariants.{Found, Stored, Number, Busy, Aborted}
+use Rattle.hk_base.specs.declared.call.Answer.TheVariants.{Found, Missing, Stored, Deleted, Number, Busy, Aborted}
 use Rattle.hk_base.specs.declared.call.Why.TheVariants.{Row}
 use Rattle.hk_base.specs.declared.call.State.TheVariants as state
 use Rattle.hk_base.specs.declared.stamp.Kind.{Kind}
@@ -188,6 +188,34 @@ Joiner =
     IsWorked growing joiner
     (calls 1 (op.Write five) ∷ calls 2 op.Read ∷ replies 2 (Busy (Row state.Write (record { version = 2; node = 0 }))) ∷ replies 1 Stored ∷ calls 3 op.Read ∷ replies 3 (Found five 131072) ∷ [])
     (changed 1 131072 ∷ looked 3 ∷ [])
+
+-- A key is deleted, and added again. Between the two it holds nothing, with the tag of the deletion, and the next update
+-- has a greater one.
+abbrev pub deletion : Update
+deletion = record { stamp = 196608; base = 131072; kind = Rmw; content = None; op = op.Delete; answer = Deleted; who = 0; call = 2 }
+
+abbrev pub addition : Update
+addition = record { stamp = 262145; base = 196608; kind = Rmw; content = Some nine; op = op.Add nine; answer = Stored; who = 1; call = 4 }
+
+abbrev pub deleted_and_added : List Effect
+deleted_and_added =
+    Begin 0 (write 131072 0 0 1 five) ∷ takes 1 (write 131072 0 0 1 five)
+    ∷ NoteAck 0 1 131072 (waits (write 131072 0 0 1 five) []) (exactly 1 ∷ [])
+    ∷ Settle 0 (waits (write 131072 0 0 1 five) (exactly 1 ∷ []))
+    ∷ Begin 0 deletion ∷ takes 1 deletion
+    ∷ NoteAck 0 1 196608 (waits deletion []) (exactly 1 ∷ [])
+    ∷ Settle 0 (waits deletion (exactly 1 ∷ [])) ∷ TakeVal 1 0
+    ∷ Look 1 3 op.Read Missing
+    ∷ Begin 1 addition ∷ takes 0 addition
+    ∷ NoteAck 1 0 262145 (waits addition []) (exactly 0 ∷ [])
+    ∷ Settle 1 (waits addition (exactly 0 ∷ [])) ∷ []
+
+abbrev pub DeletedAndAdded : Type 0
+DeletedAndAdded =
+    IsWorked two deleted_and_added
+    (calls 1 (op.Write five) ∷ replies 1 Stored ∷ calls 2 op.Delete ∷ replies 2 Deleted ∷ calls 3 op.Read ∷ replies 3 Missing ∷ calls 4 (op.Add nine) ∷ replies 4 Stored ∷ [])
+    (changed 1 131072 ∷ changed 2 196608 ∷ looked 3 ∷ changed 4 262145 ∷ [])
+    × ((ends two (take 10 deleted_and_added) 1).content ≡ None) × ((ends two (take 10 deleted_and_added) 1).stamp ≡ 196608)
 
 -- in some run the effect happens
 pub record Possible (e : Effect) : Type 0 where

@@ -15,9 +15,9 @@
 //! - *Worked*: runs worked by hand, and each effect in some run.
 #![tactic(auto)]
 
-ghost use Rattle.hk_register.specs.Laws.{KeepsParts, KeepsCalls, EffectKeepsParts, EffectKeepsCalls, ValidIsSettled, AnsweredIsComplete, MemberPassesOver, BaseNotBelow, NotBothComplete, NothingBetween, ServedIsFresh};
+ghost use Rattle.hk_register.specs.Laws.{KeepsParts, KeepsCalls, EffectKeepsParts, EffectKeepsCalls, ValidIsSettled, AnsweredIsComplete, MemberPassesOver, BaseNotBelow, NotBothComplete, NothingBetween, ServedIsFresh, OnlyRmwLeavesNothing};
 ghost use Rattle.hk_register.specs.Tags.{TagsOrderStamps, TagsTellStamps, NextIsAfter};
-ghost use Rattle.hk_register.specs.Worked.{SettledRule, TwoIncrements, AbortedInEffect, ValKeptInTrans, Joiner, EachHappens};
+ghost use Rattle.hk_register.specs.Worked.{SettledRule, TwoIncrements, AbortedInEffect, ValKeptInTrans, Joiner, DeletedAndAdded, EachHappens};
 ghost use Rattle.hk_register.specs.Printed.{PrintedIsPrinted, SlotsAreLegal, PrintedIsLegal};
 
 /// Every run of effects keeps both parts of the invariant: that on rows, letters, marks and updates, and that on calls
@@ -68,6 +68,12 @@ pub fn nothing_between()
     ensures { NothingBetween }
 {}
 
+/// An update that leaves nothing is a read-modify-write. It has its stamp like any other, which a row that holds nothing
+/// keeps.
+pub fn only_a_read_modify_write_leaves_nothing()
+    ensures { OnlyRmwLeavesNothing }
+{}
+
 /// Wherever a call is served, be it begun or answered at once, the node's row is not below anything complete so far.
 pub fn served_is_fresh()
     ensures { ServedIsFresh }
@@ -89,6 +95,7 @@ pub fn worked_runs()
     ensures aborted_in_effect { AbortedInEffect }
     ensures val_kept_in_trans { ValKeptInTrans }
     ensures joiner { Joiner }
+    ensures deleted_and_added { DeletedAndAdded }
 {}
 
 /// Every kind of effect happens in some run.

@@ -9,4 +9,5 @@ returns c = record {
   aborted = (refl, refl);
   countered = refl;
   alone = (refl, refl);
+  gone = refl;
 }
