@@ -4,7 +4,7 @@ use Rattle.std.specs.List.{AllByRecursion, filter}
 use Rattle.std.proofs.lemmas.List.Elements.{All-from_recursion}
 use Rattle.hk_base.specs.declared.stamp.NodeId.{NodeId}
 use Rattle.hk_base.specs.declared.letter.CopyItem.{CopyItem}
-use Rattle.hk_base.specs.Range.{IsWithin, IsRoom, IsBatch}
+use Rattle.hk_base.specs.Range.{IsWithin, Leaves, IsRoom, IsBatch}
 use Rattle.hk_copy.specs.Batches.{cut, size_of, with_taken, nothing_taken, is_after, rows_after}
 use Rattle.hk_copy.specs.declared.given.TheConstants.{MAX_BATCH_BYTES}
 use Rattle.hk_key.specs.Sound.{IsSound}
@@ -12,6 +12,8 @@ use Rattle.hk_node.specs.Rows.{Rows}
 use Rattle.hk_node.specs.Node.{NodeState, members_of}
 use Rattle.hk_node.specs.Copies.{copies_of, batch_behind}
 use Rattle.hk_node.specs.Sound.{IsNode}
+use Rattle.hk_node.proofs.Leaving.{touched_above}
+use Rattle.hk_node.proofs.Order.{AreTouched}
 
 pub cut_few : (room bytes : ℕ) (rows : List CopyItem) → length (cut room bytes rows).taken ≤ room
 cut_few room bytes [] = omega arith
@@ -46,6 +48,11 @@ copies_within : (me : NodeId) (members : List NodeId) (rows : Rows) → AllByRec
 copies_within me members [] all = tt
 copies_within me members (r ∷ rows) all = (all.0.within, copies_within me members rows all.1)
 
+copies_leave : (me : NodeId) (members : List NodeId) (rows : Rows) → AllByRecursion (λ r. IsSound me members r.1) rows → AreTouched rows →
+    AllByRecursion (λ item. Leaves item.kind item.content) (copies_of rows)
+copies_leave me members [] all touched = tt
+copies_leave me members (r ∷ rows) all touched = (all.0.left.leaves (touched_above r.1.stamp touched.0), copies_leave me members rows all.1 touched.1)
+
 pub batch_within : (node : NodeState) (after : Option (List ℕ)) (room : ℕ) → IsNode node → IsRoom room → IsBatch (batch_behind node after room).taken
 batch_within node after room ok fits =
     let few = cut_few room MAX_BATCH_BYTES (rows_after after (copies_of node.rows)) in
@@ -55,4 +62,7 @@ batch_within node after room ok fits =
       within = All-from_recursion (λ item. IsWithin item.stamp) (batch_behind node after room).taken
           (cut_all (λ item. IsWithin item.stamp) room MAX_BATCH_BYTES (rows_after after (copies_of node.rows))
           (filter_all (λ item. IsWithin item.stamp) (is_after after) (copies_of node.rows) (copies_within node.id (members_of node) node.rows ok.rows)));
+      leaves = All-from_recursion (λ item. Leaves item.kind item.content) (batch_behind node after room).taken
+          (cut_all (λ item. Leaves item.kind item.content) room MAX_BATCH_BYTES (rows_after after (copies_of node.rows))
+          (filter_all (λ item. Leaves item.kind item.content) (is_after after) (copies_of node.rows) (copies_leave node.id (members_of node) node.rows ok.rows ok.touched)));
     }

@@ -1,25 +1,24 @@
 -- The rows as they are copied, and the letters of copies.
-use Rattle.std.proofs.Common.{◌≡◌, ℕ, List, [], ◌∷◌, Bool, true, false, cond, map, Option, Some, None, refl, sym, ap, subst, ◌∙◌, arith, not, ◌&&◌, ◌||◌, if◌then◌else◌}
+use Rattle.std.proofs.Common.{◌≡◌, ℕ, List, [], ◌∷◌, Bool, true, false, cond, Option, Some, None, refl, sym, ap, subst, ◌∙◌, arith, not, ◌&&◌, if◌then◌else◌}
 use Rattle.std.specs.Option.{IsSome, is_some}
-use Rattle.std.specs.Ordering.{is_eq, is_lt}
-use Rattle.std.specs.List.{filter, find, AllByRecursion}
+use Rattle.std.specs.List.{AllByRecursion}
 use Rattle.std.specs.List.Sorted.{IsStrictlySortedBy}
 use Rattle.std.specs.Map.{keys_of}
-use Rattle.hk_base.specs.declared.letter.CopyItem.{CopyItem}
 use Rattle.hk_base.specs.declared.letter.Body.{Body}
 use Rattle.hk_base.specs.declared.stamp.NodeId.{NodeId}
 use Rattle.hk_base.specs.declared.view.View.{View}
-use Rattle.hk_copy.specs.Batches.{IsRising, is_after, key_cmp, next_key, is_nil, row_at, rows_after}
+use Rattle.hk_copy.specs.Batches.{IsRising, is_nil, row_at}
 use Rattle.hk_key.specs.declared.row.Row.{Row}
 use Rattle.hk_node.specs.Rows.{Rows, find_row}
 use Rattle.hk_base.specs.declared.letter.Body.TheVariants.{CopyAsk, CopyGive}
 use Rattle.hk_node.specs.declared.out.NodeOut.{NodeOut}
-use Rattle.hk_node.specs.declared.replaced.Beside.TheVariants.{Nothing}
+use Rattle.hk_node.specs.declared.report.Beside.TheVariants.{Nothing}
 use Rattle.hk_node.specs.Node.{NodeState, is_other}
 use Rattle.hk_node.specs.Sends.{letters_to, at_view}
 use Rattle.hk_base.specs.declared.call.Content.{Content}
 use Rattle.hk_node.specs.Sound.{IsNode}
 use Rattle.hk_node.specs.Stepped.{idle}
+use Rattle.hk_node.specs.Report.{rows_report}
 use Rattle.hk_node.specs.Outs.{IsOutOf}
 use Rattle.hk_node.specs.Copies.{copy_of, copies_of, is_valid, told, asks_copy, gives_copy, batch_behind}
 use Rattle.hk_node.proofs.Outs.{out_of_still}
@@ -63,11 +62,11 @@ pub letters_alike : (id : NodeId) (view : View) (node : NodeState) (body : Body)
 letters_alike id view node body to same seen = rw (same, seen) refl
 
 pub told_out : (inside node : NodeState) (view : View) (body : Body) (to : NodeId) (out : NodeOut) → inside ≡ node → inside.view ≡ Some view →
-    out.letters ≡ letters_to (at_view inside.id view) body (to ∷ []) → out.replies ≡ [] → out.installed ≡ None → out.replaced.beside ≡ Nothing → out.replaced.rows ≡ [] →
+    out.letters ≡ letters_to (at_view inside.id view) body (to ∷ []) → out.replies ≡ [] → out.installed ≡ None → out.beside ≡ Nothing → out.report ≡ rows_report inside [] → IsNode inside →
     IsOutOf out node (told node body to)
-told_out inside node view body to out same seen letters replies installed beside rows = out_of_still node (told node body to) out refl
+told_out inside node view body to out same seen letters replies installed beside reports ok = out_of_still node (told node body to) out (subst IsNode same ok) refl
     (letters ∙ letters_alike inside.id view node body (to ∷ []) (sym (ap (λ (n : NodeState). n.id) same)) (sym (ap (λ (n : NodeState). n.view) same) ∙ seen))
-    replies installed beside rows
+    replies installed beside (reports ∙ ap (λ (n : NodeState). rows_report n []) same)
 
 pub asks_told : (node : NodeState) (from : NodeId) (room : ℕ) → node.ready ≡ false → is_other node from ≡ true → asks_copy node from room ≡ told node (CopyAsk node.cursor room) from
 asks_told node from room unready other = rw (unready, other) refl

@@ -1,15 +1,13 @@
 -- Former rows that are given back from the last to the first.
 use Rattle.std.proofs.Common.{◌≡◌, ◌≢◌, List, [], ◌∷◌, ◌++◌, map, Option, Some, None, refl, sym, ap, ◌∙◌, subst}
 use Rattle.std.specs.Option.{IsSome}
-use Rattle.std.specs.declared.cmp.Ordering.TheVariants.{Less}
 use Rattle.std.specs.List.{AllByRecursion}
 use Rattle.std.specs.List.Sorted.{IsStrictlySortedBy}
-use Rattle.std.proofs.lemmas.Map.Keys.{sorted_head, sorted_tail}
 use Rattle.hk_copy.specs.Batches.{key_cmp}
 use Rattle.hk_key.specs.declared.row.Row.{Row}
-use Rattle.hk_node.specs.declared.replaced.Former.{Former}
+use Rattle.hk_node.specs.declared.report.Former.{Former}
 use Rattle.hk_node.specs.Rows.{Rows, find_row}
-use Rattle.hk_node.specs.Replaced.{row_given_back, rows_given_back}
+use Rattle.hk_node.specs.Report.{row_given_back, rows_given_back}
 use Rattle.hk_node.proofs.Order.{Key, Lt, lt_ne, find-put_other}
 use Rattle.hk_node.proofs.Placed.{find-remove_other}
 

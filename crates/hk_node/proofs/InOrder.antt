@@ -61,7 +61,7 @@ ways node named ok = record {
   quiet = λ clock granted. none_in_order;
   sends = λ body to within. none_in_order;
   row = λ key done names acts. one_in_order key done.out.reply;
-  takes = λ cursor done items none unready. none_in_order;
+  takes = λ cursor done items none unready within. none_in_order;
   installs = λ view none acts. all_in_order (on_view node.id view.members) node.rows ok.ordered;
 }
 

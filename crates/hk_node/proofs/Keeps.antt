@@ -1,6 +1,5 @@
 -- Steps of one row, calls, clocks and leases keep what every node keeps.
-use Rattle.std.proofs.Common.{◌≡◌, ◌≢◌, ◌≤◌, ◌+◌, ℕ, List, [], ◌∷◌, Bool, true, false, not, ◌&&◌, if◌then◌else◌, nat_lt, max, Option, Some, None, IfSome, refl, sym, ap, ◌∙◌, arith, subst}
-use Rattle.std.specs.List.{AllByRecursion}
+use Rattle.std.proofs.Common.{◌≡◌, ◌≢◌, ◌≤◌, ◌+◌, ℕ, List, Bool, true, false, not, ◌&&◌, if◌then◌else◌, nat_lt, Option, Some, None, IfSome, refl, sym, arith, subst}
 use Rattle.std.proofs.lemmas.Option.{IfSome_then, none-some}
 use Rattle.hk_base.specs.declared.stamp.Stamp.{Stamp}
 use Rattle.hk_base.specs.declared.stamp.NodeId.{NodeId}
@@ -14,17 +13,18 @@ use Rattle.hk_base.specs.Register.{act}
 use Rattle.hk_base.specs.Stamp.{tag_of}
 use Rattle.hk_key.specs.declared.row.Row.{Row}
 use Rattle.hk_key.specs.Sound.{IsSound}
-use Rattle.hk_key.specs.Table.{Done, first_row, begin, resend, replay}
+use Rattle.hk_key.specs.Table.{Done, begin, resend, replay}
 use Rattle.hk_key.proofs.Steps.{first_is_sound, begin_is_sound, replay_keeps_sound}
 use Rattle.hk_key.proofs.Unchanged.{resend_keeps_row}
-use Rattle.hk_node.specs.Rows.{Rows, find_row, row_at, with_row}
+use Rattle.hk_node.specs.Rows.{Rows, find_row, row_at}
 use Rattle.hk_node.specs.Node.{NodeState, members_of, is_other}
 use Rattle.hk_node.specs.Stepped.{Stepped, idle, row_step}
 use Rattle.hk_node.specs.Calls.{kind_of, next_stamp, register_in, at_limit, at_turn, at_state, at_lease, lease_end, called}
 use Rattle.hk_node.specs.Copies.{asks_copy, gives_copy}
 use Rattle.hk_node.specs.Steps.{on_found, resent, replayed, ticks, grants}
 use Rattle.hk_node.specs.Sound.{IsViewOf, IsNode}
-use Rattle.hk_node.proofs.Order.{holds_found, holds_at, all_with, rising_with}
+use Rattle.hk_node.proofs.Order.{holds_found, holds_at, all_with, rising_with, touched_with}
+use Rattle.hk_node.proofs.Leaving.{act_leaves, later_above}
 use Rattle.hk_node.proofs.Parts.{next_is_next, leased_is_ready, ready_seen, true_not_false}
 
 -- a step that is made by a test, or else nothing
@@ -56,6 +56,7 @@ row_step_kept node key done ok seen sound shadow = record {
   unready = ok.unready;
   ordered = rising_with key done.row node.rows ok.ordered;
   rows = all_with (IsSound node.id (members_of node)) key done.row node.rows sound ok.rows;
+  touched = touched_with key done.row node.rows ok.touched;
   shadow = λ e. all_with (λ row. row.pending ≡ None) key done.row node.rows (shadow e) (ok.shadow e);
   clock_runs = ok.clock_runs;
   clock = ok.clock;
@@ -101,7 +102,8 @@ called_kept node call key op ok = by_lease (nat_lt (lease_end node) (node.clock 
     by_limit None ready e = ok
     by_limit (Some s) ready e = row_step_kept node key (begun node call op the_row s) ok (ready_seen node ok ready)
         (begin_is_sound node.id (members_of node) (record { call = call; answer = (act op (register_in the_row) (tag_of s)).answer }) s (kind_of op)
-        (act op (register_in the_row) (tag_of s)).register.content (next_is_next (kind_of op) the_row.stamp node.id s e).within)
+        (act op (register_in the_row) (tag_of s)).register.content (next_is_next (kind_of op) the_row.stamp node.id s e).within
+        (later_above the_row.stamp s (next_is_next (kind_of op) the_row.stamp node.id s e).above) (act_leaves op the_row.content (tag_of the_row.stamp) (tag_of s)))
         (λ r. true_not_false node.ready ready r)
 
     by_turn : (b : Bool) → node.ready ≡ true → IsNode (at_turn b node call key op the_row).node
@@ -130,6 +132,7 @@ ticks_kept node now within ok =
       unready = ok.unready;
       ordered = ok.ordered;
       rows = ok.rows;
+      touched = ok.touched;
       shadow = ok.shadow;
       clock_runs = grind arith;
       clock = grind arith;
@@ -146,6 +149,7 @@ grants_kept node end within ok =
       unready = ok.unready;
       ordered = ok.ordered;
       rows = ok.rows;
+      touched = ok.touched;
       shadow = ok.shadow;
       clock_runs = ok.clock_runs;
       clock = ok.clock;

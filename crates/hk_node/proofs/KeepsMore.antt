@@ -1,13 +1,12 @@
 -- Copies, views and letters keep what every node keeps, and so does each step.
-use Rattle.std.proofs.Common.{◌≡◌, ◌≢◌, ℕ, List, [], ◌∷◌, map, Bool, true, false, not, ◌&&◌, ◌==◌, nat_lt, Option, Some, None, IfSome, refl, sym, ap, ◌∙◌, subst}
+use Rattle.std.proofs.Common.{◌≡◌, ◌≢◌, ◌≤◌, arith, ℕ, List, [], ◌∷◌, map, Bool, true, false, not, ◌&&◌, ◌==◌, nat_lt, Option, Some, None, refl, sym, subst}
 use Rattle.std.specs.Option.{option_or}
 use Rattle.std.specs.List.{AllByRecursion}
 use Rattle.std.specs.List.Sorted.{IsStrictlySortedBy}
 use Rattle.std.proofs.lemmas.Bool.{and_parts}
+use Rattle.std.proofs.lemmas.Bool.Decides.{nat_tests}
 use Rattle.std.proofs.lemmas.Option.{none-some}
-use Rattle.std.proofs.lemmas.List.Elements.{recursion_from_All}
 use Rattle.std.proofs.lemmas.Map.Made.{keys_of-map_values}
-use Rattle.hk_base.specs.declared.stamp.Stamp.{Stamp}
 use Rattle.hk_base.specs.declared.stamp.NodeId.{NodeId}
 use Rattle.hk_base.specs.declared.view.View.{View}
 use Rattle.hk_base.specs.declared.letter.Actor.{Actor}
@@ -17,23 +16,24 @@ use Rattle.hk_base.specs.declared.letter.Letter.{Letter}
 use Rattle.hk_base.specs.declared.letter.Body.{Body}
 use Rattle.hk_base.specs.declared.letter.Body.TheVariants.{Inv, Ack, Val, CopyAsk, CopyGive, LeaseAsk, LeaseGive, Prepare, Promise, Accept, Accepted, Chosen, Activate}
 use Rattle.hk_base.specs.View.{IsView}
-use Rattle.hk_base.specs.Range.{IsWithin, IsBody, IsLetter}
+use Rattle.hk_base.specs.Range.{IsBody, IsLetter}
 use Rattle.hk_copy.specs.Batches.{last_key, key_cmp}
+use Rattle.hk_base.specs.Stamp.{tag_of}
 use Rattle.hk_key.specs.declared.row.Row.{Row}
 use Rattle.hk_key.specs.Sound.{IsSound}
 use Rattle.hk_key.specs.Table.{first_row, on_inv, on_ack, on_val, on_view, on_copy, still}
 use Rattle.hk_key.proofs.Steps.{first_is_sound, inv_keeps_sound, ack_keeps_sound, val_keeps_sound, view_keeps_sound, copy_keeps_sound}
-use Rattle.hk_node.specs.Rows.{Rows, row_at, with_row}
+use Rattle.hk_key.proofs.Rising.{view_never_lowers}
+use Rattle.hk_node.specs.Rows.{Rows, row_at, is_touched, with_row}
 use Rattle.hk_node.specs.Node.{NodeState, epoch_of, members_of, is_member, is_other}
-use Rattle.hk_node.specs.Stepped.{Stepped}
 use Rattle.hk_node.specs.Copies.{merged, is_next, takes_copy}
-use Rattle.hk_node.specs.Steps.{viewed, installed_in, installs, received, is_addressed, receives_from, receives, node_step}
-use Rattle.hk_node.specs.declared.event.NodeEvent.{NodeEvent}
+use Rattle.hk_node.specs.Steps.{installed_in, installs, received, is_addressed, receives_from, receives}
 use Rattle.hk_node.specs.declared.event.NodeEvent.TheVariants.{Call, Receive, Resend, Replay, AskCopy, Tick, Grant, Install}
-use Rattle.hk_node.specs.Sound.{IsViewOf, IsNode, IsEvent}
+use Rattle.hk_node.specs.Sound.{IsNode}
 use Rattle.hk_node.specs.Laws.{StepKeepsNode}
-use Rattle.hk_node.proofs.Order.{Rising, holds_at, all_with, rising_with}
-use Rattle.hk_node.proofs.Parts.{other_is, other_seen, inv_pends_none, ack_pends_none, val_pends_none, view_pends_none, copy_pends_none, true_not_false}
+use Rattle.hk_node.proofs.Order.{Rising, AreTouched, holds_at, all_with, rising_with, touched_with}
+use Rattle.hk_node.proofs.Leaving.{IsItem, batch_items}
+use Rattle.hk_node.proofs.Parts.{other_is, other_seen, inv_pends_none, ack_pends_none, val_pends_none, view_pends_none, copy_pends_none}
 use Rattle.hk_node.proofs.Keeps.{if_kept, view_of_same, sound_at, none_pending_at, row_step_kept, on_found_kept, called_kept, resent_kept, replayed_kept, asks_copy_kept, gives_copy_kept, ticks_kept, grants_kept}
 
 -- ---- copies: what holds of each row, and of each that an item makes of such a row, holds of the merged rows
@@ -46,6 +46,14 @@ all_merged P first (item ∷ items) keeps rows all = all_merged P first items ke
 pub rising_merged : (items : List CopyItem) (rows : Rows) → Rising rows → Rising (merged items rows)
 rising_merged [] rows rising = rising
 rising_merged (item ∷ items) rows rising = rising_merged items (with_row item.key (on_copy (row_at item.key rows) item) rows) (rising_with item.key (on_copy (row_at item.key rows) item) rows rising)
+
+pub touched_merged : (items : List CopyItem) (rows : Rows) → AreTouched rows → AreTouched (merged items rows)
+touched_merged [] rows all = all
+touched_merged (item ∷ items) rows all = touched_merged items (with_row item.key (on_copy (row_at item.key rows) item) rows) (touched_with item.key (on_copy (row_at item.key rows) item) rows all)
+
+-- a stamp that does not fall stays above `0.0`
+touched_up : (old new : Row) → tag_of old.stamp ≤ tag_of new.stamp → is_touched old ≡ true → is_touched new ≡ true
+touched_up old new up touched = grind (arith, nat_tests)
 
 -- what holds of all holds of each
 each_of : {X : Type 0} (P : X → Type 0) → ((x : X) → P x) → (xs : List X) → AllByRecursion P xs
@@ -61,8 +69,8 @@ not_is true e = sym e
 not_is false e = refl
 
 pub takes_copy_kept : (node : NodeState) (after : Option (List ℕ)) (done : Bool) (items : List CopyItem) → node.view ≢ None →
-    AllByRecursion (λ item. IsWithin item.stamp) items → IsNode node → IsNode (takes_copy node after done items).node
-takes_copy_kept node after done items seen within ok = if_kept (not node.ready && is_next after node.cursor) node (record { node = after_copy; letters = []; told = []; installed = None }) ok (λ t.
+    AllByRecursion IsItem items → IsNode node → IsNode (takes_copy node after done items).node
+takes_copy_kept node after done items seen fit ok = if_kept (not node.ready && is_next after node.cursor) node (record { node = after_copy; letters = []; told = []; installed = None }) ok (λ t.
     let unready = not_is node.ready (and_parts (not node.ready) (is_next after node.cursor) t).0 in
     record {
       view = view_of_same node after_copy refl node.view ok.view;
@@ -70,8 +78,9 @@ takes_copy_kept node after done items seen within ok = if_kept (not node.ready &
       unready = λ none. absurd (seen none);
       ordered = rising_merged items node.rows ok.ordered;
       rows = all_merged (IsSound node.id (members_of node)) (first_is_sound node.id (members_of node)) items
-          (each_from (λ item. IsWithin item.stamp) (λ item. (row : Row) → IsSound node.id (members_of node) row → IsSound node.id (members_of node) (on_copy row item))
-          (λ item w row sound. copy_keeps_sound node.id (members_of node) row item w sound) items within) node.rows ok.rows;
+          (each_from IsItem (λ item. (row : Row) → IsSound node.id (members_of node) row → IsSound node.id (members_of node) (on_copy row item))
+          (λ item w row sound. copy_keeps_sound node.id (members_of node) row item w.0 w.1 sound) items fit) node.rows ok.rows;
+      touched = touched_merged items node.rows ok.touched;
       shadow = λ e. all_merged (λ row. row.pending ≡ None) refl items
           (each_of (λ item. (row : Row) → row.pending ≡ None → (on_copy row item).pending ≡ None) (λ item row none. copy_pends_none row item none) items) node.rows (ok.shadow unready);
       clock_runs = ok.clock_runs;
@@ -98,6 +107,7 @@ installs_kept node view is_view ok = if_kept (nat_lt (epoch_of node) view.epoch 
       unready = λ none. absurd (none-some view (sym none));
       ordered = subst (λ (keys : List (List ℕ)). IsStrictlySortedBy key_cmp keys) (sym (keys_of-map_values step node.rows)) ok.ordered;
       rows = all_mapped (IsSound node.id (members_of node)) (IsSound node.id view.members) step (view_keeps_sound node.id (members_of node) view.members) node.rows ok.rows;
+      touched = all_mapped (λ row. is_touched row ≡ true) (λ row. is_touched row ≡ true) step (λ row. touched_up row (step row) (view_never_lowers node.id view.members row)) node.rows ok.touched;
       shadow = λ e. all_mapped (λ row. row.pending ≡ None) (λ row. row.pending ≡ None) step (view_pends_none node.id view.members) node.rows (ok.shadow e);
       clock_runs = ok.clock_runs;
       clock = ok.clock;
@@ -115,7 +125,7 @@ installs_kept node view is_view ok = if_kept (nat_lt (epoch_of node) view.epoch 
 pub received_kept : (body : Body) (node : NodeState) (from : NodeId) → IsBody body → is_other node from ≡ true → IsNode node → IsNode (received body node from).node
 received_kept (Inv key s kind content) node from within other ok =
     row_step_kept node key (on_inv (row_at key node.rows) from s kind content) ok (other_seen node from other)
-    (inv_keeps_sound node.id (members_of node) (row_at key node.rows) from s kind content within (sound_at node key ok))
+    (inv_keeps_sound node.id (members_of node) (row_at key node.rows) from s kind content within.0 within.1 (sound_at node key ok))
     (λ e. inv_pends_none (row_at key node.rows) from s kind content (none_pending_at node key ok e))
 received_kept (Ack key s top) node from within other ok = on_found_kept node key (λ row. on_ack node.id (members_of node) row from s top) ok
     (λ row sound. ack_keeps_sound node.id (members_of node) row from s top (other_is node from other) sound)
@@ -125,8 +135,8 @@ received_kept (Val key s) node from within other ok = on_found_kept node key (λ
     (λ e row none. val_pends_none row s none)
 received_kept (CopyAsk after room) node from within other ok = gives_copy_kept node from after room ok
 received_kept (CopyGive after done items) node from within other ok =
-    takes_copy_kept node after done items (other_seen node from other) (recursion_from_All (λ item. IsWithin item.stamp) items within.within) ok
-received_kept LeaseAsk node from within other ok = ok
+    takes_copy_kept node after done items (other_seen node from other) (batch_items items within) ok
+received_kept (LeaseAsk asked) node from within other ok = ok
 received_kept (LeaseGive end) node from within other ok = ok
 received_kept (Prepare ballot) node from within other ok = ok
 received_kept (Promise ballot vote) node from within other ok = ok

@@ -13,12 +13,13 @@ use Rattle.std.proofs.lemmas.Map.Keys.{sorted_head, sorted_tail}
 use Rattle.hk_copy.specs.Batches.{key_cmp}
 use Rattle.hk_key.specs.declared.row.Row.{Row}
 use Rattle.hk_key.specs.Table.{first_row}
-use Rattle.hk_node.specs.declared.replaced.Former.{Former}
+use Rattle.hk_key.specs.Same.{is_same_row}
+use Rattle.hk_node.specs.declared.report.Former.{Former}
 use Rattle.hk_node.specs.Rows.{Rows, find_row, row_at, put_row}
-use Rattle.hk_node.specs.Replaced.{IsReplaced, row_given_back, rows_given_back}
+use Rattle.hk_node.specs.Report.{AreChanged, row_given_back, rows_given_back}
 use Rattle.hk_node.specs.Copying.{row_now, put_rows, former_of}
 use Rattle.hk_node.proofs.Order.{Key, Rising, Lt, equal_keys, gt_lt, lt_ne_back, same_key, cases_key, find_here, find_next, find-put_same, find-put_other, rising_put}
-use Rattle.hk_node.proofs.Placed.{below_first, put_undone}
+use Rattle.hk_node.proofs.Placed.{below_first, put_undone, each_found}
 use Rattle.hk_node.proofs.Givings.{Ready, There, given_last}
 
 some_is : {X : Type 0} (x y : X) → Some x ≡ Some y → x ≡ y
@@ -109,21 +110,11 @@ former_is [] rows rising = refl
 former_is (c ∷ cs) rows rising = ap (λ l. was rows c ∷ l) (former_is cs (put_row c.0 c.1 rows) (sorted_tail key_cmp c.0 (keys_of cs) rising)
     ∙ was_put c.0 c.1 rows cs (sorted_head key_cmp c.0 (keys_of cs) rising))
 
-found_past : (x : Key × Row) (ys cs : Rows) → AllByRecursion (λ (q : Key). Lt x.0 q) (keys_of ys) → AllByRecursion (λ c. find_row c.0 cs ≡ Some c.1) ys →
-    AllByRecursion (λ c. find_row c.0 (x ∷ cs) ≡ Some c.1) ys
-found_past x [] cs above all = tt
-found_past x (y ∷ ys) cs above all = (find_next y.0 x cs (lt_ne_back x.0 y.0 above.0) ∙ all.0, found_past x ys cs above.1 all.1)
-
--- each is found
-each_found : (cs : Rows) → Rising cs → AllByRecursion (λ c. find_row c.0 cs ≡ Some c.1) cs
-each_found [] rising = tt
-each_found (c ∷ cs) rising = (find_here c.0 c cs refl, found_past c cs cs (sorted_head key_cmp c.0 (keys_of cs) rising) (each_found cs (sorted_tail key_cmp c.0 (keys_of cs) rising)))
-
--- a change that is there now, and was not there before
+-- a change that is there now, and differs from what was there before
 abbrev Changed : Rows → Rows → Key × Row → Type 0
-Changed rows new c = (find_row c.0 new ≡ Some c.1) × (find_row c.0 rows ≢ Some c.1)
+Changed rows new c = (find_row c.0 new ≡ Some c.1) × (is_same_row (row_at c.0 rows) c.1 ≡ false)
 
-each_changed : (changes rows cs : Rows) → Rising changes → ((key : Key) (row : Row) → find_row key changes ≡ Some row → find_row key rows ≢ Some row) →
+each_changed : (changes rows cs : Rows) → Rising changes → ((key : Key) (row : Row) → find_row key changes ≡ Some row → is_same_row (row_at key rows) row ≡ false) →
     AllByRecursion (λ c. find_row c.0 changes ≡ Some c.1) cs → AllByRecursion (Changed rows (put_rows changes rows)) cs
 each_changed changes rows [] rising differ all = tt
 each_changed changes rows (c ∷ cs) rising differ all = (
@@ -131,9 +122,9 @@ each_changed changes rows (c ∷ cs) rising differ all = (
   each_changed changes rows cs rising differ all.1,
 )
 
-each_differs : (rows new cs : Rows) → AllByRecursion (Changed rows new) cs → AllByRecursion (λ (f : Former). (find_row f.key rows ≡ f.row) × (find_row f.key new ≢ f.row)) (map (was rows) cs)
+each_differs : (rows new cs : Rows) → AllByRecursion (Changed rows new) cs → AllByRecursion (λ (f : Former). (find_row f.key rows ≡ f.row) × (is_same_row (row_at f.key rows) (row_at f.key new) ≡ false)) (map (was rows) cs)
 each_differs rows new [] all = tt
-each_differs rows new (c ∷ cs) all = ((refl, λ e. all.0.1 (sym e ∙ all.0.0)), each_differs rows new cs all.1)
+each_differs rows new (c ∷ cs) all = ((refl, ap (λ (o : Option Row). is_same_row (row_at c.0 rows) (unwrap_or o first_row)) all.0.0 ∙ all.0.1), each_differs rows new cs all.1)
 
 each_there : (rows new cs : Rows) → AllByRecursion (Changed rows new) cs → AllByRecursion (λ (f : Former). IsSome (find_row f.key new)) (map (was rows) cs)
 each_there rows new [] all = tt
@@ -154,9 +145,9 @@ was_keys : (rows cs : Rows) → map (λ (f : Former). f.key) (map (was rows) cs)
 was_keys rows [] = refl
 was_keys rows (c ∷ cs) = ap (λ l. c.0 ∷ l) (was_keys rows cs)
 
-pub laid_replaced : (changes rows : Rows) → Rising changes → ((key : Key) (row : Row) → find_row key changes ≡ Some row → find_row key rows ≢ Some row) →
-    IsReplaced (former_of changes rows) rows (put_rows changes rows)
-laid_replaced changes rows rising differ = subst (λ (l : List Former). IsReplaced l rows (put_rows changes rows)) (sym (former_is changes rows rising)) (record {
+pub laid_replaced : (changes rows : Rows) → Rising changes → ((key : Key) (row : Row) → find_row key changes ≡ Some row → is_same_row (row_at key rows) row ≡ false) →
+    AreChanged (former_of changes rows) rows (put_rows changes rows)
+laid_replaced changes rows rising differ = subst (λ (l : List Former). AreChanged l rows (put_rows changes rows)) (sym (former_is changes rows rising)) (record {
   rising = subst (λ (keys : List Key). IsStrictlySortedBy key_cmp keys) (sym (was_keys rows changes)) rising;
   differ = each_differs rows (put_rows changes rows) changes all;
   there = each_there rows (put_rows changes rows) changes all;

@@ -1,10 +1,12 @@
 pub mod Placed
 pub mod Givings
 pub mod Order
+pub mod Leaving
 pub mod Parts
 pub mod Keeps
 pub mod KeepsMore
 pub mod Sent
+pub mod Reports
 pub mod Outs
 pub mod Decided
 pub mod Finishing
@@ -26,3 +28,5 @@ pub mod Stamps
 pub mod Told
 pub mod Waits
 pub mod InOrder
+pub mod Exact
+pub mod Walk

@@ -1,5 +1,5 @@
 -- The order of keys, and rows by key: what a put does to the row of its key, to those of others, and to all rows.
-use Rattle.std.proofs.Common.{◌≡◌, ◌⊎◌, ◌≢◌, ℕ, List, [], ◌∷◌, Bool, true, false, cond, Option, Some, None, IfSome, unwrap_or, refl, sym, ap, ◌∙◌, inl, inr, subst, ⊎_elim}
+use Rattle.std.proofs.Common.{◌≡◌, ◌⊎◌, ◌≢◌, ℕ, List, [], ◌∷◌, Bool, true, false, cond, Option, Some, None, IfSome, unwrap_or, refl, sym, ap, ◌∙◌, inl, inr, subst, ⊎_elim, arith}
 use Rattle.std.specs.Ordering.{match_ordering, is_eq, ordering_reverse}
 use Rattle.std.specs.declared.cmp.Ordering.{Ordering}
 use Rattle.std.specs.declared.cmp.Ordering.TheVariants.{Less, Equal, Greater}
@@ -11,11 +11,13 @@ use Rattle.std.proofs.lemmas.Map.Text.{is_eq-slice_cmp}
 use Rattle.std.proofs.lemmas.Slice.Eq.{bytes_eq-Decides}
 use Rattle.std.proofs.lemmas.Bool.{false≢true}
 use Rattle.std.proofs.lemmas.Cmp.{nat_list_cmp_total, tied_itself}
+use Rattle.std.proofs.lemmas.Option.{none-some}
 use Rattle.hk_copy.specs.Batches.{key_cmp}
 use Rattle.hk_key.specs.declared.row.Row.{Row}
 use Rattle.hk_key.specs.Table.{first_row}
 use Rattle.hk_key.specs.Same.{is_same_row}
-use Rattle.hk_node.specs.Rows.{Rows, find_row, row_at, put_row, with_row}
+use Rattle.hk_node.specs.Rows.{Rows, find_row, row_at, put_row, is_touched, with_row}
+use Rattle.hk_node.specs.Report.{IsMade}
 
 abbrev pub Key : Type 0
 Key = List ℕ
@@ -156,35 +158,104 @@ rising_put key row (r ∷ rs) rising = by_order (key_cmp key r.0) refl (rising_p
     by_order Equal e more = rising
     by_order Greater e more = (above_put r.0 key row rs (gt_lt key r.0 e) rising.0, more)
 
--- ---- the same with a row that may be the one that stands there
-pub all_with : (P : Row → Type 0) (key : Key) (row : Row) (rs : Rows) → P row → AllByRecursion (λ (r : Key × Row). P r.1) rs → AllByRecursion (λ (r : Key × Row). P r.1) (with_row key row rs)
-all_with P key row rs h all = by_test (is_same_row (row_at key rs) row)
+-- where the row that stands there is put, nothing changes
+pub put_there : (key : Key) (row : Row) (rs : Rows) → Rising rs → find_row key rs ≡ Some row → put_row key row rs ≡ rs
+unfolding IsStrictlySortedBy
+put_there key row [] rising there = absurd (none-some row there)
+put_there key row (r ∷ rs) rising there = by_order (key_cmp key r.0) refl there (put_there key row rs rising.1)
   where
-    by_test : (b : Bool) → AllByRecursion (λ (r : Key × Row). P r.1) (cond b rs (put_row key row rs))
-    by_test true = all
-    by_test false = all_put P key row rs h all
+    nothing_above : (k : Key) (l : Rows) → Above k l → find_row k l ≡ None
+    nothing_above k [] all = refl
+    nothing_above k (x ∷ l) all = find_next k x l (lt_ne k x.0 all.0) ∙ nothing_above k l all.1
+
+    by_order : (o : Ordering) → key_cmp key r.0 ≡ o → cond (is_eq o) (Some r.1) (find_row key rs) ≡ Some row → (find_row key rs ≡ Some row → put_row key row rs ≡ rs) →
+        match_ordering o ((key, row) ∷ r ∷ rs) ((r.0, row) ∷ rs) (r ∷ put_row key row rs) ≡ r ∷ rs
+    by_order Less e at more = absurd (none-some row (sym (nothing_above key rs (above_less key r.0 rs e rising.0)) ∙ at))
+    by_order Equal e at more =
+        let same : r.1 ≡ row = grind arith in
+        ap (λ x. (r.0, x) ∷ rs) (sym same)
+    by_order Greater e at more = ap (λ l. r ∷ l) (more at)
+
+-- ---- the same with a row that is put if it is touched
+pub all_with : (P : Row → Type 0) (key : Key) (row : Row) (rs : Rows) → P row → AllByRecursion (λ (r : Key × Row). P r.1) rs → AllByRecursion (λ (r : Key × Row). P r.1) (with_row key row rs)
+all_with P key row rs h all = by_test (is_touched row)
+  where
+    by_test : (b : Bool) → AllByRecursion (λ (r : Key × Row). P r.1) (cond b (put_row key row rs) rs)
+    by_test false = all
+    by_test true = all_put P key row rs h all
+
+abbrev pub AreTouched : Rows → Type 0
+AreTouched rs = AllByRecursion (λ (r : Key × Row). is_touched r.1 ≡ true) rs
+
+pub touched_with : (key : Key) (row : Row) (rs : Rows) → AreTouched rs → AreTouched (with_row key row rs)
+touched_with key row rs all = by_test (is_touched row) refl
+  where
+    by_test : (b : Bool) → is_touched row ≡ b → AreTouched (cond b (put_row key row rs) rs)
+    by_test false e = all
+    by_test true e = all_put (λ r. is_touched r ≡ true) key row rs e all
 
 pub rising_with : (key : Key) (row : Row) (rs : Rows) → Rising rs → Rising (with_row key row rs)
-rising_with key row rs rising = by_test (is_same_row (row_at key rs) row)
+rising_with key row rs rising = by_test (is_touched row)
   where
-    by_test : (b : Bool) → Rising (cond b rs (put_row key row rs))
-    by_test true = rising
-    by_test false = rising_put key row rs rising
+    by_test : (b : Bool) → Rising (cond b (put_row key row rs) rs)
+    by_test false = rising
+    by_test true = rising_put key row rs rising
 
 pub find-with_other : (key k : Key) (row : Row) (rs : Rows) → key ≢ k → find_row key (with_row k row rs) ≡ find_row key rs
-find-with_other key k row rs ne = by_test (is_same_row (row_at k rs) row)
+find-with_other key k row rs ne = by_test (is_touched row)
   where
-    by_test : (b : Bool) → find_row key (cond b rs (put_row k row rs)) ≡ find_row key rs
-    by_test true = refl
-    by_test false = find-put_other key k row rs ne
+    by_test : (b : Bool) → find_row key (cond b (put_row k row rs) rs) ≡ find_row key rs
+    by_test false = refl
+    by_test true = find-put_other key k row rs ne
 
 pub row-with_other : (key k : Key) (row : Row) (rs : Rows) → key ≢ k → row_at key (with_row k row rs) ≡ row_at key rs
 row-with_other key k row rs ne = ap (λ (o : Option Row). unwrap_or o first_row) (find-with_other key k row rs ne)
 
--- where the test of sameness tells the truth, the row is the one that was to be there
-pub row-with_same : (key : Key) (row : Row) (rs : Rows) → (is_same_row (row_at key rs) row ≡ true → row ≡ row_at key rs) → row_at key (with_row key row rs) ≡ row
-row-with_same key row rs same = by_test (is_same_row (row_at key rs) row) refl
+-- a row that is touched is put
+pub with_touched : (key : Key) (row : Row) (rs : Rows) → is_touched row ≡ true → with_row key row rs ≡ put_row key row rs
+with_touched key row rs e = ap (λ (b : Bool). cond b (put_row key row rs) rs) e
+
+pub row-with_touched : (key : Key) (row : Row) (rs : Rows) → is_touched row ≡ true → row_at key (with_row key row rs) ≡ row
+row-with_touched key row rs e = ap (row_at key) (with_touched key row rs e) ∙ ap (λ (o : Option Row). unwrap_or o first_row) (find-put_same key row rs)
+
+-- THE LAW OF A PUT: the row that stands there may be left alone
+pub with_itself : (key : Key) (rs : Rows) → Rising rs → with_row key (row_at key rs) rs ≡ rs
+with_itself key rs rising = by_found (find_row key rs) refl
   where
-    by_test : (b : Bool) → is_same_row (row_at key rs) row ≡ b → row_at key (cond b rs (put_row key row rs)) ≡ row
-    by_test true e = sym (same e)
-    by_test false e = ap (λ (o : Option Row). unwrap_or o first_row) (find-put_same key row rs)
+    by_found : (o : Option Row) → find_row key rs ≡ o → with_row key (unwrap_or o first_row) rs ≡ rs
+    by_found None e = refl
+    by_found (Some row) e = by_test (is_touched row)
+      where
+        by_test : (b : Bool) → cond b (put_row key row rs) rs ≡ rs
+        by_test false = refl
+        by_test true = put_there key row rs rising e
+
+-- a row that a step made is put where it differs from the one that stands there
+pub with_made : (key : Key) (row : Row) (rs : Rows) → Rising rs → IsMade rs key row → with_row key row rs ≡ cond (is_same_row (row_at key rs) row) rs (put_row key row rs)
+with_made key row rs rising made = by_test (is_same_row (row_at key rs) row) refl
+  where
+    by_test : (b : Bool) → is_same_row (row_at key rs) row ≡ b → with_row key row rs ≡ cond b rs (put_row key row rs)
+    by_test true e = ap (λ (r : Row). with_row key r rs) (made.same e) ∙ with_itself key rs rising
+    by_test false e = with_touched key row rs (made.touched e)
+
+pub with_stays : (key : Key) (row : Row) (rs : Rows) → Rising rs → IsMade rs key row → is_same_row (row_at key rs) row ≡ true → with_row key row rs ≡ rs
+with_stays key row rs rising made same = with_made key row rs rising made ∙ ap (λ (b : Bool). cond b rs (put_row key row rs)) same
+
+pub row-with_made : (key : Key) (row : Row) (rs : Rows) → IsMade rs key row → row_at key (with_row key row rs) ≡ row
+row-with_made key row rs made = by_touched (is_touched row) refl
+  where
+    by_same : (b : Bool) → is_same_row (row_at key rs) row ≡ b → is_touched row ≡ false → row_at key rs ≡ row
+    by_same true e t = sym (made.same e)
+    by_same false e t = absurd (false≢true (sym t ∙ made.touched e))
+
+    by_touched : (b : Bool) → is_touched row ≡ b → row_at key (cond b (put_row key row rs) rs) ≡ row
+    by_touched true e = ap (λ (o : Option Row). unwrap_or o first_row) (find-put_same key row rs)
+    by_touched false e = by_same (is_same_row (row_at key rs) row) refl e
+
+-- where no row is touched, none is there
+pub untouched_none : (key : Key) (rs : Rows) → AreTouched rs → is_touched (row_at key rs) ≡ false → row_at key rs ≡ first_row
+untouched_none key rs all e = by_found (find_row key rs) (holds_found (λ r. is_touched r ≡ true) key rs all) e
+  where
+    by_found : (o : Option Row) → IfSome o (λ r. is_touched r ≡ true) → is_touched (unwrap_or o first_row) ≡ false → unwrap_or o first_row ≡ first_row
+    by_found None t f = refl
+    by_found (Some row) t f = absurd (false≢true (sym f ∙ t))

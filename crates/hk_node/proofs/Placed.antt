@@ -1,16 +1,16 @@
 -- Rows by key after one is put in its place or taken away, and what a step of one row replaces.
-use Rattle.std.proofs.Common.{◌≡◌, ◌≢◌, ℕ, List, [], ◌∷◌, Bool, true, false, cond, Option, Some, None, unwrap_or, refl, sym, ap, ◌∙◌, arith, subst}
+use Rattle.std.proofs.Common.{◌≡◌, ◌≢◌, [], ◌∷◌, Bool, true, false, cond, Option, Some, None, unwrap_or, refl, sym, ap, ◌∙◌, arith, subst}
 use Rattle.std.specs.Option.{is_some, IsSome}
 use Rattle.std.specs.Ordering.{match_ordering, is_eq}
 use Rattle.std.specs.declared.cmp.Ordering.{Ordering}
 use Rattle.std.specs.declared.cmp.Ordering.TheVariants.{Less, Equal, Greater}
 use Rattle.std.specs.BTreeMap.{is_at}
-use Rattle.std.specs.Map.{lookup, set_value, remove_entry, keys_of}
-use Rattle.std.specs.List.{list_any}
+use Rattle.std.specs.Map.{set_value, remove_entry, keys_of}
+use Rattle.std.specs.List.{AllByRecursion, list_any}
 use Rattle.std.specs.List.Sorted.{IsStrictlySortedBy}
 use Rattle.std.proofs.lemmas.Map.{lookup-none}
 use Rattle.std.proofs.lemmas.Map.Entries.{none_below_head}
-use Rattle.std.proofs.lemmas.Map.Keys.{sorted_tail}
+use Rattle.std.proofs.lemmas.Map.Keys.{sorted_head, sorted_tail}
 use Rattle.std.proofs.lemmas.Bool.{false≢true}
 use Rattle.std.proofs.lemmas.Option.{none-some}
 use Rattle.std.proofs.lemmas.Cmp.{nat_list_cmp_total}
@@ -18,11 +18,10 @@ use Rattle.hk_copy.specs.Batches.{key_cmp}
 use Rattle.hk_key.specs.declared.row.Row.{Row}
 use Rattle.hk_key.specs.Table.{first_row}
 use Rattle.hk_key.specs.Same.{is_same_row}
-use Rattle.hk_key.proofs.SameNotes.{each_is_same}
-use Rattle.hk_node.specs.declared.replaced.Former.{Former}
+use Rattle.hk_node.specs.declared.report.Former.{Former}
 use Rattle.hk_node.specs.Rows.{Rows, find_row, row_at, put_row, with_row}
-use Rattle.hk_node.specs.Replaced.{IsReplaced, row_given_back, rows_given_back, replaced_by}
-use Rattle.hk_node.proofs.Order.{Key, same_key, Lt, Rising, equal_keys, key_itself, same_true, same_of, lt_ne_back, gt_lt, find_here, find_next, find-put_same, find-put_other}
+use Rattle.hk_node.specs.Report.{AreChanged, IsMade, row_given_back, rows_given_back, changed_by}
+use Rattle.hk_node.proofs.Order.{Key, same_key, Lt, Rising, same_true, same_of, lt_ne_back, find_here, find_next, find-put_same, find-put_other, with_made}
 
 none_there : {X : Type 0} (o : Option X) → o ≡ None → IsSome o → ⊥
 none_there o none there = false≢true (sym (ap is_some none) ∙ there)
@@ -33,6 +32,16 @@ some_there o x e = ap is_some e
 -- where a key is below the first, it is not there
 pub below_first : (key : Key) (r : Key × Row) (rs : Rows) → Rising (r ∷ rs) → key_cmp key r.0 ≡ Less → find_row key (r ∷ rs) ≡ None
 below_first key r rs sorted e = lookup-none (is_at (key_cmp key)) (r ∷ rs) (none_below_head nat_list_cmp_total key r rs sorted e)
+
+found_past : (x : Key × Row) (ys cs : Rows) → AllByRecursion (λ (q : Key). Lt x.0 q) (keys_of ys) → AllByRecursion (λ c. find_row c.0 cs ≡ Some c.1) ys →
+    AllByRecursion (λ c. find_row c.0 (x ∷ cs) ≡ Some c.1) ys
+found_past x [] cs above all = tt
+found_past x (y ∷ ys) cs above all = (find_next y.0 x cs (lt_ne_back x.0 y.0 above.0) ∙ all.0, found_past x ys cs above.1 all.1)
+
+-- each is found
+pub each_found : (cs : Rows) → Rising cs → AllByRecursion (λ c. find_row c.0 cs ≡ Some c.1) cs
+each_found [] rising = tt
+each_found (c ∷ cs) rising = (find_here c.0 c cs refl, found_past c cs cs (sorted_head key_cmp c.0 (keys_of cs) rising) (each_found cs (sorted_tail key_cmp c.0 (keys_of cs) rising)))
 
 -- a row that is set where its key stands is put
 pub set_is_put : (key : Key) (row : Row) (rs : Rows) → Rising rs → IsSome (find_row key rs) → set_value (is_at (key_cmp key)) rs row ≡ put_row key row rs
@@ -97,28 +106,24 @@ put_undone key row rs sorted = by_found (find_row key rs) refl
     by_found None e = remove_put key row rs e
     by_found (Some old) e = put_put key row old rs sorted e
 
-pub with_undone : (key : Key) (row : Row) (rs : Rows) → Rising rs → rows_given_back (replaced_by key row rs) (with_row key row rs) ≡ rs
-with_undone key row rs sorted = by_test (is_same_row (row_at key rs) row)
+pub made_undone : (key : Key) (row : Row) (rs : Rows) → Rising rs → IsMade rs key row → rows_given_back (changed_by key row rs) (with_row key row rs) ≡ rs
+made_undone key row rs sorted made = ap (rows_given_back (changed_by key row rs)) (with_made key row rs sorted made) ∙ by_test (is_same_row (row_at key rs) row)
   where
     by_test : (b : Bool) → rows_given_back (cond b [] (record { key = key; row = find_row key rs } ∷ [])) (cond b rs (put_row key row rs)) ≡ rs
     by_test true = refl
     by_test false = put_undone key row rs sorted
 
--- ---- what a step of one row replaces
--- a row that is not the same as the one that stands there differs from it
-differs : (key : Key) (row : Row) (rs : Rows) → is_same_row (row_at key rs) row ≡ false → Some row ≢ find_row key rs
-differs key row rs e is = false≢true (sym e ∙ subst (λ (r : Row). is_same_row r row ≡ true) (ap (λ (o : Option Row). unwrap_or o first_row) is) (each_is_same row))
-
-pub nothing_replaced : (rs : Rows) → IsReplaced [] rs rs
+-- ---- what a step of one row changes
+pub nothing_changed : (rs : Rows) → AreChanged [] rs rs
 unfolding IsStrictlySortedBy
-nothing_replaced rs = record { rising = tt; differ = tt; there = tt; others = λ key e. refl }
+nothing_changed rs = record { rising = tt; differ = tt; there = tt; others = λ key e. refl }
 
 put_replaced : (key : Key) (row : Row) (rs : Rows) → is_same_row (row_at key rs) row ≡ false →
-    IsReplaced (record { key = key; row = find_row key rs } ∷ []) rs (put_row key row rs)
+    AreChanged (record { key = key; row = find_row key rs } ∷ []) rs (put_row key row rs)
 unfolding IsStrictlySortedBy
 put_replaced key row rs e = record {
   rising = (tt, tt);
-  differ = ((refl, λ is. differs key row rs e (sym (find-put_same key row rs) ∙ is)), tt);
+  differ = ((refl, ap (λ (o : Option Row). is_same_row (row_at key rs) (unwrap_or o first_row)) (find-put_same key row rs) ∙ e), tt);
   there = (some_there (find_row key (put_row key row rs)) row (find-put_same key row rs), tt);
   others = λ other apart. find-put_other other key row rs (λ s. false≢true (sym apart ∙ passes other s));
 }
@@ -126,9 +131,9 @@ put_replaced key row rs e = record {
     passes : (other : Key) → other ≡ key → list_any (λ (f : Former). is_eq (key_cmp other f.key)) (record { key = key; row = find_row key rs } ∷ []) ≡ true
     passes other s = rw (same_of other key s) refl
 
-pub with_replaced : (key : Key) (row : Row) (rs : Rows) → IsReplaced (replaced_by key row rs) rs (with_row key row rs)
-with_replaced key row rs = by_test (is_same_row (row_at key rs) row) refl
+pub made_changed : (key : Key) (row : Row) (rs : Rows) → Rising rs → IsMade rs key row → AreChanged (changed_by key row rs) rs (with_row key row rs)
+made_changed key row rs sorted made = subst (AreChanged (changed_by key row rs) rs) (sym (with_made key row rs sorted made)) (by_test (is_same_row (row_at key rs) row) refl)
   where
-    by_test : (b : Bool) → is_same_row (row_at key rs) row ≡ b → IsReplaced (cond b [] (record { key = key; row = find_row key rs } ∷ [])) rs (cond b rs (put_row key row rs))
-    by_test true e = nothing_replaced rs
+    by_test : (b : Bool) → is_same_row (row_at key rs) row ≡ b → AreChanged (cond b [] (record { key = key; row = find_row key rs } ∷ [])) rs (cond b rs (put_row key row rs))
+    by_test true e = nothing_changed rs
     by_test false e = put_replaced key row rs e

@@ -1,12 +1,11 @@
 -- Rows that are put one after the other, in the order of their keys: each goes to its place, and back.
-use Rattle.std.proofs.Common.{◌≡◌, ◌≢◌, ℕ, List, [], ◌∷◌, ◌++◌, Bool, true, false, cond, ◌||◌, map, Option, Some, None, refl, sym, ap, ◌∙◌, arith, subst}
+use Rattle.std.proofs.Common.{◌≡◌, ◌≢◌, List, [], ◌∷◌, ◌++◌, Bool, true, false, cond, ◌||◌, map, Option, Some, None, unwrap_or, refl, sym, ap, ◌∙◌, subst}
 use Rattle.std.specs.Option.{IsSome, is_some}
-use Rattle.std.specs.Ordering.{match_ordering, is_eq, ordering_reverse}
-use Rattle.std.specs.declared.cmp.Ordering.TheVariants.{Less, Greater}
+use Rattle.std.specs.Ordering.{is_eq, ordering_reverse}
+use Rattle.std.specs.declared.cmp.Ordering.TheVariants.{Greater}
 use Rattle.std.proofs.lemmas.Cmp.{nat_list_cmp_total}
 use Rattle.std.specs.List.{AllByRecursion, list_any, flat_map}
-use Rattle.std.specs.Map.{keys_of, remove_entry}
-use Rattle.std.specs.BTreeMap.{is_at}
+use Rattle.std.specs.Map.{keys_of}
 use Rattle.std.specs.List.Sorted.{IsStrictlySortedBy}
 use Rattle.std.proofs.lemmas.Bool.{false≢true}
 use Rattle.std.proofs.lemmas.List.Concat.{flat_map-cons}
@@ -14,10 +13,12 @@ use Rattle.std.proofs.Common.{append_assoc}
 use Rattle.std.proofs.lemmas.List.{map-append}
 use Rattle.hk_copy.specs.Batches.{key_cmp}
 use Rattle.hk_key.specs.declared.row.Row.{Row}
-use Rattle.hk_node.specs.declared.replaced.Former.{Former}
-use Rattle.hk_node.specs.Rows.{Rows, find_row, put_row}
-use Rattle.hk_node.specs.Replaced.{IsReplaced, row_given_back, rows_given_back}
-use Rattle.hk_node.proofs.Order.{Key, Lt, Rising, same_key, same_not, same_of, key_itself, find_here, find_next, lt_ne, lt_ne_back, cases_key}
+use Rattle.hk_key.specs.Table.{first_row}
+use Rattle.hk_key.specs.Same.{is_same_row}
+use Rattle.hk_node.specs.declared.report.Former.{Former}
+use Rattle.hk_node.specs.Rows.{Rows, find_row, row_at, put_row}
+use Rattle.hk_node.specs.Report.{AreChanged, row_given_back, rows_given_back}
+use Rattle.hk_node.proofs.Order.{Key, Lt, Rising, same_key, same_not, key_itself, find_here, find_next, lt_ne_back}
 
 abbrev pub Entry : Type 0
 Entry = Key × Row
@@ -148,7 +149,7 @@ each_self [] = refl
 each_self (r ∷ rows) = ap (λ l. r ∷ l) (each_self rows)
 
 -- ---- the rows that were there, in the places of those that a step made
-module _ (step : Entry → Row) (same : Entry → Bool) (told : (r : Entry) → same r ≡ true → step r ≡ r.1) (changed : (r : Entry) → same r ≡ false → step r ≢ r.1) where
+module _ (step : Entry → Row) (same : Entry → Bool) (told : (r : Entry) → same r ≡ true → step r ≡ r.1) (changed : (r : Entry) → same r ≡ false → is_same_row r.1 (step r) ≡ false) where
   abbrev pub stepped : Rows → Rows
   stepped rows = map (λ r. (r.0, step r)) rows
 
@@ -163,14 +164,19 @@ module _ (step : Entry → Row) (same : Entry → Bool) (told : (r : Entry) → 
 
   -- what is so of a former row at its key
   abbrev IsFormer : Rows → Former → Type 0
-  IsFormer rows f = (find_row f.key rows ≡ f.row) × (find_row f.key (stepped rows) ≢ f.row) × IsSome (find_row f.key (stepped rows))
+  IsFormer rows f = (find_row f.key rows ≡ f.row) × (is_same_row (row_at f.key rows) (row_at f.key (stepped rows)) ≡ false) × IsSome (find_row f.key (stepped rows))
 
   lifted : (h : Entry) (rows : Rows) (former : List Former) → Above h.0 former → AllByRecursion (IsFormer rows) former → AllByRecursion (IsFormer (h ∷ rows)) former
   lifted h rows [] above all = tt
   lifted h rows (f ∷ former) above all =
       let ne : f.key ≢ h.0 = lt_ne_back h.0 f.key above.0 in
       let past = find_next f.key (h.0, step h) (stepped rows) ne in (
-        (find_next f.key h rows ne ∙ all.0.0, (λ is. all.0.1 (sym past ∙ is)), subst IsSome (sym past) all.0.2),
+        (
+          find_next f.key h rows ne ∙ all.0.0,
+          subst (λ (o : Option Row). is_same_row (unwrap_or o first_row) (row_at f.key (stepped (h ∷ rows))) ≡ false) (sym (find_next f.key h rows ne))
+              (subst (λ (o : Option Row). is_same_row (row_at f.key rows) (unwrap_or o first_row) ≡ false) (sym past) all.0.1),
+          subst IsSome (sym past) all.0.2,
+        ),
         lifted h rows former above.1 all.1,
       )
 
@@ -186,21 +192,23 @@ module _ (step : Entry → Row) (same : Entry → Bool) (told : (r : Entry) → 
           AllByRecursion (IsFormer (r ∷ rows)) (cond b (formers rows) (record { key = r.0; row = Some r.1 } ∷ formers rows))
       by_test true e more = more
       by_test false e more = (
-        (find_here r.0 r rows refl, (λ is. changed r e (one_of (step r) r.1 (sym here ∙ is))), ap is_some here),
+        (
+          find_here r.0 r rows refl,
+          subst (λ (o : Option Row). is_same_row (unwrap_or o first_row) (row_at r.0 (stepped (r ∷ rows))) ≡ false) (sym (find_here r.0 r rows refl))
+              (subst (λ (o : Option Row). is_same_row r.1 (unwrap_or o first_row) ≡ false) (sym here) (changed r e)),
+          ap is_some here,
+        ),
         more,
       )
-        where
-          one_of : (x y : Row) → Some x ≡ Some y → x ≡ y
-          one_of x y e = grind arith
 
   each_of : (P Q : Former → Type 0) → ((f : Former) → P f → Q f) → (fs : List Former) → AllByRecursion P fs → AllByRecursion Q fs
   each_of P Q h [] all = tt
   each_of P Q h (f ∷ fs) all = (h f all.0, each_of P Q h fs all.1)
 
-  pub formers_replaced : (rows : Rows) → Rising rows → IsReplaced (formers rows) rows (stepped rows)
+  pub formers_replaced : (rows : Rows) → Rising rows → AreChanged (formers rows) rows (stepped rows)
   formers_replaced rows rising = record {
     rising = list_rises step (λ r. r.1) same rows rising;
-    differ = each_of (IsFormer rows) (λ f. (find_row f.key rows ≡ f.row) × (find_row f.key (stepped rows) ≢ f.row)) (λ f h. (h.0, h.1)) (formers rows) (formers_are rows rising);
+    differ = each_of (IsFormer rows) (λ f. (find_row f.key rows ≡ f.row) × (is_same_row (row_at f.key rows) (row_at f.key (stepped rows)) ≡ false)) (λ f h. (h.0, h.1)) (formers rows) (formers_are rows rising);
     there = each_of (IsFormer rows) (λ f. IsSome (find_row f.key (stepped rows))) (λ f h. h.2) (formers rows) (formers_are rows rising);
     others = λ key none. others_given step (λ r. r.1) same told rows key none ∙ ap (find_row key) (each_self rows);
   }

@@ -18,6 +18,7 @@ use Rattle.hk_node.specs.Stepped.{Stepped}
 use Rattle.hk_node.specs.Calls.{kind_of, register_in}
 use Rattle.hk_node.specs.Steps.{viewed}
 use Rattle.hk_node.specs.Laws.{LettersInRange}
+use Rattle.hk_node.proofs.Leaving.{act_leaves}
 use Rattle.hk_node.proofs.Parts.{next_is_next}
 use Rattle.hk_node.proofs.Keeps.{begun}
 use Rattle.hk_node.proofs.Acts.{SendsWithin, Acts, begin_sends}
@@ -56,7 +57,7 @@ ways node named = record {
   quiet = λ clock granted. tt;
   sends = λ body to within. letters_within node body to within;
   row = λ key done names acts. sent_within node key done acts.sends;
-  takes = λ cursor done items none unready. tt;
+  takes = λ cursor done items none unready within. tt;
   installs = λ view none acts. all_parts IsLetter (λ r. sent (record node { view = Some view }) r.0 (viewed (record node { view = Some view }) r).row (viewed (record node { view = Some view }) r).out.send) node.rows
       (each_view (record node { view = Some view }) node.rows acts);
 }
@@ -66,7 +67,8 @@ call_ways node call key op = record {
   answered = λ answer. tt;
   begins = λ s ready valid next. sent_within node key (begun node call op (row_at key node.rows) s)
       (begin_sends key node.id (members_of node) (record { call = call; answer = (act op (register_in (row_at key node.rows)) (tag_of s)).answer }) s (kind_of op)
-      (act op (register_in (row_at key node.rows)) (tag_of s)).register.content (next_is_next (kind_of op) (row_at key node.rows).stamp node.id s next).within);
+      (act op (register_in (row_at key node.rows)) (tag_of s)).register.content (next_is_next (kind_of op) (row_at key node.rows).stamp node.id s next).within
+      (act_leaves op (row_at key node.rows).content (tag_of (row_at key node.rows).stamp) (tag_of s)));
 }
 
 pub letters_in_range : LettersInRange

@@ -1,15 +1,14 @@
 -- The letters that a row sends: to whom, and that they go by no more of the node than its number and its view.
-use Rattle.std.proofs.Common.{◌≡◌, ℕ, List, [], ◌∷◌, Bool, true, false, cond, not, ◌&&◌, ◌||◌, ◌==◌, Option, Some, None, refl, sym, ap, ◌∙◌}
+use Rattle.std.proofs.Common.{◌≡◌, ℕ, List, [], ◌∷◌, Bool, true, false, cond, not, ◌&&◌, ◌||◌, ◌==◌, Option, Some, None, refl, ap}
 use Rattle.std.specs.List.{filter}
 use Rattle.hk_base.specs.declared.stamp.NodeId.{NodeId}
 use Rattle.hk_base.specs.declared.view.View.{View}
-use Rattle.hk_base.specs.declared.letter.Body.{Body}
 use Rattle.hk_key.specs.declared.row.Row.{Row}
 use Rattle.hk_key.specs.declared.out.Aim.{Aim}
 use Rattle.hk_key.specs.declared.out.Aim.TheVariants.{One, Others, NotAcked}
 use Rattle.hk_key.specs.declared.out.Sending.{Sending}
 use Rattle.hk_key.specs.Notes.{is_noted}
-use Rattle.hk_node.specs.Node.{NodeState, epoch_in, members_in, members_of, others}
+use Rattle.hk_node.specs.Node.{NodeState, others}
 use Rattle.hk_node.specs.Sends.{letters_to, body_of, notes_in, addressees, at_view, is_aimed, sent}
 
 -- all that are aimed at are the others

@@ -1,24 +1,26 @@
 -- A node that takes a batch of copied rows.
-use Rattle.std.proofs.Common.{◌≡◌, ◌≢◌, List, [], Bool, true, false, not, ◌&&◌, if◌then◌else◌, Option, None, All, refl, sym, ap, ◌∙◌, subst}
+use Rattle.std.proofs.Common.{◌≡◌, ◌≢◌, List, [], Bool, true, false, not, ◌&&◌, if◌then◌else◌, Option, None, refl, sym, ap, ◌∙◌, subst}
 use Rattle.std.specs.Option.{option_or}
-use Rattle.std.proofs.lemmas.List.Elements.{recursion_from_All}
 use Rattle.hk_base.specs.declared.letter.CopyItem.{CopyItem}
-use Rattle.hk_base.specs.Range.{IsWithin}
+use Rattle.hk_base.specs.Range.{IsBatch}
 use Rattle.hk_copy.specs.Batches.{last_key}
 use Rattle.hk_node.specs.declared.out.NodeOut.{NodeOut}
-use Rattle.hk_node.specs.declared.replaced.Former.{Former}
-use Rattle.hk_node.specs.declared.replaced.Replaced.{Replaced}
-use Rattle.hk_node.specs.declared.replaced.Beside.TheVariants.{Cursor}
+use Rattle.hk_node.specs.declared.report.Former.{Former}
+use Rattle.hk_node.specs.declared.report.Report.{Report}
+use Rattle.hk_node.specs.declared.report.Beside.{Beside}
+use Rattle.hk_node.specs.declared.report.Beside.TheVariants.{Cursor}
 use Rattle.hk_node.specs.Rows.{Rows}
-use Rattle.hk_node.specs.Node.{NodeState}
+use Rattle.hk_node.specs.Node.{NodeState, epoch_of}
 use Rattle.hk_node.specs.Stepped.{Stepped, idle}
 use Rattle.hk_node.specs.Copies.{merged, is_next, takes_copy}
 use Rattle.hk_node.specs.Copying.{IsMerge, put_rows, former_of}
-use Rattle.hk_node.specs.Replaced.{IsReplaced, rows_given_back, given_back}
+use Rattle.hk_node.specs.Report.{AreChanged, rows_given_back, given_back}
 use Rattle.hk_node.specs.Outs.{IsOutOf}
 use Rattle.hk_node.specs.Sound.{IsNode}
 use Rattle.hk_node.proofs.Order.{Key}
-use Rattle.hk_node.proofs.KeepsMore.{takes_copy_kept}
+use Rattle.hk_node.proofs.Leaving.{batch_items}
+use Rattle.hk_node.proofs.KeepsMore.{takes_copy_kept, rising_merged}
+use Rattle.hk_node.proofs.Reports.{reported_ready}
 use Rattle.hk_node.proofs.Laid.{former_undone, laid_replaced}
 
 -- the node with a batch taken
@@ -43,39 +45,43 @@ takes_is node after done items ready next = ap (λ (b : Bool). if not b && is_ne
     ∙ ap (λ (t : Bool). if t then taken node done items else idle node) next
 
 pub taken_kept : (node : NodeState) (after : Option Key) (done : Bool) (items : List CopyItem) (changes rows : Rows) (cursor : Option Key) → IsNode node → node.view ≢ None →
-    node.ready ≡ false → is_next after node.cursor ≡ true → All (λ item. IsWithin item.stamp) items → IsMerge items node.rows changes →
+    node.ready ≡ false → is_next after node.cursor ≡ true → IsBatch items → IsMerge items node.rows changes →
     cursor ≡ option_or (last_key items) node.cursor → rows ≡ put_rows changes node.rows → IsNode (record node { ready = done; cursor = cursor; rows = rows })
-taken_kept node after done items changes rows cursor ok seen ready next within merge moved put =
+taken_kept node after done items changes rows cursor ok seen ready next batch merge moved put =
     subst (λ (k : Option Key). IsNode (record node { ready = done; cursor = k; rows = rows })) (sym moved)
     (subst (λ (l : Rows). IsNode (record node { ready = done; cursor = option_or (last_key items) node.cursor; rows = l })) (sym (put ∙ merge.same))
     (subst (λ (s : Stepped). IsNode s.node) (takes_is node after done items ready next)
-    (takes_copy_kept node after done items seen (recursion_from_All (λ item. IsWithin item.stamp) items within) ok)))
+    (takes_copy_kept node after done items seen (batch_items items batch) ok)))
 
 out_of_taken : (node : NodeState) (done : Bool) (items : List CopyItem) (changes : Rows) (out : NodeOut) → IsNode node → node.ready ≡ false → IsMerge items node.rows changes →
-    out.letters ≡ [] → out.replies ≡ [] → out.installed ≡ None → out.replaced.beside ≡ Cursor node.cursor → out.replaced.rows ≡ former_of changes node.rows → IsOutOf out node (taken node done items)
-out_of_taken node done items changes out ok ready merge letters replies installed beside rows = record {
+    out.letters ≡ [] → out.replies ≡ [] → out.installed ≡ None → out.beside ≡ Cursor node.cursor →
+    out.report ≡ record { epoch = epoch_of node; readied = done; rows = former_of changes node.rows } → IsOutOf out node (taken node done items)
+out_of_taken node done items changes out ok ready merge letters replies installed beside reports = record {
   letters = letters;
   replies = replies;
   installed = installed;
-  replaced = subst (λ (f : List Former). IsReplaced f node.rows (merged items node.rows)) (sym rows)
-      (subst (λ (l : Rows). IsReplaced (former_of changes node.rows) node.rows l) merge.same (laid_replaced changes node.rows merge.rising merge.differ));
-  undone = back out.replaced beside rows;
+  reported = reported_ready node (with_copy node done items) (former_of changes node.rows) out.report ready (rising_merged items node.rows ok.ordered) changed reports;
+  changed = subst (λ (r : Report). AreChanged r.rows node.rows (merged items node.rows)) (sym reports) changed;
+  undone = back out.report.rows out.beside beside (ap (λ (r : Report). r.rows) reports);
 }
   where
+    changed : AreChanged (former_of changes node.rows) node.rows (merged items node.rows)
+    changed = subst (λ (l : Rows). AreChanged (former_of changes node.rows) node.rows l) merge.same (laid_replaced changes node.rows merge.rising merge.differ)
+
     undone : rows_given_back (former_of changes node.rows) (merged items node.rows) ≡ node.rows
     undone = ap (rows_given_back (former_of changes node.rows)) (sym merge.same) ∙ former_undone changes node.rows ok.ordered
 
-    back : (r : Replaced) → r.beside ≡ Cursor node.cursor → r.rows ≡ former_of changes node.rows → given_back r (with_copy node done items) ≡ node
-    back r b w = rw (b, w) (ap (λ (l : Rows). record node { ready = false; rows = l }) undone ∙ ap (λ (t : Bool). record node { ready = t }) (sym ready))
+    back : (f : List Former) (b : Beside) → b ≡ Cursor node.cursor → f ≡ former_of changes node.rows → given_back f b (with_copy node done items) ≡ node
+    back f b is rows = rw (is, rows) (ap (λ (l : Rows). record node { ready = false; rows = l }) undone ∙ ap (λ (t : Bool). record node { ready = t }) (sym ready))
 
 pub taken_told : (inside node : NodeState) (after : Option Key) (done : Bool) (items : List CopyItem) (changes : Rows) (out : NodeOut) → inside ≡ node → IsNode inside →
     inside.ready ≡ false → is_next after inside.cursor ≡ true → IsMerge items inside.rows changes →
-    out.letters ≡ [] → out.replies ≡ [] → out.installed ≡ None → out.replaced.beside ≡ Cursor inside.cursor → out.replaced.rows ≡ former_of changes inside.rows →
-    IsOutOf out node (takes_copy node after done items)
-taken_told inside node after done items changes out same ok ready next merge letters replies installed beside rows =
+    out.letters ≡ [] → out.replies ≡ [] → out.installed ≡ None → out.beside ≡ Cursor inside.cursor →
+    out.report ≡ record { epoch = epoch_of inside; readied = done; rows = former_of changes inside.rows } → IsOutOf out node (takes_copy node after done items)
+taken_told inside node after done items changes out same ok ready next merge letters replies installed beside reports =
     subst (λ (n : NodeState). IsOutOf out n (takes_copy n after done items)) same
     (subst (λ (s : Stepped). IsOutOf out inside s) (sym (takes_is inside after done items ready next))
-    (out_of_taken inside done items changes out ok ready merge letters replies installed beside rows))
+    (out_of_taken inside done items changes out ok ready merge letters replies installed beside reports))
 
 pub seen_inside : (inside node : NodeState) → inside ≡ node → node.view ≢ None → inside.view ≢ None
 seen_inside inside node same seen none = seen (sym (ap (λ (n : NodeState). n.view) same) ∙ none)

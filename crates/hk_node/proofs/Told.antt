@@ -57,7 +57,7 @@ told_were_waiting node event ok within other = by_event (λ stepped. AllByRecurs
   quiet = λ clock granted. tt;
   sends = λ body to w. tt;
   row = λ key done names acts. told_waited node.rows key (row_at key node.rows) done acts refl;
-  takes = λ cursor done items none unready. tt;
+  takes = λ cursor done items none unready within. tt;
   installs = λ view none acts. all_parts (Waited node.rows) (λ r. told_of r.0 (viewed (record node { view = Some view }) r).out.reply) node.rows
       (each_view (record node { view = Some view }) node.rows node.rows acts (rows_found node.rows ok.ordered));
 })

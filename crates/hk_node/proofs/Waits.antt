@@ -1,7 +1,6 @@
 -- A call waits until it is answered.
-use Rattle.std.proofs.Common.{◌≡◌, ◌≢◌, ◌⊎◌, inl, inr, ℕ, List, [], ◌∷◌, true, Option, Some, None, IfSome, unwrap_or, refl, sym, ap, ◌∙◌, subst, ⊎_elim}
-use Rattle.std.specs.Option.{IsSomeAnd, option_map, option_eq}
-use Rattle.std.proofs.lemmas.Bool.{false≢true}
+use Rattle.std.proofs.Common.{◌≡◌, ◌≢◌, ◌⊎◌, inl, inr, ℕ, List, [], ◌∷◌, Option, Some, None, IfSome, unwrap_or, refl, sym, ap, ◌∙◌, subst, ⊎_elim}
+use Rattle.std.specs.Option.{IsSomeAnd, option_map}
 use Rattle.std.proofs.lemmas.Option.{none-some}
 use Rattle.hk_base.specs.declared.stamp.Stamp.{Stamp}
 use Rattle.hk_base.specs.declared.call.CallNo.{CallNo}
@@ -15,24 +14,22 @@ use Rattle.hk_base.specs.Register.{act}
 use Rattle.hk_base.specs.Stamp.{tag_of}
 use Rattle.hk_key.specs.declared.row.Pending.{Pending}
 use Rattle.hk_key.specs.declared.row.Row.{Row}
-use Rattle.hk_key.specs.Same.{is_same_row, is_same_wait}
 use Rattle.hk_key.specs.Sound.{Holds, Waits, IsSound}
 use Rattle.hk_key.specs.Answered.{IsToldFor, GoesOnOrIsAnswered}
 use Rattle.hk_key.specs.Table.{Done, first_row, on_view, unnoted}
-use Rattle.hk_key.proofs.SameNotes.{parts}
 use Rattle.hk_key.proofs.Waiting.{begin_answers_or_waits}
 use Rattle.hk_node.specs.declared.event.NodeEvent.TheVariants.{Call}
 use Rattle.hk_node.specs.Rows.{find_row, row_at, with_row}
 use Rattle.hk_node.specs.Node.{NodeState, members_of}
 use Rattle.hk_node.specs.Stepped.{Stepped, row_step, told_of}
-use Rattle.hk_node.specs.Calls.{kind_of, register_in}
+use Rattle.hk_node.specs.Calls.{kind_of, next_stamp, register_in}
 use Rattle.hk_node.specs.Steps.{installed_in}
 use Rattle.hk_node.specs.Sound.{IsNode}
 use Rattle.hk_node.specs.Laws.{key_of, Tells, IsWaiting, IsToldAt, CallsWaitOrAreAnswered, WaitingIsUntold, IsAnsweredAlone, HasBegun, CallsAreTaken}
-use Rattle.hk_node.proofs.Order.{cases_key, row-with_other, row-with_same}
+use Rattle.hk_node.proofs.Order.{cases_key, row-with_other, row-with_made, row-with_touched}
 use Rattle.hk_node.proofs.Keeps.{begun, sound_at, none_pending_at}
-use Rattle.hk_node.proofs.Acts.{Acts, view_acts}
-use Rattle.hk_node.proofs.Stamps.{row_mapped}
+use Rattle.hk_node.proofs.Acts.{Acts, acts_make, view_acts}
+use Rattle.hk_node.proofs.Stamps.{row_mapped, begun_touched}
 use Rattle.hk_node.proofs.Told.{IsSilentAt, tells_row, tells_among, silent_other, silent_among}
 use Rattle.hk_node.proofs.Ways.{CallWays, Ways, by_call, by_event}
 
@@ -88,7 +85,7 @@ module _ (node : NodeState) (ok : IsNode node) (key : List ℕ) (p : Pending) (r
       here e =
           let there = subst (λ (q : List ℕ). Acts q (row_at q node.rows) done) (sym e) acts in
           subst (λ (q : List ℕ). Goes (row_step node q done)) e
-          (stepped_row (row_step node key done) done (row-with_same key done.row node.rows there.same) (tells_row key reply done)
+          (stepped_row (row_step node key done) done (row-with_made key done.row node.rows (acts_make key node.rows done ok.touched there)) (tells_row key reply done)
           (λ none. subst (λ (o : Option Reply). IsSilentAt key (told_of key o)) (sym none) tt) (there.waits p reply pending own))
 
   found : (o : Option Row) → (unwrap_or o first_row).pending ≡ Some p → (row : Row) × ((o ≡ Some row) × (row.pending ≡ Some p))
@@ -111,7 +108,7 @@ module _ (node : NodeState) (ok : IsNode node) (key : List ℕ) (p : Pending) (r
     quiet = λ clock granted. inl (waiting, tt);
     sends = λ body to within. inl (waiting, tt);
     row = λ k done names acts. row_goes k done acts;
-    takes = λ cursor done items none unready. absurd (none-some p (sym (none_pending_at node key ok unready) ∙ pending));
+    takes = λ cursor done items none unready within. absurd (none-some p (sym (none_pending_at node key ok unready) ∙ pending));
     installs = λ view none acts. view_goes view;
   }
 
@@ -141,17 +138,9 @@ calls_wait_or_are_answered node event key p reply ok within pending own = less (
 abbrev one : List ℕ → Answer → CallNo → List (List ℕ × Reply)
 one key answer call = (key, record { call = call; answer = answer }) ∷ []
 
--- a row with a pending update is not the same as one without
-pends_anew : (old new : Row) (P : Pending → Type 0) → old.pending ≡ None → IsSomeAnd new.pending P → is_same_row old new ≡ true → ⊥
-pends_anew old new P none some same = by_pending new.pending some (subst (λ (o : Option Pending). option_eq is_same_wait o new.pending ≡ true) none (parts old new same).pending)
-  where
-    by_pending : (o : Option Pending) → IsSomeAnd o P → option_eq is_same_wait None o ≡ true → ⊥
-    by_pending None some e = some
-    by_pending (Some q) some e = false≢true e
-
-begun_taken : (node : NodeState) (call : CallNo) (key : List ℕ) (op : Op) (s : Stamp) → (row_at key node.rows).pending ≡ None →
+begun_taken : (node : NodeState) (call : CallNo) (key : List ℕ) (op : Op) (s : Stamp) → next_stamp (kind_of op) (row_at key node.rows).stamp node.id ≡ Some s →
     IsAnsweredAlone key call (row_step node key (begun node call op (row_at key node.rows) s)) ⊎ HasBegun (row_step node key (begun node call op (row_at key node.rows) s)) key call
-begun_taken node call key op s none = by_way (begin_answers_or_waits node.id (members_of node) reply s (kind_of op) (act op (register_in (row_at key node.rows)) (tag_of s)).register.content)
+begun_taken node call key op s next = by_way (begin_answers_or_waits node.id (members_of node) reply s (kind_of op) (act op (register_in (row_at key node.rows)) (tag_of s)).register.content)
   where
     reply : Reply
     reply = record { call = call; answer = (act op (register_in (row_at key node.rows)) (tag_of s)).answer }
@@ -172,7 +161,7 @@ begun_taken node call key op s none = by_way (begin_answers_or_waits node.id (me
 
     by_way : GoesOnOrIsAnswered update reply done → IsAnsweredAlone key call (row_step node key done) ⊎ HasBegun (row_step node key done) key call
     by_way (inl on) =
-        let with_same = row-with_same key done.row node.rows (λ same. absurd (pends_anew (row_at key node.rows) done.row (λ q. (q.stamp ≡ s) × (q.reply ≡ Some reply)) none on.update same)) in
+        let with_same = row-with_touched key done.row node.rows (begun_touched node call (row_at key node.rows) op s next) in
         inr (record {
           silent = ap (told_of key) on.silent;
           update = subst (λ (row : Row). IsSomeAnd row.pending (λ q. IsSomeAnd q.reply (λ kept. kept.call ≡ call))) (sym with_same) (of_call done.row.pending on.update);
@@ -182,5 +171,5 @@ begun_taken node call key op s none = by_way (begin_answers_or_waits node.id (me
 pub calls_are_taken : CallsAreTaken
 calls_are_taken node call key op ok = by_call (λ stepped. IsAnsweredAlone key call stepped ⊎ HasBegun stepped key call) node call key op ok (record {
   answered = λ answer. inl (answer, refl);
-  begins = λ s ready valid next. begun_taken node call key op s (idle_row node (row_at key node.rows) valid (sound_at node key ok));
+  begins = λ s ready valid next. begun_taken node call key op s next;
 })

@@ -3,6 +3,7 @@ use Rattle.std.proofs.Common.{◌≡◌, ◌+◌, ℕ, List, [], ◌∷◌, Bool
 use Rattle.std.specs.Option.{option_or}
 use Rattle.std.specs.List.{AllByRecursion}
 use Rattle.std.proofs.lemmas.Bool.{and_parts}
+use Rattle.std.proofs.lemmas.List.Elements.{recursion_from_All}
 use Rattle.hk_base.specs.declared.stamp.Stamp.{Stamp}
 use Rattle.hk_base.specs.declared.stamp.NodeId.{NodeId}
 use Rattle.hk_base.specs.declared.call.CallNo.{CallNo}
@@ -17,7 +18,7 @@ use Rattle.hk_base.specs.declared.letter.CopyItem.{CopyItem}
 use Rattle.hk_base.specs.declared.letter.Letter.{Letter}
 use Rattle.hk_base.specs.declared.letter.Body.{Body}
 use Rattle.hk_base.specs.declared.letter.Body.TheVariants.{Inv, Ack, Val, CopyAsk, CopyGive, LeaseAsk, LeaseGive, Prepare, Promise, Accept, Accepted, Chosen, Activate}
-use Rattle.hk_base.specs.Range.{IsBody, IsLetter}
+use Rattle.hk_base.specs.Range.{IsWithin, IsBody, IsLetter}
 use Rattle.hk_base.specs.Register.{act}
 use Rattle.hk_copy.specs.Batches.{is_nil, last_key}
 use Rattle.hk_key.specs.declared.row.Row.{Row}
@@ -80,7 +81,7 @@ pub record Ways (P : Stepped → Type 0) (node : NodeState) (named : Option (Lis
   -- the row of the key makes a step
   pub row : (key : List ℕ) (done : Done) → named ≡ Some key → Acts key (row_at key node.rows) done → P (row_step node key done)
   -- rows are copied
-  pub takes : (cursor : Option (List ℕ)) (done : Bool) (items : List CopyItem) → named ≡ None → node.ready ≡ false →
+  pub takes : (cursor : Option (List ℕ)) (done : Bool) (items : List CopyItem) → named ≡ None → node.ready ≡ false → AllByRecursion (λ item. IsWithin item.stamp) items →
       P (record { node = record node { ready = done; cursor = cursor; rows = merged items node.rows }; letters = []; told = []; installed = None })
   -- all rows make the step of a view
   pub installs : (view : View) → named ≡ None → AllByRecursion (λ r. Acts r.0 r.1 (viewed (record node { view = Some view }) r)) node.rows →
@@ -111,15 +112,16 @@ module _ (P : Stepped → Type 0) (node : NodeState) (ok : IsNode node) where
 
   by_body : (body : Body) (from : NodeId) → IsBody body → Ways P node (key_in body) → P (received body node from)
   by_body (Inv key s kind content) from within ways = ways.row key (on_inv (row_at key node.rows) from s kind content) refl
-      (inv_acts key node.id (members_of node) (row_at key node.rows) (sound_at node key ok) from s kind content within)
+      (inv_acts key node.id (members_of node) (row_at key node.rows) (sound_at node key ok) from s kind content within.0 within.1)
   by_body (Ack key s top) from within ways = by_found (Some key) key (λ row. on_ack node.id (members_of node) row from s top) ways refl
       (λ row sound. ack_acts key node.id (members_of node) row sound from s top)
   by_body (Val key s) from within ways = by_found (Some key) key (λ row. still (on_val row s)) ways refl (λ row sound. val_acts key node.id (members_of node) row sound s)
   by_body (CopyAsk after room) from within ways = by_if P node.ready node _ (ways.quiet node.clock node.granted)
       (λ t. ways.sends (CopyGive after (is_nil (batch_behind node after room).left) (batch_behind node after room).taken) (from ∷ []) (batch_within node after room ok within))
   by_body (CopyGive after done items) from within ways = by_if P (not node.ready && is_next after node.cursor) node _ (ways.quiet node.clock node.granted)
-      (λ t. ways.takes (option_or (last_key items) node.cursor) done items refl (not_is node.ready (and_parts (not node.ready) (is_next after node.cursor) t).0))
-  by_body LeaseAsk from within ways = ways.quiet node.clock node.granted
+      (λ t. ways.takes (option_or (last_key items) node.cursor) done items refl (not_is node.ready (and_parts (not node.ready) (is_next after node.cursor) t).0)
+      (recursion_from_All (λ item. IsWithin item.stamp) items within.within))
+  by_body (LeaseAsk asked) from within ways = ways.quiet node.clock node.granted
   by_body (LeaseGive end) from within ways = ways.quiet node.clock node.granted
   by_body (Prepare ballot) from within ways = ways.quiet node.clock node.granted
   by_body (Promise ballot vote) from within ways = ways.quiet node.clock node.granted

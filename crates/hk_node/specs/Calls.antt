@@ -9,7 +9,7 @@ use Rattle.hk_base.specs.declared.call.CallNo.{CallNo}
 use Rattle.hk_base.specs.declared.call.State.{State}
 use Rattle.hk_base.specs.declared.call.State.TheVariants.{Valid, Invalid, Write, Replay, Trans}
 use Rattle.hk_base.specs.declared.call.Op.{Op}
-use Rattle.hk_base.specs.declared.call.Op.TheVariants.{Read, Write as WriteOp, Cas, Incr, Decr}
+use Rattle.hk_base.specs.declared.call.Op.TheVariants.{Read, Write as WriteOp, Cas, Incr, Decr, Add, Replace, Delete}
 use Rattle.hk_base.specs.declared.call.Answer.{Answer}
 use Rattle.hk_base.specs.declared.call.Answer.TheVariants.{Busy, Exhausted}
 use Rattle.hk_base.specs.declared.call.Why.TheVariants.{Lease, Row as OfRow}
@@ -21,13 +21,16 @@ use Rattle.hk_node.specs.Rows.{row_at}
 use Rattle.hk_node.specs.Node.{NodeState, members_of}
 use Rattle.hk_node.specs.Stepped.{Stepped, row_step}
 
--- Only a write is begun whatever the key holds. A cas rests on what it found, also where the tag was right.
+-- Only a write is begun whatever the key holds. Every other update rests on what it found, a cas too whose tag was right.
 abbrev pub kind_of : Op → Kind
 kind_of Read = Rmw
 kind_of (WriteOp content) = Plain
 kind_of (Cas tag content) = Rmw
 kind_of (Incr by) = Rmw
 kind_of (Decr by) = Rmw
+kind_of (Add content) = Rmw
+kind_of (Replace content) = Rmw
+kind_of Delete = Rmw
 
 -- the next stamp of an update of the kind, at the node: a write steps the version by two, a read-modify-write by one
 abbrev pub next_stamp : Kind → Stamp → NodeId → Option Stamp

@@ -20,7 +20,8 @@ use Rattle.hk_key.specs.declared.row.Row.{Row}
 use Rattle.hk_key.specs.Answered.{IsToldFor, HadWaiting}
 use Rattle.hk_node.specs.declared.event.NodeEvent.{NodeEvent}
 use Rattle.hk_node.specs.declared.event.NodeEvent.TheVariants.{Call, Receive, Resend, Replay}
-use Rattle.hk_node.specs.Rows.{find_row, row_at}
+use Rattle.hk_node.specs.Rows.{Rows, find_row, row_at, with_row}
+use Rattle.hk_node.specs.Report.{AreChanged, changed_rows}
 use Rattle.hk_node.specs.Node.{NodeState}
 use Rattle.hk_node.specs.Stepped.{Stepped}
 use Rattle.hk_node.specs.Steps.{node_step}
@@ -33,6 +34,15 @@ StepKeepsNode = (node : NodeState) (event : NodeEvent) → IsNode node → IsEve
 -- a node sends only letters that are in range
 abbrev pub LettersInRange : Type 0
 LettersInRange = (node : NodeState) (event : NodeEvent) → IsNode node → IsEvent event → AllByRecursion IsLetter (node_step node event).letters
+
+-- the report of a step has just the rows that it changed
+abbrev pub ReportsAreExact : Type 0
+ReportsAreExact = (node : NodeState) (event : NodeEvent) → IsNode node → IsEvent event →
+    AreChanged (changed_rows node.rows (node_step node event).node.rows) node.rows (node_step node event).node.rows
+
+-- a row that stands there already may be left alone
+abbrev pub SamePutIsIdle : Type 0
+SamePutIsIdle = (key : List ℕ) (rows : Rows) → IsStrictlySortedBy key_cmp (keys_of rows) → with_row key (row_at key rows) rows ≡ rows
 
 abbrev pub key_in : Body → Option (List ℕ)
 key_in (Inv key s kind content) = Some key

@@ -4,10 +4,12 @@ pub mod Sends
 pub mod Stepped
 pub mod Calls
 pub mod Copies
+pub mod Open
+pub mod Index
 pub mod Copying
 pub mod Steps
 pub mod Sound
-pub mod Replaced
+pub mod Report
 pub mod Outs
 pub mod Decided
 pub mod Viewed

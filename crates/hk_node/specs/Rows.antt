@@ -1,11 +1,11 @@
 -- The rows of a node by key, in the order of the keys.
-use Rattle.std.specs.Prelude.{List, ℕ, Option, unwrap_or, if◌then◌else◌}
+use Rattle.std.specs.Prelude.{List, ℕ, Bool, Option, unwrap_or, nat_lt, if◌then◌else◌}
 use Rattle.std.specs.BTreeMap.{insert_entry, is_at}
 use Rattle.std.specs.Map.{lookup}
+use Rattle.hk_base.specs.Stamp.{tag_of}
 use Rattle.hk_copy.specs.Batches.{key_cmp}
 use Rattle.hk_key.specs.declared.row.Row.{Row}
 use Rattle.hk_key.specs.Table.{first_row}
-use Rattle.hk_key.specs.Same.{is_same_row}
 
 abbrev pub Rows : Type 0
 Rows = List (List ℕ × Row)
@@ -20,6 +20,10 @@ row_at key rows = unwrap_or (find_row key rows) first_row
 abbrev pub put_row : List ℕ → Row → Rows → Rows
 put_row key row rows = insert_entry key_cmp rows key row
 
--- with this row at the key; where it is the one that stands there, nothing changes
+-- some update has touched the row: its stamp is above `0.0`
+abbrev pub is_touched : Row → Bool
+is_touched row = nat_lt 0 (tag_of row.stamp)
+
+-- with this row at the key, if an update has touched it
 abbrev pub with_row : List ℕ → Row → Rows → Rows
-with_row key row rows = if is_same_row (row_at key rows) row then rows else put_row key row rows
+with_row key row rows = if is_touched row then put_row key row rows else rows

@@ -1,5 +1,5 @@
 -- What every node keeps, and which events a node may be given.
-use Rattle.std.specs.Prelude.{◌≡◌, ℕ, ◌≤◌, List, [], Bool, true, false, Option, None, IfSome, ⊤}
+use Rattle.std.specs.Prelude.{◌≡◌, ◌≤◌, [], Bool, true, false, None, IfSome, ⊤}
 use Rattle.std.specs.List.{AllByRecursion}
 use Rattle.std.specs.List.Sorted.{IsStrictlySortedBy}
 use Rattle.std.specs.Map.{keys_of}
@@ -11,6 +11,7 @@ use Rattle.hk_copy.specs.Batches.{key_cmp}
 use Rattle.hk_key.specs.Sound.{IsSound}
 use Rattle.hk_node.specs.declared.event.NodeEvent.{NodeEvent}
 use Rattle.hk_node.specs.declared.event.NodeEvent.TheVariants.{Call, Receive, Resend, Replay, AskCopy, Tick, Grant, Install}
+use Rattle.hk_node.specs.Rows.{is_touched}
 use Rattle.hk_node.specs.Node.{NodeState, members_of, is_member}
 
 -- it is a view, and the node is a member of it
@@ -25,6 +26,8 @@ pub record IsNode (node : NodeState) : Type 0 where
   pub unready : node.view ≡ None → node.ready ≡ false
   pub ordered : IsStrictlySortedBy key_cmp (keys_of node.rows)
   pub rows : AllByRecursion (λ r. IsSound node.id (members_of node) r.1) node.rows
+  -- a row that no update has touched is not kept
+  pub touched : AllByRecursion (λ r. is_touched r.1 ≡ true) node.rows
   -- a node that is not ready has no pending update
   pub shadow : node.ready ≡ false → AllByRecursion (λ r. r.1.pending ≡ None) node.rows
   -- clocks begin at 1
@@ -43,3 +46,9 @@ IsEvent (AskCopy from room) = IsRoom room
 IsEvent (Tick now) = now ≤ MAX_TIME
 IsEvent (Grant end) = end ≤ MAX_TIME
 IsEvent (Install view) = IsView view
+
+-- the step of a clock and that of a lease take no memory
+abbrev pub takes_memory : NodeEvent → Bool
+takes_memory (Tick now) = false
+takes_memory (Grant end) = false
+takes_memory event = true

@@ -1,8 +1,7 @@
 -- The step of a node for each event.
-use Rattle.std.specs.Prelude.{ℕ, List, [], ◌∷◌, map, max, Bool, true, false, Option, Some, None, not, nat_lt, ◌&&◌, ◌==◌, if◌then◌else◌}
+use Rattle.std.specs.Prelude.{ℕ, List, map, max, Bool, false, Option, Some, None, nat_lt, ◌&&◌, ◌==◌, if◌then◌else◌}
 use Rattle.std.specs.List.{flat_map}
 use Rattle.hk_base.specs.declared.stamp.NodeId.{NodeId}
-use Rattle.hk_base.specs.declared.stamp.Stamp.{Stamp}
 use Rattle.hk_base.specs.declared.view.View.{View}
 use Rattle.hk_base.specs.declared.letter.Actor.{Actor}
 use Rattle.hk_base.specs.declared.letter.Actor.TheVariants.{Node, Manager}
@@ -13,7 +12,7 @@ use Rattle.hk_key.specs.declared.row.Row.{Row}
 use Rattle.hk_key.specs.Table.{Done, on_inv, on_ack, on_val, on_view, resend, replay, still}
 use Rattle.hk_node.specs.declared.event.NodeEvent.{NodeEvent}
 use Rattle.hk_node.specs.declared.event.NodeEvent.TheVariants.{Call, Receive, Resend, Replay, AskCopy, Tick, Grant, Install}
-use Rattle.hk_node.specs.Rows.{Rows, find_row, row_at}
+use Rattle.hk_node.specs.Rows.{find_row, row_at}
 use Rattle.hk_node.specs.Node.{NodeState, epoch_of, members_of, is_member, is_other}
 use Rattle.hk_node.specs.Sends.{sent}
 use Rattle.hk_node.specs.Stepped.{Stepped, idle, row_step, told_of}
@@ -59,7 +58,7 @@ received (Ack key s top) node from = on_found (find_row key node.rows) node key 
 received (Val key s) node from = on_found (find_row key node.rows) node key (λ row. still (on_val row s))
 received (CopyAsk after room) node from = gives_copy node from after room
 received (CopyGive after done items) node from = takes_copy node after done items
-received LeaseAsk node from = idle node
+received (LeaseAsk asked) node from = idle node
 received (LeaseGive end) node from = idle node
 received (Prepare ballot) node from = idle node
 received (Promise ballot vote) node from = idle node

@@ -1,6 +1,5 @@
 -- What a node that installs a view makes of its rows.
-use Rattle.std.specs.Prelude.{◌≡◌, ℕ, List, [], ◌∷◌, Option, Some, IfSome, if◌then◌else◌}
-use Rattle.std.specs.List.{AllByRecursion, flat_map}
+use Rattle.std.specs.Prelude.{ℕ, List, [], ◌∷◌, Some, IfSome, if◌then◌else◌}
 use Rattle.hk_base.specs.declared.stamp.NodeId.{NodeId}
 use Rattle.hk_base.specs.declared.view.View.{View}
 use Rattle.hk_base.specs.declared.call.Reply.{Reply}
@@ -9,8 +8,7 @@ use Rattle.hk_base.specs.Range.{IsWithin}
 use Rattle.hk_key.specs.declared.row.Row.{Row}
 use Rattle.hk_key.specs.Same.{is_same_row}
 use Rattle.hk_key.specs.Table.{Done, on_view}
-use Rattle.hk_node.specs.declared.replaced.Former.{Former}
-use Rattle.hk_node.specs.Rows.{Rows}
+use Rattle.hk_node.specs.declared.report.Former.{Former}
 use Rattle.hk_node.specs.Sends.{at_view, sent}
 use Rattle.hk_node.specs.Stepped.{told_of}
 

@@ -22,7 +22,7 @@ pub(crate) enum Decision {
     Begin {
         stamp: Stamp,
         kind: Kind,
-        content: Content,
+        content: Option<Content>,
         answer: Answer,
     },
 }
@@ -33,6 +33,7 @@ fn kind_of(op: &Op) -> Kind
     match op {
         Op::Write(_) => Kind::Write,
         Op::Read | Op::Cas { .. } | Op::Incr(_) | Op::Decr(_) => Kind::Rmw,
+        Op::Add(_) | Op::Replace(_) | Op::Delete => Kind::Rmw,
     }
 }
 
@@ -61,7 +62,7 @@ fn decide_valid(alloc: Global, id: NodeId, op: &Op, row: &Row) -> Result<Decisio
     requires { IsWithin row.now.stamp }
     ensures step { IfOk result (λ decision. (node : NodeState) (call : CallNo) (key : List ℕ) → node.id ≡ id →
         decided decision node call key ≡ at_turn (act op.now (register_in row.now) 0).changed node call key op.now row.now) }
-    ensures fit { IfOk result IsFit }
+    ensures fit { IfOk result (IsFit row.now) }
 {
     match turn_row(alloc, op, row)? {
         Turn::Stay(answer) => Ok(Decision::Now(answer)),
@@ -85,7 +86,7 @@ pub(crate) fn decide(alloc: Global, id: NodeId, op: &Op, row: &Row) -> Result<De
     requires { IsWithin row.now.stamp }
     ensures step { IfOk result (λ decision. (node : NodeState) (call : CallNo) (key : List ℕ) → node.id ≡ id →
         decided decision node call key ≡ at_state row.now.state node call key op.now row.now) }
-    ensures fit { IfOk result IsFit }
+    ensures fit { IfOk result (IsFit row.now) }
 {
     match row.state {
         State::Valid => decide_valid(alloc, id, op, row),

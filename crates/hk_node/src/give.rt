@@ -3,11 +3,12 @@
 ghost use Rattle.std.specs.Prelude.{◌≡◌, ◌∷◌, [], Some, None, IsSome, IfOk, OnOk, OnErr, map};
 ghost use Rattle.std.specs.List.{AllByRecursion};
 ghost use Rattle.std.specs.List.Sorted.{IsStrictlySortedBy};
+ghost use Rattle.std.specs.Map.{keys_of};
 ghost use Rattle.hk_copy.specs.Batches.{key_cmp};
 ghost use Rattle.hk_node.specs.Rows.{find_row, put_row, with_row};
-ghost use Rattle.hk_node.specs.Replaced.{row_given_back, rows_given_back, replaced_by};
+ghost use Rattle.hk_node.specs.Report.{IsMade, row_given_back, rows_given_back, changed_by};
 
-use crate::replaced::{Former, FormerRows};
+use crate::report::{Former, FormerRows};
 use hk_base::{Key, Memory};
 use hk_key::Row;
 use std::alloc::Global;
@@ -71,15 +72,17 @@ fn add_row(
     Ok(former)
 }
 
-/// Puts a row at its key, where the same does not stand there. What it took the place of is given.
+/// Puts a row that a step made at its key, where the same does not stand there. What it took the place of is given.
 pub(crate) fn put_row(
     rows: &mut BTreeMap<Key, Row>,
     alloc: Global,
     key: &Key,
     row: Row,
 ) -> Result<FormerRows, Memory>
+    requires ordered { IsStrictlySortedBy key_cmp (keys_of rows.old.entries) }
+    requires made { IsMade rows.old.entries key.now row }
     ensures put { OnOk result (rows.new.entries ≡ with_row key.now row rows.old.entries) }
-    ensures former { IfOk result (λ former. former ≡ replaced_by key.now row rows.old.entries) }
+    ensures former { IfOk result (λ former. former ≡ changed_by key.now row rows.old.entries) }
     ensures err { OnErr result (rows.new.entries ≡ rows.old.entries) }
 {
     match rows.get(key) {

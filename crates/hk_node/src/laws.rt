@@ -1,6 +1,6 @@
 //! What holds of every step of a node.
 
-ghost use Rattle.hk_node.specs.Laws.{StepKeepsNode, LettersInRange, ChangesOneRow, StampsNeverFall, BeginRaises, CallsAreTaken, CallsWaitOrAreAnswered, WaitingIsUntold, ToldWereWaiting, ToldInOrder};
+ghost use Rattle.hk_node.specs.Laws.{ReportsAreExact, SamePutIsIdle, StepKeepsNode, LettersInRange, ChangesOneRow, StampsNeverFall, BeginRaises, CallsAreTaken, CallsWaitOrAreAnswered, WaitingIsUntold, ToldWereWaiting, ToldInOrder};
 
 /// A step keeps what every node keeps, and sends only letters that are in range; an event that names a key changes no
 /// other row; and the stamp of a row never falls.
@@ -9,6 +9,13 @@ pub fn steps_keep_nodes()
     ensures letters { LettersInRange }
     ensures one_row { ChangesOneRow }
     ensures stamps { StampsNeverFall }
+{}
+
+/// A step reports just the rows that it changed, each with the one before. A row that a step leaves as it was may be left
+/// alone where it stands.
+pub fn reports_are_exact()
+    ensures exact { ReportsAreExact }
+    ensures same { SamePutIsIdle }
 {}
 
 /// Where a call changes its row, it began an update there: the stamp of the row is above the one before.

@@ -6,6 +6,7 @@ ghost use Rattle.std.specs.List.Sorted.{IsStrictlySortedBy};
 ghost use Rattle.hk_copy.specs.Batches.{key_cmp};
 ghost use Rattle.std.specs.Option.{option_copied};
 ghost use Rattle.hk_base.specs.declared.time.TheConstants.{MAX_TIME};
+ghost use Rattle.hk_node.specs.Node.{epoch_in};
 
 mod calls;
 mod copy;
@@ -21,11 +22,11 @@ mod step;
 use crate::event::NodeEvent;
 use crate::give::give_rows_back;
 use crate::out::NodeOut;
-use crate::replaced::{Beside, Replaced};
+use crate::report::{Beside, Report};
 use hk_base::{CallNo, Key, Letter, Memory, NodeId, Op, View};
 use hk_key::Row;
 use std::alloc::Global;
-use std::collections::BTreeMap;
+use std::collections::{BTreeMap, BTreeSet};
 use std::marker::Model;
 
 /// A node of a group that has no managers.
@@ -39,17 +40,31 @@ pub struct Node {
     clock: u64,
     skew: u64,
     rows: BTreeMap<Key, Row>,
+    /// The keys of the rows that are not Valid, and maybe of some that became Valid since.
+    index: BTreeSet<Key>,
+    /// Whether each row that is not Valid is in `index`: in a node that was copied, or whose step was undone, it may not be.
+    whole: bool,
 }
 
 impl Model for Node {
     ghost use Rattle.hk_node.specs.Node.{NodeState};
-    ghost use Rattle.hk_node.specs.Sound.{IsNode};
+    ghost use Rattle.hk_node.specs.Index.{IsIndexed};
 
     ghost Value = { NodeState };
 
     ghost view = { λ n. record { id = n.id; view = n.view; ready = n.ready; cursor = n.cursor; granted = n.granted; clock = n.clock; skew = n.skew; rows = n.rows.entries } };
 
-    ghost invariant = { λ n. IsNode (record { id = n.id; view = n.view; ready = n.ready; cursor = n.cursor; granted = n.granted; clock = n.clock; skew = n.skew; rows = n.rows.entries }) };
+    ghost invariant = { λ n. IsIndexed (record { id = n.id; view = n.view; ready = n.ready; cursor = n.cursor; granted = n.granted; clock = n.clock; skew = n.skew; rows = n.rows.entries }) n.index.keys n.whole };
+}
+
+// The epoch of a view, 0 where there is none.
+fn epoch_in(view: &Option<View>) -> u64
+    ensures { result ≡ epoch_in view.now }
+{
+    match view {
+        Some(view) => view.epoch,
+        None => 0,
+    }
 }
 
 impl Node {
@@ -62,7 +77,7 @@ impl Node {
     ghost use Rattle.hk_node.specs.Copies.{asks_copy};
     ghost use Rattle.hk_node.specs.Steps.{node_step, receives, resent, replayed, installs, ticks, grants};
     ghost use Rattle.hk_node.specs.Sound.{IsNode, IsEvent};
-    ghost use Rattle.hk_node.specs.Replaced.{given_back};
+    ghost use Rattle.hk_node.specs.Report.{given_back};
     ghost use Rattle.hk_node.specs.Outs.{IsOutOf};
 
     /// A founder of the group: it is a member of the first view, is ready, and has a lease that ends at `lease_end`. Clocks
@@ -83,6 +98,8 @@ impl Node {
             clock: 1,
             skew,
             rows: BTreeMap::new(alloc),
+            index: BTreeSet::new(alloc),
+            whole: true,
         }
     }
 
@@ -100,34 +117,21 @@ impl Node {
             clock: 1,
             skew,
             rows: BTreeMap::new(alloc),
+            index: BTreeSet::new(alloc),
+            whole: true,
         }
     }
 
-    /// The clock reads `now`, in milliseconds: it keeps the greater reading. It takes no memory.
-    pub fn tick(&mut self, now: u64)
-        requires { now ≤ MAX_TIME }
-        ensures { self.new ≡ (ticks self.old now).node }
+    /// Undoes a step, by what it reported and what it replaced beside rows: behind that step this makes the node as it was
+    /// before. It takes no memory.
+    pub fn undo(&mut self, report: Report, beside: Beside)
+        requires rising { IsStrictlySortedBy key_cmp (map (λ f. f.key) report.rows) }
+        requires there { AllByRecursion (λ f. IsSome (find_row f.key self.old.rows)) report.rows }
+        requires node { IsNode (given_back report.rows beside self.old) }
+        ensures { self.new ≡ given_back report.rows beside self.old }
     {
-        self.clock = self.clock.max(now);
-    }
-
-    /// A lease is granted that ends at `end`, in milliseconds: the greater end is kept. It takes no memory.
-    pub fn grant(&mut self, end: u64)
-        requires { end ≤ MAX_TIME }
-        ensures { self.new ≡ (grants self.old end).node }
-    {
-        self.granted = self.granted.max(end);
-    }
-
-    /// Gives back what a step replaced: behind that step this makes the node as it was before. It takes no memory.
-    pub fn give_back(&mut self, replaced: Replaced)
-        requires rising { IsStrictlySortedBy key_cmp (map (λ f. f.key) replaced.rows) }
-        requires there { AllByRecursion (λ f. IsSome (find_row f.key self.old.rows)) replaced.rows }
-        requires node { IsNode (given_back replaced self.old) }
-        ensures { self.new ≡ given_back replaced self.old }
-    {
-        let Replaced { rows, beside } = replaced;
-        give_rows_back(&mut self.rows, rows.into_vec());
+        self.whole = false;
+        give_rows_back(&mut self.rows, report.rows.into_vec());
         match beside {
             Beside::Nothing => {}
             Beside::Clock(now) => self.clock = now,
@@ -151,10 +155,7 @@ impl Node {
     pub fn epoch(&self) -> u64
         ensures { result ≡ epoch_of self.now }
     {
-        match &self.view {
-            Some(view) => view.epoch,
-            None => 0,
-        }
+        epoch_in(&self.view)
     }
 
     /// The view that is installed, if any.

@@ -1,6 +1,6 @@
 //! What a step of a node gives.
 
-use crate::replaced::Replaced;
+use crate::report::{Beside, Report};
 use hk_base::{Letters, Replies};
 
 /// What a step gives to whoever makes it.
@@ -12,6 +12,8 @@ pub struct NodeOut {
     pub replies: Replies,
     /// The epoch of the view that was installed, if one was.
     pub installed: Option<u64>,
-    /// What the step replaced.
-    pub replaced: Replaced,
+    /// What the step did to its node.
+    pub report: Report,
+    /// What it replaced beside rows. With the report it undoes the step: [`crate::Node::undo`].
+    pub beside: Beside,
 }

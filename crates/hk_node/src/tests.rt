@@ -1,4 +1,5 @@
 ghost use Rattle.hk_base.specs.Range.{IsBody, IsLetter};
+ghost use Rattle.hk_node.specs.Sound.{IsEvent};
 
 use super::*;
 use hk_base::{
@@ -44,6 +45,23 @@ fn founder(alloc: Global) -> Result<Node, Fail> {
     Ok(Node::founder(alloc, NodeId(0), view, 1000, 10))
 }
 
+// Makes the step of an event.
+fn step(alloc: Global, node: &mut Node, event: NodeEvent) -> Result<NodeOut, Fail>
+    requires { IsEvent event }
+{
+    let out = node.step(alloc, &event)?;
+    Ok(out)
+}
+
+fn call(alloc: Global, node: &mut Node, key: &Key, op: Op) -> Result<NodeOut, Fail> {
+    let event = NodeEvent::Call {
+        call: CallNo(1),
+        key: key.share()?,
+        op,
+    };
+    step(alloc, node, event)
+}
+
 // A founder whose key has the last stamp from which nothing can be written.
 fn at_the_limit(alloc: Global, key: &Key) -> Result<Node, Fail> {
     let mut node = founder(alloc)?;
@@ -55,13 +73,13 @@ fn at_the_limit(alloc: Global, key: &Key) -> Result<Node, Fail> {
         kind: Kind::Write,
         content: Some(five),
     };
-    node.receive(alloc, &letter(1, inv))?;
+    step(alloc, &mut node, NodeEvent::Receive(letter(1, inv)))?;
     let name = key.share()?;
     let val = Body::Val {
         key: name,
         stamp: LAST_WRITE,
     };
-    node.receive(alloc, &letter(1, val))?;
+    step(alloc, &mut node, NodeEvent::Receive(letter(1, val)))?;
     Ok(node)
 }
 
@@ -71,10 +89,10 @@ fn writes_end_at_the_version_limit(rt: HostRuntime) -> Result<(), Fail> {
     let key = Key::read(alloc, b"k")?;
     let mut node = at_the_limit(alloc, &key)?;
     let op = Op::Write(content(alloc, b"6")?);
-    let out = node.call(alloc, CallNo(1), &key, &op)?;
+    let out = call(alloc, &mut node, &key, op)?;
     let exhausted = Answer::Exhausted(LAST_WRITE);
     assert!(rt; out.replies.get(0).map(|reply| &reply.answer) == Some(&exhausted));
-    assert!(rt; out.replaced.rows.is_empty() && out.letters.is_empty());
+    assert!(rt; out.report.rows.is_empty() && out.letters.is_empty());
     Ok(())
 }
 
@@ -83,7 +101,7 @@ fn increments_go_one_further(rt: HostRuntime) -> Result<(), Fail> {
     let alloc = rt.alloc();
     let key = Key::read(alloc, b"k")?;
     let mut node = at_the_limit(alloc, &key)?;
-    let out = node.call(alloc, CallNo(2), &key, &Op::Incr(1))?;
+    let out = call(alloc, &mut node, &key, Op::Incr(1))?;
     assert!(rt; out.letters.len() == 1 && out.replies.is_empty());
     let last = Stamp {
         version: 281_474_976_710_655,
@@ -101,10 +119,10 @@ fn drops_letters_of_old_epochs(rt: HostRuntime) -> Result<(), Fail> {
     let inv = Body::Inv {
         key: key.share()?,
         stamp: LAST_WRITE,
-        kind: Kind::Write,
+        kind: Kind::Rmw,
         content: None,
     };
-    let out = node.receive(alloc, &letter(0, inv))?;
+    let out = step(alloc, &mut node, NodeEvent::Receive(letter(0, inv)))?;
     assert!(rt; out.letters.is_empty() && node.row(&key).is_none());
     Ok(())
 }
@@ -113,9 +131,9 @@ fn drops_letters_of_old_epochs(rt: HostRuntime) -> Result<(), Fail> {
 fn a_shadow_has_no_lease(rt: HostRuntime) -> Result<(), Fail> {
     let alloc = rt.alloc();
     let mut node = Node::joiner(alloc, NodeId(2), 10);
-    node.grant(1000);
+    step(alloc, &mut node, NodeEvent::Grant { end: 1000 })?;
     let key = Key::read(alloc, b"k")?;
-    let out = node.call(alloc, CallNo(1), &key, &Op::Read)?;
+    let out = call(alloc, &mut node, &key, Op::Read)?;
     let busy = Answer::Busy(Why::Lease { end: 0, now: 1 });
     assert!(rt; out.replies.get(0).map(|reply| &reply.answer) == Some(&busy));
     Ok(())
@@ -127,10 +145,10 @@ fn invalid(alloc: Global, key: &Key) -> Result<Node, Fail> {
     let inv = Body::Inv {
         key: key.share()?,
         stamp: LAST_WRITE,
-        kind: Kind::Write,
+        kind: Kind::Rmw,
         content: None,
     };
-    node.receive(alloc, &letter(1, inv))?;
+    step(alloc, &mut node, NodeEvent::Receive(letter(1, inv)))?;
     Ok(node)
 }
 
@@ -139,16 +157,10 @@ fn replays_and_sends_again(rt: HostRuntime) -> Result<(), Fail> {
     let alloc = rt.alloc();
     let key = Key::read(alloc, b"k")?;
     let mut node = invalid(alloc, &key)?;
-    let replayed = node.replay(alloc, &key)?;
-    let resent = node.resend(alloc, &key)?;
+    let replayed = step(alloc, &mut node, NodeEvent::Replay(key.share()?))?;
+    assert!(rt; node.open(None) == Some(&key));
+    let resent = step(alloc, &mut node, NodeEvent::Resend(key))?;
     assert!(rt; replayed.letters.len() == 1 && resent.letters.len() == 1);
-    Ok(())
-}
-
-// Makes the step of a lease that is granted.
-fn grant(alloc: Global, node: &mut Node) -> Result<(), Fail> {
-    let event = NodeEvent::Grant { end: 2000 };
-    node.step(alloc, &event)?;
     Ok(())
 }
 
@@ -156,7 +168,7 @@ fn grant(alloc: Global, node: &mut Node) -> Result<(), Fail> {
 fn steps_and_is_copied(rt: HostRuntime) -> Result<(), Fail> {
     let alloc = rt.alloc();
     let mut node = founder(alloc)?;
-    grant(alloc, &mut node)?;
+    step(alloc, &mut node, NodeEvent::Grant { end: 2000 })?;
     let same = node.copy(alloc)?;
     assert!(rt; same.granted() == 2000);
     Ok(())

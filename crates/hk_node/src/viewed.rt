@@ -1,16 +1,21 @@
 //! What a node that installs a view makes of its rows.
 
-ghost use Rattle.std.specs.Prelude.{◌≡◌, ◌++◌, ◌∷◌, [], Some, map, IfOk, OnOk, if◌then◌else◌};
+ghost use Rattle.std.specs.Prelude.{◌≡◌, ◌++◌, ◌∷◌, [], Some, None, true, map, IfOk, OnOk, if◌then◌else◌};
 ghost use Rattle.hk_key.specs.Same.{is_same_row};
 ghost use Rattle.std.specs.List.{AllByRecursion, flat_map};
+ghost use Rattle.std.specs.List.Sorted.{IsStrictlySortedBy};
+ghost use Rattle.std.specs.Map.{keys_of};
+ghost use Rattle.hk_copy.specs.Batches.{key_cmp};
+ghost use Rattle.hk_node.specs.Copies.{is_valid};
+ghost use Rattle.hk_node.specs.Index.{at_key, HasOpen};
 ghost use Rattle.hk_node.specs.Viewed.{IsFitRow, view_letters, view_told, view_new, view_old};
 
 use crate::letters::post_sent;
-use crate::replaced::{Former, FormerRows};
+use crate::report::{Former, FormerRows};
 use hk_base::{Key, Letters, Memory, NodeId, Replies, View};
 use hk_key::Row;
 use std::alloc::Global;
-use std::collections::BTreeMap;
+use std::collections::{BTreeMap, BTreeSet};
 
 /// What was made of rows so far.
 #[derive(Drop)]
@@ -79,18 +84,41 @@ fn view_row(
     note_row(viewed, alloc, key, row, after)
 }
 
-/// The steps of all rows, with no change to them.
-pub(crate) fn view_rows(
+// The step of the row of a key, if there is one.
+fn view_at(
+    viewed: &mut Viewed,
+    alloc: Global,
+    id: NodeId,
+    view: &View,
     rows: &BTreeMap<Key, Row>,
+    key: &Key,
+) -> Result<(), Memory>
+    requires { AllByRecursion IsFitRow rows.now.entries }
+    ensures letters { OnOk result (viewed.new.letters ≡ viewed.old.letters ++ at_key (view_letters id view.now) rows.now.entries key.now) }
+    ensures replies { OnOk result (viewed.new.replies ≡ viewed.old.replies ++ map (λ t. t.1) (at_key (view_told id view.now) rows.now.entries key.now)) }
+    ensures fresh { OnOk result (viewed.new.fresh ≡ viewed.old.fresh ++ at_key (view_new id view.now) rows.now.entries key.now) }
+    ensures former { OnOk result (viewed.new.former ≡ viewed.old.former ++ at_key (view_old id view.now) rows.now.entries key.now) }
+{
+    match rows.get(key) {
+        Some(row) => view_row(viewed, alloc, id, view, key, row),
+        None => Ok(()),
+    }
+}
+
+// The steps of the rows of these keys.
+fn view_keys(
+    rows: &BTreeMap<Key, Row>,
+    keys: &BTreeSet<Key>,
     alloc: Global,
     id: NodeId,
     view: &View,
 ) -> Result<Viewed, Memory>
     requires { AllByRecursion IsFitRow rows.now.entries }
-    ensures letters { IfOk result (λ viewed. viewed.letters ≡ flat_map (view_letters id view.now) rows.now.entries) }
-    ensures replies { IfOk result (λ viewed. viewed.replies ≡ map (λ t. t.1) (flat_map (view_told id view.now) rows.now.entries)) }
-    ensures fresh { IfOk result (λ viewed. viewed.fresh ≡ flat_map (view_new id view.now) rows.now.entries) }
-    ensures former { IfOk result (λ viewed. viewed.former ≡ flat_map (view_old id view.now) rows.now.entries) }
+    ensures ordered { IsStrictlySortedBy key_cmp keys.now.keys }
+    ensures letters { IfOk result (λ viewed. viewed.letters ≡ flat_map (at_key (view_letters id view.now) rows.now.entries) keys.now.keys) }
+    ensures replies { IfOk result (λ viewed. viewed.replies ≡ map (λ t. t.1) (flat_map (at_key (view_told id view.now) rows.now.entries) keys.now.keys)) }
+    ensures fresh { IfOk result (λ viewed. viewed.fresh ≡ flat_map (at_key (view_new id view.now) rows.now.entries) keys.now.keys) }
+    ensures former { IfOk result (λ viewed. viewed.former ≡ flat_map (at_key (view_old id view.now) rows.now.entries) keys.now.keys) }
 {
     let mut viewed = Viewed {
         letters: Letters::new(alloc),
@@ -98,8 +126,28 @@ pub(crate) fn view_rows(
         fresh: FormerRows::new(alloc),
         former: FormerRows::new(alloc),
     };
-    for (key, row) in rows.iter() {
-        view_row(&mut viewed, alloc, id, view, key, row)?;
+    for key in keys.iter() {
+        view_at(&mut viewed, alloc, id, view, rows, key)?;
     }
     Ok(viewed)
+}
+
+/// The steps of all rows, with no change to them: a row whose key is not among these makes none.
+pub(crate) fn view_rows(
+    rows: &BTreeMap<Key, Row>,
+    keys: &BTreeSet<Key>,
+    alloc: Global,
+    id: NodeId,
+    view: &View,
+) -> Result<Viewed, Memory>
+    requires fit { AllByRecursion IsFitRow rows.now.entries }
+    requires rest { AllByRecursion (λ r. is_valid r.1.state ≡ true → r.1.pending ≡ None) rows.now.entries }
+    requires ordered { IsStrictlySortedBy key_cmp (keys_of rows.now.entries) }
+    requires has { HasOpen keys.now.keys rows.now.entries }
+    ensures letters { IfOk result (λ viewed. viewed.letters ≡ flat_map (view_letters id view.now) rows.now.entries) }
+    ensures replies { IfOk result (λ viewed. viewed.replies ≡ map (λ t. t.1) (flat_map (view_told id view.now) rows.now.entries)) }
+    ensures fresh { IfOk result (λ viewed. viewed.fresh ≡ flat_map (view_new id view.now) rows.now.entries) }
+    ensures former { IfOk result (λ viewed. viewed.former ≡ flat_map (view_old id view.now) rows.now.entries) }
+{
+    view_keys(rows, keys, alloc, id, view)
 }

@@ -1,10 +1,10 @@
 //! Calls, and updates that are sent again.
 
-ghost use Rattle.std.specs.Prelude.{◌≡◌, true, false, None, Some, IfOk, OnOk, OnErr};
-ghost use Rattle.hk_base.specs.Range.{IsWithin};
+ghost use Rattle.std.specs.Prelude.{◌≡◌, ◌<◌, true, false, None, Some, IfOk, OnOk, OnErr};
+ghost use Rattle.hk_base.specs.Range.{IsWithin, Leaves};
 ghost use Rattle.hk_key.specs.Table.{begin};
 ghost use Rattle.hk_node.specs.Node.{members_of};
-ghost use Rattle.hk_node.specs.Rows.{find_row};
+ghost use Rattle.hk_node.specs.Rows.{find_row, row_at};
 ghost use Rattle.hk_node.specs.Stepped.{row_step};
 ghost use Rattle.hk_node.specs.Calls.{called, at_lease, lease_end};
 ghost use Rattle.hk_node.specs.Decided.{decided, IsFit, is_invalid};
@@ -13,10 +13,10 @@ ghost use Rattle.hk_node.specs.Steps.{resent, replayed};
 ghost use Rattle.hk_node.specs.Outs.{IsOutOf};
 
 use super::Node;
-use super::finish::{answers, idle, still};
 use crate::decide::{Decision, decide};
 use crate::letters::post_sent;
 use crate::out::NodeOut;
+use crate::report::Beside;
 use hk_base::{
     Answer, CallNo, Content, Key, Kind, Letters, Memory, Op, Replies, Reply, Stamp, State, Why,
 };
@@ -45,26 +45,28 @@ impl Node {
         reply: Reply,
         stamp: Stamp,
         kind: Kind,
-        content: Content,
+        content: Option<Content>,
     ) -> Result<NodeOut, Memory>
         requires ready { self.old.ready ≡ true }
         requires within { IsWithin stamp }
-        ensures node { OnOk result (self.new ≡ (row_step self.old key.now (begin self.old.id (members_of self.old) reply stamp kind (Some content))).node) }
-        ensures out { IfOk result (λ out. IsOutOf out self.old (row_step self.old key.now (begin self.old.id (members_of self.old) reply stamp kind (Some content)))) }
+        requires later { (row_at key.now self.old.rows).stamp.version < stamp.version }
+        requires leaves { Leaves kind content }
+        ensures node { OnOk result (self.new ≡ (row_step self.old key.now (begin self.old.id (members_of self.old) reply stamp kind content)).node) }
+        ensures out { IfOk result (λ out. IsOutOf out self.old (row_step self.old key.now (begin self.old.id (members_of self.old) reply stamp kind content))) }
         ensures err { OnErr result (self.new ≡ self.old) }
     {
         let Some(view) = &self.view else {
             unreachable!()
         };
         let mut row = Row::first();
-        let out = row.begin(alloc, self.id, view, reply, stamp, kind, Some(content))?;
+        let out = row.begin(alloc, self.id, view, reply, stamp, kind, content)?;
         self.finish(alloc, key, row, out)
     }
 
     // What becomes of the call at its row.
     fn decide(&self, alloc: Global, key: &Key, op: &Op) -> Result<Decision, Memory>
         ensures step { IfOk result (λ decision. (call : CallNo) → decided decision self.now call key.now ≡ at_lease false self.now call key.now op.now) }
-        ensures fit { IfOk result IsFit }
+        ensures fit { IfOk result (IsFit (row_at key.now self.now.rows)) }
     {
         match self.rows.get(key) {
             Some(row) => decide(alloc, self.id, op, row),
@@ -74,7 +76,7 @@ impl Node {
 
     /// Serves a call, or begins it. The lease is looked at before the row, the row before what the operation does, that
     /// before the limit of versions, and all before memory is taken.
-    pub fn call(
+    pub(super) fn call(
         &mut self,
         alloc: Global,
         call: CallNo,
@@ -88,10 +90,10 @@ impl Node {
         let end = self.lease_end();
         let now = self.clock;
         if end < now + self.skew {
-            return answers(alloc, key, call, Answer::Busy(Why::Lease { end, now }));
+            return self.answers(alloc, key, call, Answer::Busy(Why::Lease { end, now }));
         }
         match self.decide(alloc, key, op)? {
-            Decision::Now(answer) => answers(alloc, key, call, answer),
+            Decision::Now(answer) => self.answers(alloc, key, call, answer),
             Decision::Begin {
                 stamp,
                 kind,
@@ -102,21 +104,21 @@ impl Node {
     }
 
     /// Sends INV of the key's pending update again, to those that have not acknowledged it.
-    pub fn resend(&mut self, alloc: Global, key: &Key) -> Result<NodeOut, Memory>
+    pub(super) fn resend(&mut self, alloc: Global, key: &Key) -> Result<NodeOut, Memory>
         ensures node { OnOk result (self.new ≡ (resent self.old key.now).node) }
         ensures out { IfOk result (λ out. IsOutOf out self.old (resent self.old key.now)) }
         ensures err { OnErr result (self.new ≡ self.old) }
     {
         let Some(view) = &self.view else {
-            return Ok(idle(alloc));
+            return Ok(self.idle(alloc));
         };
         let Some(row) = self.rows.get(key) else {
-            return Ok(idle(alloc));
+            return Ok(self.idle(alloc));
         };
         let mut letters = Letters::new(alloc);
         let out = row.resend();
         post_sent(&mut letters, self.id, view, key, row, &out.send)?;
-        Ok(still(alloc, letters, Replies::new(alloc)))
+        Ok(self.tells(alloc, letters, Replies::new(alloc), Beside::Nothing))
     }
 
     // Replays a row.
@@ -136,23 +138,23 @@ impl Node {
     }
 
     /// Sends the update of an Invalid row again, as its coordinator did. Only a ready node does.
-    pub fn replay(&mut self, alloc: Global, key: &Key) -> Result<NodeOut, Memory>
+    pub(super) fn replay(&mut self, alloc: Global, key: &Key) -> Result<NodeOut, Memory>
         ensures node { OnOk result (self.new ≡ (replayed self.old key.now).node) }
         ensures out { IfOk result (λ out. IsOutOf out self.old (replayed self.old key.now)) }
         ensures err { OnErr result (self.new ≡ self.old) }
     {
         if !self.ready {
-            return Ok(idle(alloc));
+            return Ok(self.idle(alloc));
         }
         match self.rows.get(key) {
             Some(row) => {
                 if !is_invalid(row.state) {
-                    return Ok(idle(alloc));
+                    return Ok(self.idle(alloc));
                 }
                 let row = row.copy(alloc)?;
                 self.replay_row(alloc, key, row)
             }
-            None => Ok(idle(alloc)),
+            None => Ok(self.idle(alloc)),
         }
     }
 }

@@ -7,7 +7,7 @@ use super::Node;
 use hk_base::{Key, Memory, View};
 use hk_key::Row;
 use std::alloc::Global;
-use std::collections::BTreeMap;
+use std::collections::{BTreeMap, BTreeSet};
 
 // Adds a copy of a row.
 fn add_copy(
@@ -75,6 +75,8 @@ impl Node {
             clock: self.clock,
             skew: self.skew,
             rows,
+            index: BTreeSet::new(alloc),
+            whole: false,
         })
     }
 }

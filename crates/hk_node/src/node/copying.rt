@@ -7,9 +7,9 @@ ghost use Rattle.hk_node.specs.Copies.{told, asks_copy, gives_copy};
 ghost use Rattle.hk_node.specs.Outs.{IsOutOf};
 
 use super::Node;
-use super::finish::{idle, still};
 use crate::letters::post;
 use crate::out::NodeOut;
+use crate::report::Beside;
 use hk_base::{Body, Key, Letters, Memory, NodeId, Replies};
 use hk_copy::batch;
 use std::alloc::Global;
@@ -38,21 +38,26 @@ impl Node {
         };
         let mut letters = Letters::new(alloc);
         post(&mut letters, self.id, view, to, body)?;
-        Ok(still(alloc, letters, Replies::new(alloc)))
+        Ok(self.tells(alloc, letters, Replies::new(alloc), Beside::Nothing))
     }
 
     /// Asks another member for the rows behind the last one that was copied. A ready node does not.
-    pub fn ask_copy(&mut self, alloc: Global, from: NodeId, room: u8) -> Result<NodeOut, Memory>
+    pub(super) fn ask_copy(
+        &mut self,
+        alloc: Global,
+        from: NodeId,
+        room: u8,
+    ) -> Result<NodeOut, Memory>
         requires { IsRoom room }
         ensures node { OnOk result (self.new ≡ (asks_copy self.old from room).node) }
         ensures out { IfOk result (λ out. IsOutOf out self.old (asks_copy self.old from room)) }
         ensures err { OnErr result (self.new ≡ self.old) }
     {
         if self.ready {
-            return Ok(idle(alloc));
+            return Ok(self.idle(alloc));
         }
         if !self.is_other(from) {
-            return Ok(idle(alloc));
+            return Ok(self.idle(alloc));
         }
         let after = share_key(&self.cursor)?;
         self.tell(alloc, from, Body::CopyAsk { after, room })
@@ -73,7 +78,7 @@ impl Node {
         ensures err { OnErr result (self.new ≡ self.old) }
     {
         if !self.ready {
-            return Ok(idle(alloc));
+            return Ok(self.idle(alloc));
         }
         let batch = batch(alloc, self, after.as_ref(), room)?;
         let after = share_key(after)?;

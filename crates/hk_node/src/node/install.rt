@@ -7,11 +7,11 @@ ghost use Rattle.hk_node.specs.Steps.{installs};
 ghost use Rattle.hk_node.specs.Outs.{IsOutOf};
 
 use super::Node;
-use super::finish::idle;
 use super::receive::is_member;
 use crate::give::give_rows_back;
+use crate::open::mend;
 use crate::out::NodeOut;
-use crate::replaced::{Beside, Replaced};
+use crate::report::{Beside, Report};
 use crate::viewed::view_rows;
 use hk_base::{Memory, View};
 use std::alloc::Global;
@@ -33,31 +33,36 @@ impl Node {
         ensures out { IfOk result (λ out. IsOutOf out self.old (installs self.old view.now)) }
         ensures err { OnErr result (self.new ≡ self.old) }
     {
+        let epoch = self.epoch();
         let same = view.copy(alloc)?;
-        let viewed = view_rows(&self.rows, alloc, self.id, view)?;
+        mend(&mut self.index, self.whole, &self.rows)?;
+        self.whole = true;
+        let viewed = view_rows(&self.rows, &self.index, alloc, self.id, view)?;
         let before = mem::replace(&mut self.view, Some(same));
         give_rows_back(&mut self.rows, viewed.fresh.into_vec());
         Ok(NodeOut {
             letters: viewed.letters,
             replies: viewed.replies,
             installed: Some(view.epoch),
-            replaced: Replaced {
+            report: Report {
+                epoch,
+                readied: false,
                 rows: viewed.former,
-                beside: Beside::View(before),
             },
+            beside: Beside::View(before),
         })
     }
 
     /// Installs a later view that has the node as a member. Every pending update drops its acknowledgements and is sent
     /// again. Any other view is passed over.
-    pub fn install(&mut self, alloc: Global, view: &View) -> Result<NodeOut, Memory>
+    pub(super) fn install(&mut self, alloc: Global, view: &View) -> Result<NodeOut, Memory>
         requires { IsView view.now }
         ensures node { OnOk result (self.new ≡ (installs self.old view.now).node) }
         ensures out { IfOk result (λ out. IsOutOf out self.old (installs self.old view.now)) }
         ensures err { OnErr result (self.new ≡ self.old) }
     {
         if !self.installs(view) {
-            return Ok(idle(alloc));
+            return Ok(self.idle(alloc));
         }
         self.install_view(alloc, view)
     }

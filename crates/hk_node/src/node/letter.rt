@@ -7,7 +7,6 @@ ghost use Rattle.hk_node.specs.Steps.{received, receives};
 ghost use Rattle.hk_node.specs.Outs.{IsOutOf};
 
 use super::Node;
-use super::finish::idle;
 use crate::out::NodeOut;
 use hk_base::{Actor, Body, Letter, Memory, NodeId};
 use std::alloc::Global;
@@ -34,20 +33,20 @@ impl Node {
             Body::CopyGive { after, done, items } => {
                 self.take_copy(alloc, from, after, *done, items)
             }
-            Body::LeaseAsk => Ok(idle(alloc)),
-            Body::LeaseGive { .. } => Ok(idle(alloc)),
-            Body::Prepare(_) => Ok(idle(alloc)),
-            Body::Promise { .. } => Ok(idle(alloc)),
-            Body::Accept { .. } => Ok(idle(alloc)),
-            Body::Accepted(_) => Ok(idle(alloc)),
-            Body::Chosen(_) => Ok(idle(alloc)),
-            Body::Activate(_) => Ok(idle(alloc)),
+            Body::LeaseAsk { .. } => Ok(self.idle(alloc)),
+            Body::LeaseGive { .. } => Ok(self.idle(alloc)),
+            Body::Prepare(_) => Ok(self.idle(alloc)),
+            Body::Promise { .. } => Ok(self.idle(alloc)),
+            Body::Accept { .. } => Ok(self.idle(alloc)),
+            Body::Accepted(_) => Ok(self.idle(alloc)),
+            Body::Chosen(_) => Ok(self.idle(alloc)),
+            Body::Activate(_) => Ok(self.idle(alloc)),
         }
     }
 
     /// Takes a letter. One that is not addressed to the node, is of another epoch, comes from no other member of its
     /// view, or is of no kind that a node takes, is dropped and changes nothing.
-    pub fn receive(&mut self, alloc: Global, letter: &Letter) -> Result<NodeOut, Memory>
+    pub(super) fn receive(&mut self, alloc: Global, letter: &Letter) -> Result<NodeOut, Memory>
         requires { IsLetter letter.now }
         ensures node { OnOk result (self.new ≡ (receives self.old letter.now).node) }
         ensures out { IfOk result (λ out. IsOutOf out self.old (receives self.old letter.now)) }
@@ -58,10 +57,10 @@ impl Node {
                 if self.admits(from, letter) {
                     self.take(alloc, from, &letter.body)
                 } else {
-                    Ok(idle(alloc))
+                    Ok(self.idle(alloc))
                 }
             }
-            Actor::Manager(_) => Ok(idle(alloc)),
+            Actor::Manager(_) => Ok(self.idle(alloc)),
         }
     }
 }

@@ -15,10 +15,10 @@ ghost use Rattle.hk_node.specs.Outs.{IsOutOf};
 
 use super::Node;
 use super::copying::share_key;
-use super::finish::idle;
 use crate::give::{give_rows_back, swap_row};
+use crate::open::list_rows;
 use crate::out::NodeOut;
-use crate::replaced::{Beside, Former, FormerRows, Replaced};
+use crate::report::{Beside, Former, FormerRows, Report};
 use hk_base::{CopyItem, CopyItems, Key, Letters, Memory, NodeId, Replies};
 use hk_key::Row;
 use std::alloc::Global;
@@ -180,13 +180,15 @@ impl Node {
         ensures err { OnErr result (self.new ≡ self.old) }
     {
         if self.ready {
-            return Ok(idle(alloc));
+            return Ok(self.idle(alloc));
         }
         if !is_next(after, &self.cursor) {
-            return Ok(idle(alloc));
+            return Ok(self.idle(alloc));
         }
+        let epoch = self.epoch();
         let next = next_cursor(items, &self.cursor)?;
         let changes = merge(alloc, &self.rows, items)?;
+        list_rows(&mut self.index, &changes)?;
         let former = put_all(&mut self.rows, alloc, changes)?;
         let cursor = mem::replace(&mut self.cursor, next);
         self.ready = done;
@@ -194,10 +196,12 @@ impl Node {
             letters: Letters::new(alloc),
             replies: Replies::new(alloc),
             installed: None,
-            replaced: Replaced {
+            report: Report {
+                epoch,
+                readied: done,
                 rows: FormerRows::from_vec(former),
-                beside: Beside::Cursor(cursor),
             },
+            beside: Beside::Cursor(cursor),
         })
     }
 }

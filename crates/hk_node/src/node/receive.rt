@@ -1,7 +1,7 @@
 //! Letters that are taken.
 
 ghost use Rattle.std.specs.Prelude.{◌≡◌, true, None, Some, IfOk, OnOk, OnErr, ◌&&◌, ◌==◌, not};
-ghost use Rattle.hk_base.specs.Range.{IsWithin, IsLetter, IsRoom, IsBatch};
+ghost use Rattle.hk_base.specs.Range.{IsWithin, Leaves, IsLetter, IsRoom, IsBatch};
 ghost use Rattle.hk_base.specs.declared.letter.Body.TheVariants.{Inv, Ack, Val, CopyAsk, CopyGive};
 ghost use Rattle.hk_node.specs.Node.{epoch_of, is_member, is_other};
 ghost use Rattle.hk_node.specs.Rows.{find_row, row_at};
@@ -10,7 +10,6 @@ ghost use Rattle.hk_node.specs.Sound.{IsNode};
 ghost use Rattle.hk_node.specs.Outs.{IsOutOf};
 
 use super::Node;
-use super::finish::idle;
 use crate::out::NodeOut;
 use hk_base::{Actor, Body, Content, Key, Kind, Letter, Memory, NodeId, Stamp, share_content};
 use hk_key::{Out, Row};
@@ -73,6 +72,7 @@ impl Node {
         content: &Option<Content>,
     ) -> Result<NodeOut, Memory>
         requires within { IsWithin stamp }
+        requires leaves { Leaves kind content.now }
         requires other { is_other self.old from ≡ true }
         ensures node { OnOk result (self.new ≡ (received (Inv key.now stamp kind content.now) self.old from).node) }
         ensures out { IfOk result (λ out. IsOutOf out self.old (received (Inv key.now stamp kind content.now) self.old from)) }
@@ -130,7 +130,7 @@ impl Node {
                 let row = row.copy(alloc)?;
                 self.ack_row(alloc, from, key, row, stamp, top)
             }
-            None => Ok(idle(alloc)),
+            None => Ok(self.idle(alloc)),
         }
     }
 
@@ -158,7 +158,7 @@ impl Node {
                 };
                 self.finish(alloc, key, row, out)
             }
-            None => Ok(idle(alloc)),
+            None => Ok(self.idle(alloc)),
         }
     }
 }

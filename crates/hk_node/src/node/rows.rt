@@ -3,10 +3,12 @@
 ghost use Rattle.std.specs.Prelude.{◌≡◌, Some, None};
 ghost use Rattle.std.specs.Option.{option_copied};
 ghost use Rattle.hk_copy.specs.Batches.{next_key, rows_after};
-ghost use Rattle.hk_node.specs.Copies.{copies_of, is_valid};
+ghost use Rattle.hk_node.specs.Copies.{copies_of};
+ghost use Rattle.hk_node.specs.Open.{is_open_behind, next_open};
 
 use super::Node;
-use hk_base::{CopyItem, Key, Memory, State, share_content};
+use crate::open::{is_valid, next_listed};
+use hk_base::{CopyItem, Key, Memory, share_content};
 use hk_copy::Rows;
 use hk_key::Row;
 use std::collections::BTreeMap;
@@ -41,10 +43,25 @@ fn next_key<'a>(rows: &'a BTreeMap<Key, Row>, after: Option<&Key>) -> Option<&'a
     }
 }
 
-fn is_valid(state: State) -> bool
-    ensures { result ≡ is_valid state }
+fn is_open_behind(after: Option<&Key>, key: &Key, row: &Row) -> bool
+    ensures { result ≡ is_open_behind (option_copied after.entry) (key.now, row.now) }
 {
-    state == State::Valid
+    match after {
+        Some(after) => after.cmp(key).is_lt() && !is_valid(row.state),
+        None => !is_valid(row.state),
+    }
+}
+
+// The least key behind this one, or of all, whose row is not Valid.
+fn next_open<'a>(rows: &'a BTreeMap<Key, Row>, after: Option<&Key>) -> Option<&'a Key>
+    ensures { option_copied result ≡ next_open (option_copied after.entry) rows.now.entries }
+{
+    for (key, row) in rows.iter() {
+        if is_open_behind(after, key, row) {
+            return Some(key);
+        }
+    }
+    None
 }
 
 impl Rows for Node {
@@ -71,6 +88,18 @@ impl Rows for Node {
 }
 
 impl Node {
+    /// The least key greater than the given one, or the least of all, whose row is not Valid. None exactly where there is
+    /// none.
+    pub fn open(&self, after: Option<&Key>) -> Option<&Key>
+        ensures { option_copied result ≡ next_open (option_copied after.entry) self.now.rows }
+    {
+        if self.whole {
+            next_listed(&self.index, &self.rows, after)
+        } else {
+            next_open(&self.rows, after)
+        }
+    }
+
     /// The least key with a row that is greater than the given one, or the least of all.
     pub fn after(&self, key: Option<&Key>) -> Option<&Key>
         ensures { option_copied result ≡ next_key (rows_after (option_copied key.entry) (copies_of self.now.rows)) }

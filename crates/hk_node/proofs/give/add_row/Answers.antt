@@ -1,4 +1,4 @@
-use Rattle.std.proofs.Common.{◌≡◌, ◌∙◌, ap}
+use Rattle.std.proofs.Common.{◌∙◌, ap}
 use Rattle.hk_node.specs.Rows.{put_row}
 use Rattle.hk_node.proofs.give.add_row.Goals as goal
 

@@ -1,4 +1,3 @@
-use Rattle.std.proofs.Common.{◌≡◌}
 use Rattle.hk_node.proofs.Givings.{given_turn}
 use Rattle.hk_node.proofs.give.give_rows_back.Goals as goal
 

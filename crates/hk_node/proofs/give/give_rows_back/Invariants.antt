@@ -1,5 +1,5 @@
 use Rattle.std.proofs.Common.{◌≡◌}
-use Rattle.hk_node.specs.Replaced.{rows_given_back}
+use Rattle.hk_node.specs.Report.{rows_given_back}
 use Rattle.hk_node.proofs.Givings.{Ready}
 use Rattle.hk_node.proofs.give.give_rows_back.Given as goal
 

@@ -1,4 +1,4 @@
-use Rattle.std.proofs.Common.{◌≡◌, ◌∙◌, ap, rules}
+use Rattle.std.proofs.Common.{◌∙◌, ap}
 use Rattle.hk_node.proofs.Placed.{set_is_put}
 use Rattle.hk_node.specs.Rows.{put_row}
 use Rattle.hk_node.proofs.give.swap_row.Goals as goal

@@ -1,4 +1,4 @@
-use Rattle.std.proofs.Common.{rules, ◌∙◌, sym}
+use Rattle.std.proofs.Common.{rules}
 use Rattle.hk_node.proofs.Finishing.{idle_as}
 use Rattle.hk_node.proofs.Installed.{installs_not}
 use Rattle.hk_node.proofs.node.Node.install.Goals as goal

@@ -1,6 +1,7 @@
 use Rattle.std.proofs.Common.{◌≡◌, ◌+◌, ◌<◌, length, rules, drop}
+use Rattle.std.proofs.Math.ListN.{drop_of_length-le}
 use Rattle.hk_base.specs.Range.{IsWithin}
-use Rattle.hk_node.proofs.Merged.{quiet_now, turn, left_is, within_at}
+use Rattle.hk_node.proofs.Merged.{quiet_now, turn, left_is, within_at, merge_is}
 use Rattle.hk_node.proofs.node.merging.merge.Goals as goal
 
 pub change-requires-clause-quiet : goal.change-requires-clause-quiet
@@ -15,3 +16,7 @@ loop-item-preserved c =
     c.args.rows.now.entries c.loop-item.changes.entries c.put_change.new.changes.entries c.item-item.result c.in_ok-row.row
     c.requires.rising c.requires.quiet within (left_is c.as_slice-item-items.result.now c.loop-item.item-index c.item-item.result lt c.item-item.is)
     c.in_ok-row.ensures c.in_ok-put_change.ensures c.loop-item.invariant
+
+pub returns : goal.returns
+returns c = merge_is c.args.items.now (drop c.loop-item.item-index c.as_slice-item-items.result.now) c.args.rows.now.entries c.loop-item.changes.entries
+    (drop_of_length-le c.as_slice-item-items.result.now c.loop-item-test.false) c.loop-item.invariant

@@ -1,6 +1,4 @@
-use Rattle.std.proofs.Common.{◌≡◌, ◌∙◌, sym, ap, None, Some, Option, List, ℕ, Bool}
-use Rattle.hk_base.specs.declared.call.Content.{Content}
-use Rattle.hk_base.specs.declared.letter.CopyItem.{CopyItem}
+use Rattle.std.proofs.Common.{None}
 use Rattle.hk_node.proofs.Finishing.{found_now}
 use Rattle.hk_node.proofs.Copied.{item_made, not_there}
 use Rattle.hk_node.proofs.node.rows.NodeRows.item.Goals as goal

@@ -1,0 +1,39 @@
+//! What a step of a node did to it.
+
+use hk_base::{Key, Sequence, View};
+use hk_key::Row;
+
+/// A key whose row changed, and the row that it had, if it had one.
+#[derive(Drop)]
+pub struct Former {
+    pub key: Key,
+    pub row: Option<Row>,
+}
+
+/// The keys whose rows changed, in their order.
+pub type FormerRows = Sequence<Former>;
+
+/// What a step did to its node, for whoever watches it.
+#[derive(Drop)]
+pub struct Report {
+    /// The epoch of the node before the step, 0 where it had no view.
+    pub epoch: u64,
+    /// Whether the step made the node ready.
+    pub readied: bool,
+    /// The keys whose rows changed, in their order, each with the row that it had, if it had one.
+    pub rows: FormerRows,
+}
+
+/// What an event may replace beside rows.
+#[derive(Drop)]
+pub enum Beside {
+    Nothing,
+    /// The clock.
+    Clock(u64),
+    /// The greatest end of a lease.
+    Lease(u64),
+    /// The view that was installed before, if there was one.
+    View(Option<View>),
+    /// The cursor of a node that was not ready.
+    Cursor(Option<Key>),
+}
