@@ -6,6 +6,8 @@ use Rattle.std.proofs.lemmas.Bool.{lt-ltb, false≢true}
 use Rattle.hk_base.specs.declared.stamp.NodeId.{NodeId}
 use Rattle.hk_base.specs.declared.view.View.{View}
 use Rattle.hk_node.specs.Node.{NodeState, is_member, epoch_of}
+use Rattle.hk_node.specs.declared.event.NodeEvent.TheVariants.{Install as NodeInstall}
+use Rattle.hk_node.specs.Steps.{installs}
 use Rattle.hk_world.specs.declared.event.Event.TheVariants.{Install}
 use Rattle.hk_world.specs.declared.process.Process.{Process}
 use Rattle.hk_world.specs.declared.refused.Refused.{Refused}
@@ -13,7 +15,7 @@ use Rattle.hk_world.specs.declared.refused.Refused.TheVariants.{LeaseRuns, Crash
 use Rattle.hk_world.specs.World.{WorldState, Processes, process_at, numbered, last_view}
 use Rattle.hk_world.specs.Steps.{Accepted, world_step, live, live_at, running_at, acts, is_live, may_run, was_member, guarded_by, installs_at}
 use Rattle.hk_world.specs.Sound.{IsWorld, IsProcess}
-use Rattle.hk_world.specs.Acting.{acted, running, installs_in}
+use Rattle.hk_world.specs.Acting.{made_by, running}
 use Rattle.hk_world.specs.Allowed.{may_run_by}
 use Rattle.hk_world.specs.Views.{given_before}
 use Rattle.hk_world.proofs.Viewed.{was_given}
@@ -67,10 +69,10 @@ pub guard_refuses : (o : Option (NodeId × Process)) (w : WorldState) (id : Node
 guard_refuses None w id node view refused h = absurd cc
 guard_refuses (Some p) w id node view refused h = let same : LeaseRuns p.0 p.1.node.granted ≡ refused = cc in ap (λ (r : Refused). Err r) same
 
-pub guard_lets : (o : Option (NodeId × Process)) (w : WorldState) (id : NodeId) (epoch : ℕ) (node : NodeState) (view : View) → option_map (λ (p : NodeId × Process). LeaseRuns p.0 p.1.node.granted) o ≡ None → running (process_at id w.processes) ≡ Ok node → numbered epoch w.views ≡ Some view →
-    guarded_by o w id node view ≡ live w id (acted w (Install id epoch) id)
-guard_lets (Some p) w id epoch node view h runs at = absurd cc
-guard_lets None w id epoch node view h runs at = sym (by_node w id (acted w (Install id epoch) id) node runs ∙ ap (λ (o : Option View). acts w id (installs_in o node)) at)
+pub guard_lets : (o : Option (NodeId × Process)) (w : WorldState) (id : NodeId) (node : NodeState) (view : View) → option_map (λ (p : NodeId × Process). LeaseRuns p.0 p.1.node.granted) o ≡ None → running (process_at id w.processes) ≡ Ok node →
+    guarded_by o w id node view ≡ made_by w id None (NodeInstall view)
+guard_lets (Some p) w id node view h runs = absurd cc
+guard_lets None w id node view h runs = sym (by_node w id (λ (n : NodeState). acts w id n (installs n view)) node runs)
 
 pub not_there : {X : Type 0} (o : Option X) → is_some o ≡ false → o ≡ None
 not_there None e = refl

@@ -15,18 +15,19 @@ use Rattle.hk_world.specs.declared.shown.Shown.{Shown}
 use Rattle.hk_world.specs.declared.refused.Refused.{Refused}
 use Rattle.hk_world.specs.declared.refused.Refused.TheVariants.{NotMember, LastMember, Full, NoNumbers, NoSuchMember}
 use Rattle.hk_world.specs.World.{WorldState, Processes, process_at, put_process, last_view}
+use Rattle.hk_world.specs.Allowed.{ticked}
 use Rattle.hk_world.specs.Steps.{Accepted, world_step, live_actor, nothing, starts_at, joining, greatest_clock, crashes_at, agrees, agreed_on}
 use Rattle.hk_world.specs.Views.{next_of, dropped, added}
-use Rattle.hk_world.proofs.Acted.{runs_is}
+use Rattle.hk_world.proofs.Answering.{runs_is}
 
 abbrev pub told_aside : WorldState → Shown → Processes → Result Accepted Refused
-told_aside w shown processes = Ok (record { world = record w { processes = processes }; acting = None; told = []; shown = shown })
+told_aside w shown processes = Ok (record { world = record w { processes = processes }; told = []; shown = shown })
 
 abbrev process_with : Bool → NodeState → Process
 process_with crashed node = record { node = node; crashed = crashed }
 
-pub joined : (w : WorldState) (id : NodeId) (made after : NodeState) (g : ℕ) → made ≡ joiner id w.skew → g ≡ greatest_clock 1 w.processes → after ≡ (ticks made g).node → process_with false after ≡ joining w id
-joined w id made after g m c t = ap (process_with false) (t ∙ ap (λ (n : NodeState). (ticks n g).node) m ∙ ap (λ (k : ℕ). (ticks (joiner id w.skew) k).node) c)
+pub joined : (w : WorldState) (id : NodeId) (made : NodeState) (after : Process) (g : ℕ) → made ≡ joiner id w.skew → g ≡ greatest_clock 1 w.processes → after ≡ ticked g (process_with false made) → after ≡ joining w id
+joined w id made after g m c t = t ∙ ap (λ (n : NodeState). ticked g (process_with false n)) m ∙ ap (λ (k : ℕ). ticked k (process_with false (joiner id w.skew))) c
 
 pub start_is : (w : WorldState) (id : NodeId) (process : Process) (entries : Processes) (shown : Shown) → process_at id w.processes ≡ None → is_member id (last_view w.views).members ≡ true →
     process ≡ joining w id → entries ≡ put_process id process w.processes → shown ≡ nothing → world_step w (Start id) ≡ told_aside w shown entries
@@ -69,7 +70,7 @@ pub agree_refused : (w : WorldState) (change : Change) (refused : Refused) → n
 agree_refused w change refused e = agrees_is w change ∙ ap (agrees_by w) e
 
 abbrev pub told_views : WorldState → Shown → List View → Result Accepted Refused
-told_views w shown views = Ok (record { world = record w { views = views }; acting = None; told = []; shown = shown })
+told_views w shown views = Ok (record { world = record w { views = views }; told = []; shown = shown })
 
 pub agree_is : (w : WorldState) (change : Change) (v : View) (views : List View) (shown : Shown) → next_of (last_view w.views) change ≡ Ok v → views ≡ w.views ++ v ∷ [] → shown ≡ record nothing { view = Some v } →
     world_step w (Agree change) ≡ told_views w shown views

@@ -3,7 +3,8 @@ pub mod Steady
 pub mod Viewed
 pub mod Soundness
 pub mod Starting
-pub mod Acted
+pub mod Answering
 pub mod Allowed
 pub mod Changed
 pub mod Founded
+pub mod Eventful

@@ -32,7 +32,6 @@ use Rattle.hk_world.specs.declared.process.Process.{Process}
 use Rattle.hk_world.specs.World.{WorldState, Processes, by_number, process_at, put_process, numbered, last_view}
 use Rattle.hk_world.specs.Steps.{Accepted, world_step, with_step, live, live_at, running_at, live_actor, is_live, is_far_from, greatest_clock, process_ticked, takes, agreed_on, ticked_unless, guarded_by, may_run, installs_at, starts_at, joining, agrees, ticks_at}
 use Rattle.hk_world.specs.Sound.{IsEvent, IsWorld, IsProcess, AreViews}
-use Rattle.hk_world.specs.Acting.{stepped_in, receives_in, installs_in}
 use Rattle.hk_world.specs.Views.{dropped, added}
 use Rattle.hk_world.proofs.Processes.{sorted_put, all_put, found_holds, all_map}
 use Rattle.hk_world.proofs.Steady.{IsSteady, call_steady, resend_steady, replay_steady, copy_steady, install_steady, receive_steady}
@@ -47,37 +46,21 @@ pub record IsSoundStep (before : NodeState) (stepped : Stepped) : Type 0 where
   pub node : IsNode stepped.node
   pub letters : AllByRecursion IsLetter stepped.letters
 
-by_laws : NodeLaws → (node : NodeState) (event : NodeEvent) → IsNode node → IsNodeEvent event → IsSteady node (node_step node event) → IsSoundStep node (node_step node event)
-by_laws laws node event is range steady = record { steady = steady; node = laws.0 node event is range; letters = laws.1 node event is range }
-
 idle_sound : (node : NodeState) → IsNode node → IsSoundStep node (idle node)
 idle_sound node is = record { steady = record { id = refl; skew = refl }; node = is; letters = tt }
 
-receives_sound : NodeLaws → (o : Option Letter) (letters : List Letter) (n : ℕ) (node : NodeState) → AllByRecursion IsLetter letters → numbered n letters ≡ o → IsNode node → IsSoundStep node (receives_in o node)
-receives_sound laws None letters n node all at is = idle_sound node is
-receives_sound laws (Some letter) letters n node all at is = by_laws laws node (Receive letter) is (numbered_holds IsLetter n letters letter all at) (receive_steady node letter)
+event_steady : (node : NodeState) (event : NodeEvent) → IsSteady node (node_step node event)
+event_steady node (NodeCall call key op) = call_steady node call key op
+event_steady node (Receive letter) = receive_steady node letter
+event_steady node (NodeResend key) = resend_steady node key
+event_steady node (NodeReplay key) = replay_steady node key
+event_steady node (AskCopy from room) = copy_steady node from room
+event_steady node (NodeTick now) = record { id = refl; skew = refl }
+event_steady node (Grant end) = record { id = refl; skew = refl }
+event_steady node (NodeInstall view) = install_steady node view
 
-installs_sound : NodeLaws → (o : Option View) (views : List View) (n : ℕ) (node : NodeState) → AllByRecursion IsView views → numbered n views ≡ o → IsNode node → IsSoundStep node (installs_in o node)
-installs_sound laws None views n node all at is = idle_sound node is
-installs_sound laws (Some view) views n node all at is = by_laws laws node (NodeInstall view) is (numbered_holds IsView n views view all at) (install_steady node view)
-
-pub stepped_sound : NodeLaws → (letters : List Letter) (views : List View) (next : CallNo) (event : Event) (node : NodeState) → AllByRecursion IsLetter letters → AllByRecursion IsView views → IsEvent event → IsNode node →
-    IsSoundStep node (stepped_in letters views next event node)
-stepped_sound laws letters views next (Call id key op) node ls vs range is = by_laws laws node (NodeCall next key op) is tt (call_steady node next key op)
-stepped_sound laws letters views next (Take number) node ls vs range is = receives_sound laws (numbered number letters) letters number node ls refl is
-stepped_sound laws letters views next (Tick actor to) node ls vs range is = by_laws laws node (NodeTick to) is range.1 (record { id = refl; skew = refl })
-stepped_sound laws letters views next (Resend id key) node ls vs range is = by_laws laws node (NodeResend key) is tt (resend_steady node key)
-stepped_sound laws letters views next (Replay id key) node ls vs range is = by_laws laws node (NodeReplay key) is tt (replay_steady node key)
-stepped_sound laws letters views next (Copy id from room) node ls vs range is = by_laws laws node (AskCopy from room) is range (copy_steady node from room)
-stepped_sound laws letters views next (Install id epoch) node ls vs range is = installs_sound laws (numbered epoch views) views epoch node vs refl is
-stepped_sound laws letters views next (Lease id end) node ls vs range is = by_laws laws node (Grant end) is range (record { id = refl; skew = refl })
-stepped_sound laws letters views next (TickAll to) node ls vs range is = idle_sound node is
-stepped_sound laws letters views next (Crash actor) node ls vs range is = idle_sound node is
-stepped_sound laws letters views next (Start id) node ls vs range is = idle_sound node is
-stepped_sound laws letters views next (Agree change) node ls vs range is = idle_sound node is
-stepped_sound laws letters views next (AskLease id manager) node ls vs range is = idle_sound node is
-stepped_sound laws letters views next (Propose manager base change) node ls vs range is = idle_sound node is
-stepped_sound laws letters views next (Activate manager) node ls vs range is = idle_sound node is
+by_laws : NodeLaws → (node : NodeState) (event : NodeEvent) → IsNode node → IsNodeEvent event → IsSoundStep node (node_step node event)
+by_laws laws node event is range = record { steady = event_steady node event; node = laws.0 node event is range; letters = laws.1 node event is range }
 
 -- a process of one world is one of another with the same skew
 carried : (w new : WorldState) → w.skew ≡ new.skew → (p : NodeId × Process) → IsProcess w p → IsProcess new p
@@ -99,6 +82,16 @@ step_world w id p stepped calls sound found step =
 
 pub node_at : (w : WorldState) (id : NodeId) (p : Process) → IsWorld w → process_at id w.processes ≡ Some p → IsNode p.node
 node_at w id p sound found = (found_holds (IsProcess w) id p w.processes sound.processes found).node
+
+-- however many calls were made
+pub counted_world : (w : WorldState) (calls : ℕ) → IsWorld w → IsWorld (record w { calls = calls })
+counted_world w calls sound = record {
+  skew = sound.skew;
+  ordered = sound.ordered;
+  processes = all_map (IsProcess w) (IsProcess (record w { calls = calls })) (carried w (record w { calls = calls }) refl) w.processes sound.processes;
+  letters = sound.letters;
+  views = sound.views;
+}
 
 -- ---- the table, one event after the other
 abbrev pub SoundIf : Result Accepted Refused → Type 0
@@ -172,6 +165,7 @@ joiner_is_node id skew within = record {
   unready = λ e. refl;
   ordered = tt;
   rows = tt;
+  touched = tt;
   shadow = λ e. tt;
   clock_runs = omega arith;
   clock = omega arith;
@@ -225,21 +219,18 @@ starts_sound laws (Some p) w id sound = tt
 starts_sound laws None w id sound = choose (is_member id (last_view w.views).members) _ _ (start_world laws w id sound) tt
 
 module _ (laws : NodeLaws) (w : WorldState) (sound : IsWorld w) where
-  acts_sound : (id : NodeId) (p : Process) (event : Event) → process_at id w.processes ≡ Some p → IsEvent event → (calls : ℕ) →
-      IsWorld (record (with_step w id (stepped_in w.letters w.views (record { 0 = w.calls + 1 }) event p.node)) { calls = calls })
-  acts_sound id p event found range calls = step_world w id p (stepped_in w.letters w.views (record { 0 = w.calls + 1 }) event p.node) calls sound found
-      (stepped_sound laws w.letters w.views (record { 0 = w.calls + 1 }) event p.node sound.letters sound.views.each range (node_at w id p sound found))
+  pub acts_sound : (id : NodeId) (p : Process) (event : NodeEvent) → process_at id w.processes ≡ Some p → IsNodeEvent event → (calls : ℕ) → IsWorld (record (with_step w id (node_step p.node event)) { calls = calls })
+  acts_sound id p event found range calls = step_world w id p (node_step p.node event) calls sound found (by_laws laws p.node event (node_at w id p sound found) range)
 
   takes_sound : (n : ℕ) (o : Option Letter) → numbered n w.letters ≡ o → SoundIf (takes w o)
   takes_sound n None at = tt
-  takes_sound n (Some letter) at = actor_sound w letter.to _ (λ id p found. step_world w id p _ w.calls sound found
-      (by_laws laws p.node (Receive letter) (node_at w id p sound found) (numbered_holds IsLetter n w.letters letter sound.letters at) (receive_steady p.node letter)))
+  takes_sound n (Some letter) at = actor_sound w letter.to _ (λ id p found. acts_sound id p (Receive letter) found (numbered_holds IsLetter n w.letters letter sound.letters at) w.calls)
 
-  ticks_sound : (actor : Actor) (to : ℕ) → to ≤ MAX_TIME → IsActor actor → SoundIf (live_actor w actor (ticks_at w to))
-  ticks_sound actor to range is = actor_sound w actor _ (λ id p found. choose (nat_lt to p.node.clock) _ _ tt (at id p found (find (is_far_from w.skew to id) w.processes)))
+  ticks_sound : (actor : Actor) (to : ℕ) → to ≤ MAX_TIME → SoundIf (live_actor w actor (ticks_at w to))
+  ticks_sound actor to range = actor_sound w actor _ (λ id p found. choose (nat_lt to p.node.clock) _ _ tt (at id p found (find (is_far_from w.skew to id) w.processes)))
     where
       at : (id : NodeId) (p : Process) → process_at id w.processes ≡ Some p → (o : Option (NodeId × Process)) → SoundIf (ticked_unless o w id to p.node)
-      at id p found None = acts_sound id p (Tick actor to) found (is, range) w.calls
+      at id p found None = acts_sound id p (NodeTick to) found range w.calls
       at id p found (Some q) = tt
 
   installs_world : (n : ℕ) (o : Option View) → numbered n w.views ≡ o → (id : NodeId) (p : Process) → process_at id w.processes ≡ Some p → SoundIf (installs_at o w id p.node)
@@ -247,23 +238,23 @@ module _ (laws : NodeLaws) (w : WorldState) (sound : IsWorld w) where
   installs_world n (Some view) at id p found = choose (is_member id view.members) _ _ (choose (nat_lt (epoch_of p.node) view.epoch) _ _ (guarded (find (may_run w.views view) w.processes)) tt) tt
     where
       guarded : (o : Option (NodeId × Process)) → SoundIf (guarded_by o w id p.node view)
-      guarded None = step_world w id p _ w.calls sound found (by_laws laws p.node (NodeInstall view) (node_at w id p sound found) (numbered_holds IsView n w.views view sound.views.each at) (install_steady p.node view))
+      guarded None = acts_sound id p (NodeInstall view) found (numbered_holds IsView n w.views view sound.views.each at) w.calls
       guarded (Some q) = tt
 
   pub event_sound : (event : Event) → IsEvent event → SoundIf (world_step w event)
-  event_sound (Call id key op) range = live_sound w id _ (λ p found. acts_sound id p (Call id key op) found range (w.calls + 1))
+  event_sound (Call id key op) range = live_sound w id _ (λ p found. acts_sound id p (NodeCall (record { 0 = w.calls + 1 }) key op) found tt (w.calls + 1))
   event_sound (Take letter) range = takes_sound letter (numbered letter w.letters) refl
-  event_sound (Tick actor to) range = ticks_sound actor to range.1 range.0
+  event_sound (Tick actor to) range = ticks_sound actor to range.1
   event_sound (TickAll to) range = choose (nat_lt to (greatest_clock 0 w.processes)) _ _ tt (all_tick_world laws w to sound range)
   event_sound (Crash actor) range = actor_sound w actor _ (λ id p found. crash_world w id p sound found)
-  event_sound (Resend id key) range = live_sound w id _ (λ p found. acts_sound id p (Resend id key) found range w.calls)
-  event_sound (Replay id key) range = live_sound w id _ (λ p found. acts_sound id p (Replay id key) found range w.calls)
-  event_sound (Copy id from room) range = live_sound w id _ (λ p found. acts_sound id p (Copy id from room) found range w.calls)
+  event_sound (Resend id key) range = live_sound w id _ (λ p found. acts_sound id p (NodeResend key) found tt w.calls)
+  event_sound (Replay id key) range = live_sound w id _ (λ p found. acts_sound id p (NodeReplay key) found tt w.calls)
+  event_sound (Copy id from room) range = live_sound w id _ (λ p found. acts_sound id p (AskCopy from room) found range w.calls)
   event_sound (Start id) range = starts_sound laws (process_at id w.processes) w id sound
   event_sound (Agree change) range = agrees_sound w change sound
   event_sound (Install id epoch) range = live_sound w id _ (λ p found. installs_world epoch (numbered epoch w.views) refl id p found)
-  event_sound (Lease id end) range = live_sound w id _ (λ p found. choose (is_member id (last_view w.views).members) _ _ (acts_sound id p (Lease id end) found range w.calls) tt)
-  event_sound (AskLease id manager) range = live_sound w id _ (λ p found. acts_sound id p (AskLease id manager) found range w.calls)
+  event_sound (Lease id end) range = live_sound w id _ (λ p found. choose (is_member id (last_view w.views).members) _ _ (acts_sound id p (Grant end) found range w.calls) tt)
+  event_sound (AskLease id manager) range = live_sound w id _ (λ p found. step_world w id p (idle p.node) w.calls sound found (idle_sound p.node (node_at w id p sound found)))
   event_sound (Propose manager base change) range = tt
   event_sound (Activate manager) range = tt
 

@@ -94,6 +94,7 @@ founder_is_node h is id member = record {
   unready = λ e. absurd cc;
   ordered = tt;
   rows = tt;
+  touched = tt;
   shadow = λ e. tt;
   clock_runs = omega arith;
   clock = omega arith;

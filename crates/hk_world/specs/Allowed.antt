@@ -1,20 +1,11 @@
--- Which node an event lets act, and the tests by which the code tells it.
-use Rattle.std.specs.Prelude.{◌≡◌, ℕ, ◌+◌, max, Bool, not, nat_lt, nat_le, ◌&&◌, Result, Ok, Err, if◌then◌else◌}
+-- The tests by which the code tells which node an event lets act.
+use Rattle.std.specs.Prelude.{ℕ, ◌+◌, max, Bool, not, nat_lt, nat_le, ◌&&◌, if◌then◌else◌}
 use Rattle.hk_base.specs.declared.stamp.NodeId.{NodeId}
 use Rattle.hk_base.specs.declared.view.View.{View}
 use Rattle.hk_node.specs.Node.{is_member}
 use Rattle.hk_node.specs.Steps.{ticks}
-use Rattle.hk_world.specs.declared.event.Event.{Event}
-use Rattle.hk_world.specs.declared.refused.Refused.{Refused}
 use Rattle.hk_world.specs.declared.process.Process.{Process}
-use Rattle.hk_world.specs.World.{WorldState}
-use Rattle.hk_world.specs.Steps.{world_step, live, is_live}
-use Rattle.hk_world.specs.Acting.{acted}
-
--- the event is the step of this node, if it is live; or it is refused
-abbrev pub IsLeave : Result NodeId Refused → WorldState → Event → Type 0
-IsLeave (Ok id) world event = world_step world event ≡ live world id (acted world event id)
-IsLeave (Err refused) world event = world_step world event ≡ Err refused
+use Rattle.hk_world.specs.Steps.{is_live}
 
 -- A live node that was given its number before an epoch, and that the view leaves out, may still have a lease.
 abbrev pub may_run_by : ℕ → ℕ → View → NodeId × Process → Bool

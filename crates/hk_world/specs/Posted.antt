@@ -1,5 +1,5 @@
 -- What the code shows of a node's step, in the words of what the step told.
-use Rattle.std.specs.Prelude.{List, Option}
+use Rattle.std.specs.Prelude.{List, Option, Some}
 use Rattle.hk_base.specs.declared.stamp.NodeId.{NodeId}
 use Rattle.hk_base.specs.declared.call.CallNo.{CallNo}
 use Rattle.hk_base.specs.declared.letter.Letter.{Letter}
@@ -17,4 +17,5 @@ posted sent id node out call = record {
   first_letter = first_number sent out.letters;
   letters = out.letters;
   replies = out.replies;
+  acted = Some (record { node = id; report = out.report });
 }

@@ -68,7 +68,7 @@ pub record IsWorld (world : WorldState) : Type 0 where
 -- What a step tells, by what the definition makes of it: what was shown, and then the world is the next one; or why it was
 -- refused. After that, and after want of memory, the world is as it was.
 abbrev pub IsAnswerOf : Result Shown WorldFault → WorldState → WorldState → Result Accepted Refusal → Type 0
-IsAnswerOf (Ok shown) old new made = (acting : Option NodeId) × (told : _) × (made ≡ Ok (record { world = new; acting = acting; told = told; shown = shown }))
+IsAnswerOf (Ok shown) old new made = (told : _) × (made ≡ Ok (record { world = new; told = told; shown = shown }))
 IsAnswerOf (Err Memory) old new made = new ≡ old
 IsAnswerOf (Err (Refused refused)) old new made = (made ≡ Err refused) × (new ≡ old)
 

@@ -1,6 +1,7 @@
 -- The step of a world for each event: the next world and what is shown, or a refusal. The checks stand in the order in which
 -- a definition makes them.
 use Rattle.std.specs.Prelude.{ℕ, ◌+◌, List, [], ◌∷◌, ◌++◌, map, max, length, Bool, true, false, Option, Some, None, Result, Ok, Err, not, nat_lt, nat_le, ◌&&◌, ◌||◌, ◌==◌, if◌then◌else◌}
+use Rattle.std.specs.Option.{option_map}
 use Rattle.std.specs.List.{list_any, filter, find}
 use Rattle.hk_base.specs.declared.stamp.NodeId.{NodeId}
 use Rattle.hk_base.specs.declared.call.CallNo.{CallNo}
@@ -15,6 +16,7 @@ use Rattle.hk_base.specs.declared.letter.Letter.{Letter}
 use Rattle.hk_node.specs.Node.{NodeState, epoch_of, is_member}
 use Rattle.hk_node.specs.Made.{joiner}
 use Rattle.hk_node.specs.Stepped.{Stepped, idle, replies_of}
+use Rattle.hk_node.specs.Report.{report}
 use Rattle.hk_node.specs.Calls.{called}
 use Rattle.hk_node.specs.Copies.{asks_copy}
 use Rattle.hk_node.specs.Steps.{receives, resent, replayed, installs, ticks, grants}
@@ -26,21 +28,23 @@ use Rattle.hk_world.specs.declared.process.Process.{Process}
 use Rattle.hk_world.specs.declared.shown.Shown.{Shown}
 use Rattle.hk_world.specs.World.{WorldState, Processes, process_at, put_process, numbered, last_view}
 
--- An accepted event: the world after it, the node that acted, if one did, the calls that are answered with their keys, and
--- what is shown.
+-- An accepted event: the world after it, the calls that are answered with their keys, and what is shown.
 pub record Accepted : Type 0 where
   pub world : WorldState
-  pub acting : Option NodeId
   pub told : List (List ℕ × Reply)
   pub shown : Shown
 
+-- the node that acted, if one did
+abbrev pub acting_of : Accepted → Option NodeId
+acting_of a = option_map (λ acted. acted.node) a.shown.acted
+
 -- nothing is shown
 abbrev pub nothing : Shown
-nothing = record { call = None; view = None; installed = None; first_letter = 0; letters = []; replies = [] }
+nothing = record { call = None; view = None; installed = None; first_letter = 0; letters = []; replies = []; acted = None }
 
 -- no node acts
 abbrev pub aside : WorldState → Shown → Result Accepted Refused
-aside world shown = Ok (record { world = world; acting = None; told = []; shown = shown })
+aside world shown = Ok (record { world = world; told = []; shown = shown })
 
 -- the number of the first of these letters, 0 where there are none
 abbrev pub first_number : List Letter → List Letter → ℕ
@@ -63,18 +67,23 @@ with_step world id stepped = record world {
   letters = world.letters ++ stepped.letters;
 }
 
-abbrev pub shown_of : WorldState → NodeId → Stepped → Option CallNo → Shown
-shown_of world id stepped call = record {
+abbrev pub shown_of : WorldState → NodeId → NodeState → Stepped → Option CallNo → Shown
+shown_of world id node stepped call = record {
   call = call;
   view = view_of stepped.installed stepped.node;
   installed = installer_of stepped.installed id;
   first_letter = first_number world.letters stepped.letters;
   letters = stepped.letters;
   replies = replies_of stepped;
+  acted = Some (record { node = id; report = report node stepped.node });
 }
 
-abbrev pub acts : WorldState → NodeId → Stepped → Result Accepted Refused
-acts world id stepped = Ok (record { world = with_step world id stepped; acting = Some id; told = stepped.told; shown = shown_of world id stepped None })
+-- the step that the node makes, of a call if it is one
+abbrev pub acts_for : WorldState → NodeId → Option CallNo → NodeState → Stepped → Accepted
+acts_for world id call node stepped = record { world = with_step world id stepped; told = stepped.told; shown = shown_of world id node stepped call }
+
+abbrev pub acts : WorldState → NodeId → NodeState → Stepped → Result Accepted Refused
+acts world id node stepped = Ok (acts_for world id None node stepped)
 
 -- by whether the process has crashed
 abbrev pub running_at : Bool → NodeState → (NodeState → Result Accepted Refused) → Result Accepted Refused
@@ -99,12 +108,12 @@ abbrev pub calls_at : WorldState → NodeId → List ℕ → Op → NodeState �
 calls_at world id key op node =
     let call : CallNo = record { 0 = world.calls + 1 } in
     let stepped = called node call key op in
-    Ok (record { world = record (with_step world id stepped) { calls = world.calls + 1 }; acting = Some id; told = stepped.told; shown = shown_of world id stepped (Some call) })
+    Ok (record (acts_for world id (Some call) node stepped) { world = record (with_step world id stepped) { calls = world.calls + 1 } })
 
 -- a letter is taken by its addressee, whoever sent it and however often it was taken
 abbrev pub takes : WorldState → Option Letter → Result Accepted Refused
 takes world None = Err NoLetter
-takes world (Some letter) = live_actor world letter.to (λ id node. acts world id (receives node letter))
+takes world (Some letter) = live_actor world letter.to (λ id node. acts world id node (receives node letter))
 
 -- ---- clocks
 abbrev pub is_far : ℕ → ℕ → ℕ → Bool
@@ -118,7 +127,7 @@ abbrev pub is_far_from : ℕ → ℕ → NodeId → NodeId × Process → Bool
 is_far_from skew to id p = not (p.0.0 == id.0) && (is_live p && is_far skew to p.1.node.clock)
 
 abbrev pub ticked_unless : Option (NodeId × Process) → WorldState → NodeId → ℕ → NodeState → Result Accepted Refused
-ticked_unless None world id to node = acts world id (ticks node to)
+ticked_unless None world id to node = acts world id node (ticks node to)
 ticked_unless (Some p) world id to node = Err (Skew to p.1.node.clock)
 
 -- a clock does not fall, and does not go too far from that of any live node: the first such is told
@@ -182,7 +191,7 @@ may_run views view p =
 
 -- THE GUARD: a view is installed only where no such lease may run. The first such node is told.
 abbrev pub guarded_by : Option (NodeId × Process) → WorldState → NodeId → NodeState → View → Result Accepted Refused
-guarded_by None world id node view = acts world id (installs node view)
+guarded_by None world id node view = acts world id node (installs node view)
 guarded_by (Some p) world id node view = Err (LeaseRuns p.0 p.1.node.granted)
 
 abbrev pub installs_at : Option View → WorldState → NodeId → NodeState → Result Accepted Refused
@@ -195,7 +204,7 @@ installs_at (Some view) world id node =
 
 -- only a member of the last agreed view is granted a lease
 abbrev pub leases_at : WorldState → NodeId → ℕ → NodeState → Result Accepted Refused
-leases_at world id end node = if is_member id (last_view world.views).members then acts world id (grants node end) else Err NotMember
+leases_at world id end node = if is_member id (last_view world.views).members then acts world id node (grants node end) else Err NotMember
 
 -- ---- the table
 abbrev pub world_step : WorldState → Event → Result Accepted Refused
@@ -204,14 +213,14 @@ world_step world (Take letter) = takes world (numbered letter world.letters)
 world_step world (Tick actor to) = live_actor world actor (ticks_at world to)
 world_step world (TickAll to) = all_tick world to
 world_step world (Crash actor) = live_actor world actor (crashes_at world)
-world_step world (Resend id key) = live world id (λ node. acts world id (resent node key))
-world_step world (Replay id key) = live world id (λ node. acts world id (replayed node key))
-world_step world (Copy id from room) = live world id (λ node. acts world id (asks_copy node from room))
+world_step world (Resend id key) = live world id (λ node. acts world id node (resent node key))
+world_step world (Replay id key) = live world id (λ node. acts world id node (replayed node key))
+world_step world (Copy id from room) = live world id (λ node. acts world id node (asks_copy node from room))
 world_step world (Start id) = starts_at (process_at id world.processes) world id
 world_step world (Agree change) = agrees world (last_view world.views) change
 world_step world (Install id epoch) = live world id (λ node. installs_at (numbered epoch world.views) world id node)
 world_step world (Lease id end) = live world id (leases_at world id end)
 -- no manager is there to be asked, to propose or to activate
-world_step world (AskLease id manager) = live world id (λ node. acts world id (idle node))
+world_step world (AskLease id manager) = live world id (λ node. acts world id node (idle node))
 world_step world (Propose manager base change) = Err NoActor
 world_step world (Activate manager) = Err NoActor

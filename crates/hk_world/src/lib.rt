@@ -20,6 +20,6 @@ pub use event::{Event, Header};
 pub use laws::worlds_stay_sound;
 pub use process::Process;
 pub use refused::{Refused, WorldFault};
-pub use shown::Shown;
+pub use shown::{Acted, Shown};
 pub use worked::worked_worlds;
 pub use world::World;

@@ -4,7 +4,8 @@ ghost use Rattle.std.specs.Prelude.{◌≡◌, ◌≤◌, not};
 ghost use Rattle.hk_base.specs.declared.time.TheConstants.{MAX_TIME};
 ghost use Rattle.hk_world.specs.Allowed.{ticked};
 
-use hk_node::Node;
+use hk_node::{Node, NodeEvent};
+use std::alloc::Global;
 
 /// A node that runs, or one that has crashed and stands still for ever.
 #[derive(Drop)]
@@ -21,13 +22,15 @@ impl Process {
         !self.crashed
     }
 
-    /// The clock reads `to`, unless the node has crashed.
-    pub(crate) fn tick(&mut self, to: u64)
+    /// The clock reads `to`, unless the node has crashed. It takes no memory.
+    pub(crate) fn tick(&mut self, alloc: Global, to: u64)
         requires { to ≤ MAX_TIME }
         ensures { self.new ≡ ticked to self.old }
     {
         if self.is_live() {
-            self.node.tick(to);
+            let Ok(_) = self.node.step(alloc, &NodeEvent::Tick { now: to }) else {
+                unreachable!()
+            };
         }
     }
 }

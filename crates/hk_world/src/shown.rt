@@ -1,6 +1,14 @@
 //! What an event shows.
 
 use hk_base::{CallNo, Letters, NodeId, Replies, View};
+use hk_node::Report;
+
+/// A node that acted, and what the event did to it.
+#[derive(Drop)]
+pub struct Acted {
+    pub node: NodeId,
+    pub report: Report,
+}
 
 /// What an event shows to whoever watches the world.
 #[derive(Drop)]
@@ -17,4 +25,6 @@ pub struct Shown {
     pub letters: Letters,
     /// The calls that were answered, in key order.
     pub replies: Replies,
+    /// The node that acted, and what the event did to it. None where no node did.
+    pub acted: Option<Acted>,
 }

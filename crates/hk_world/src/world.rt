@@ -7,8 +7,9 @@ ghost use Rattle.hk_base.specs.declared.time.TheConstants.{MAX_TIME};
 mod act;
 mod allowed;
 mod change;
+mod events;
 mod founders;
-mod perform;
+mod numbers;
 mod post;
 mod scan;
 mod views;
@@ -21,7 +22,7 @@ use crate::shown::Shown;
 use founders::{founders, founding_view};
 use hk_base::{Letter, Memory, NodeId, View};
 use hk_node::Node;
-use perform::numbered;
+use numbers::numbered;
 use std::alloc::Global;
 use std::collections::BTreeMap;
 use std::marker::Model;
@@ -78,31 +79,19 @@ impl World {
         ensures { IsStepOf result self.old self.new event.now }
     {
         match event {
-            Event::Call { node, .. } => self.act(alloc, *node, event),
-            Event::Resend { node, .. } => self.act(alloc, *node, event),
-            Event::Replay { node, .. } => self.act(alloc, *node, event),
-            Event::Copy { node, .. } => self.act(alloc, *node, event),
-            Event::AskLease { node, .. } => self.act(alloc, *node, event),
-            Event::Take { letter } => {
-                let leave = self.may_take(*letter);
-                self.act_by(alloc, leave, event)
-            }
-            Event::Tick { actor, to } => {
-                let leave = self.may_tick(*actor, *to);
-                self.act_by(alloc, leave, event)
-            }
-            Event::Install { node, epoch } => {
-                let leave = self.may_install(*node, *epoch);
-                self.act_by(alloc, leave, event)
-            }
-            Event::Lease { node, end } => {
-                let leave = self.may_lease(*node, *end);
-                self.act_by(alloc, leave, event)
-            }
+            Event::Call { node, key, op } => self.call(alloc, *node, key, op),
+            Event::Take { letter } => self.take(alloc, *letter),
+            Event::Tick { actor, to } => self.tick(alloc, *actor, *to),
             Event::TickAll { to } => self.tick_all(alloc, *to),
             Event::Crash { actor } => self.crash(alloc, *actor),
+            Event::Resend { node, key } => self.resend(alloc, *node, key),
+            Event::Replay { node, key } => self.replay(alloc, *node, key),
+            Event::Copy { node, from, room } => self.ask_copy(alloc, *node, *from, *room),
             Event::Start { node } => self.start(alloc, *node),
             Event::Agree { change } => self.agree(alloc, *change),
+            Event::Install { node, epoch } => self.install(alloc, *node, *epoch),
+            Event::Lease { node, end } => self.lease(alloc, *node, *end),
+            Event::AskLease { node, manager } => self.ask_lease(alloc, *node, *manager),
             Event::Propose { .. } | Event::Activate { .. } => {
                 Err(WorldFault::Refused(Refused::NoActor))
             }

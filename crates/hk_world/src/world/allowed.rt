@@ -1,13 +1,16 @@
 //! Which node an event lets act, or why it is refused.
 
-ghost use Rattle.std.specs.Prelude.{◌≡◌, ◌≤◌, length};
-ghost use Rattle.hk_world.specs.declared.event.Event.TheVariants.{Take, Tick, Install, Lease};
+ghost use Rattle.std.specs.Prelude.{◌≡◌, ◌≤◌, length, Err, None, IfOk, IfErr};
+ghost use Rattle.hk_base.specs.View.{IsView};
+ghost use Rattle.hk_node.specs.declared.event.NodeEvent.TheVariants.{Tick as NodeTick, Grant, Install as NodeInstall};
+ghost use Rattle.hk_world.specs.declared.event.Event.TheVariants.{Tick, Install, Lease};
 ghost use Rattle.hk_world.specs.World.{last_view};
 ghost use Rattle.hk_world.specs.Views.{given_before};
-ghost use Rattle.hk_world.specs.Allowed.{IsLeave};
+ghost use Rattle.hk_world.specs.Steps.{world_step};
+ghost use Rattle.hk_world.specs.Acting.{made_by, allowed};
 
 use super::World;
-use super::perform::numbered;
+use super::numbers::numbered;
 use super::scan::{first_far, first_running, is_member};
 use crate::refused::Refused;
 use hk_base::{Actor, NodeId, View};
@@ -33,22 +36,9 @@ impl World {
         &self.views[self.views.len() - 1]
     }
 
-    /// A letter is taken by its addressee.
-    pub(super) fn may_take(&self, number: u64) -> Result<NodeId, Refused>
-        ensures { IsLeave result self.now (Take number) }
-    {
-        let Some(letter) = numbered(number, &self.letters) else {
-            return Err(Refused::NoLetter);
-        };
-        match letter.to {
-            Actor::Node(id) => Ok(id),
-            Actor::Manager(_) => Err(Refused::NoActor),
-        }
-    }
-
     /// A clock does not fall, and does not go too far from that of any live node.
     pub(super) fn may_tick(&self, actor: Actor, to: u64) -> Result<NodeId, Refused>
-        ensures { IsLeave result self.now (Tick actor to) }
+        ensures { world_step self.now (Tick actor to) ≡ allowed result self.now (NodeTick to) }
     {
         let Actor::Node(id) = actor else {
             return Err(Refused::NoActor);
@@ -66,9 +56,12 @@ impl World {
         }
     }
 
-    /// A view is installed by a member that is in a lower epoch, and only where no lease outside the view may run.
-    pub(super) fn may_install(&self, id: NodeId, epoch: u64) -> Result<NodeId, Refused>
-        ensures { IsLeave result self.now (Install id epoch) }
+    /// The view of the epoch. It is installed by a member that is in a lower epoch, and only where no lease outside the view
+    /// may run.
+    pub(super) fn may_install(&self, id: NodeId, epoch: u64) -> Result<&View, Refused>
+        ensures ok { IfOk result (λ view. world_step self.now (Install id epoch) ≡ made_by self.now id None (NodeInstall view.now)) }
+        ensures is_view { IfOk result (λ view. IsView view.now) }
+        ensures err { IfErr result (λ refused. world_step self.now (Install id epoch) ≡ Err refused) }
     {
         let held = match self.live(id) {
             Ok(node) => node.epoch(),
@@ -86,13 +79,13 @@ impl World {
         let given = given_before(&self.views, epoch);
         match first_running(&self.processes, self.skew, given, view) {
             Some(refused) => Err(refused),
-            None => Ok(id),
+            None => Ok(view),
         }
     }
 
     /// Only a member of the last agreed view is granted a lease.
     pub(super) fn may_lease(&self, id: NodeId, end: u64) -> Result<NodeId, Refused>
-        ensures { IsLeave result self.now (Lease id end) }
+        ensures { world_step self.now (Lease id end) ≡ allowed result self.now (Grant end) }
     {
         if let Err(refused) = self.live(id) {
             return Err(refused);

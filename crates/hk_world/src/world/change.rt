@@ -28,6 +28,7 @@ fn nothing(alloc: Global) -> Shown
         first_letter: 0,
         letters: Letters::new(alloc),
         replies: Replies::new(alloc),
+        acted: None,
     }
 }
 
@@ -55,7 +56,7 @@ impl World {
         if to < clock {
             return Err(WorldFault::Refused(Refused::ClockFalls { clock }));
         }
-        tick_live(&mut self.processes, to);
+        tick_live(&mut self.processes, alloc, to);
         Ok(nothing(alloc))
     }
 
@@ -87,12 +88,12 @@ impl World {
         if !is_member(id, self.last_view()) {
             return Err(WorldFault::Refused(Refused::NotMember));
         }
-        let mut node = Node::joiner(alloc, id, self.skew);
-        node.tick(greatest_clock(&self.processes, 1));
-        let process = Process {
+        let node = Node::joiner(alloc, id, self.skew);
+        let mut process = Process {
             node,
             crashed: false,
         };
+        process.tick(alloc, greatest_clock(&self.processes, 1));
         put_in(&mut self.processes, id, process)?;
         Ok(nothing(alloc))
     }

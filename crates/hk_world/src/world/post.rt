@@ -7,20 +7,20 @@ ghost use Rattle.std.specs.List.Sorted.{IsStrictlySortedBy};
 ghost use Rattle.hk_copy.specs.Batches.{key_cmp};
 ghost use Rattle.hk_node.specs.Rows.{find_row};
 ghost use Rattle.hk_node.specs.Sound.{IsNode};
-ghost use Rattle.hk_node.specs.Replaced.{given_back};
+ghost use Rattle.hk_node.specs.Report.{given_back};
 ghost use Rattle.hk_world.specs.Steps.{first_number, view_of};
 ghost use Rattle.hk_world.specs.Posted.{posted};
 
-use crate::shown::Shown;
+use crate::shown::{Acted, Shown};
 use hk_base::{CallNo, Letter, Letters, Memory, NodeId, View};
 use hk_node::{Node, NodeOut};
 use std::alloc::Global;
 
 // The same letters, which share keys and contents.
-fn share_letters(alloc: Global, letters: &Letters) -> Result<Vec<Letter>, Memory>
-    ensures { IfOk result (λ same. same.items ≡ letters.now) }
+fn share_letters(alloc: Global, letters: &Letters) -> Result<Letters, Memory>
+    ensures { IfOk result (λ same. same ≡ letters.now) }
 {
-    let mut same = Vec::new(alloc);
+    let mut same = Letters::new(alloc);
     for letter in letters.as_slice() {
         let letter = letter.share(alloc)?;
         same.push(letter)?;
@@ -58,25 +58,38 @@ fn first_number(sent: &Vec<Letter>, letters: &Letters) -> u64
     sent.len() as u64 + 1
 }
 
-// Shares the letters of a step into the world's, and copies the view that it installed. After `Memory` nothing is sent.
+// What is shown of letters that were sent, and of a view that was installed.
+#[derive(Drop)]
+struct Sent {
+    letters: Letters,
+    view: Option<View>,
+}
+
+// Sends letters, and copies the view that the step installed. After `Memory` nothing is sent.
 fn send(
     alloc: Global,
     node: &Node,
-    letters: &mut Vec<Letter>,
-    out: &NodeOut,
-) -> Result<Option<View>, Memory>
-    ensures sent { OnOk result (letters.new.items ≡ letters.old.items ++ out.now.letters) }
-    ensures view { IfOk result (λ view. view ≡ view_of out.now.installed node.now) }
-    ensures err { OnErr result (letters.new.items ≡ letters.old.items) }
+    sent: &mut Vec<Letter>,
+    letters: Letters,
+    installed: Option<u64>,
+) -> Result<Sent, Memory>
+    ensures sent { OnOk result (sent.new.items ≡ sent.old.items ++ letters) }
+    ensures letters { IfOk result (λ told. told.letters ≡ letters) }
+    ensures view { IfOk result (λ told. told.view ≡ view_of installed node.now) }
+    ensures err { OnErr result (sent.new.items ≡ sent.old.items) }
 {
-    let view = copy_installed(alloc, node, out.installed)?;
-    let mut same = share_letters(alloc, &out.letters)?;
-    letters.append(&mut same)?;
-    Ok(view)
+    let view = copy_installed(alloc, node, installed)?;
+    let same = share_letters(alloc, &letters)?;
+    let mut letters = letters.into_vec();
+    sent.append(&mut letters)?;
+    Ok(Sent {
+        letters: same,
+        view,
+    })
 }
 
-/// Sends the letters of a step that the node has made, and tells what the step shows. After `Memory` nothing is sent, and
-/// the node has what the step replaced.
+/// Sends the letters of a step that the node has made, and tells what the step shows. The letters go into the world's list,
+/// and what is shown shares each. After `Memory` nothing is sent, and the step is undone.
 pub(crate) fn post(
     alloc: Global,
     id: NodeId,
@@ -85,27 +98,31 @@ pub(crate) fn post(
     letters: &mut Vec<Letter>,
     out: NodeOut,
 ) -> Result<Shown, Memory>
-    requires rising { IsStrictlySortedBy key_cmp (map (λ f. f.key) out.replaced.rows) }
-    requires there { AllByRecursion (λ f. IsSome (find_row f.key node.old.rows)) out.replaced.rows }
-    requires node { IsNode (given_back out.replaced node.old) }
+    requires rising { IsStrictlySortedBy key_cmp (map (λ f. f.key) out.report.rows) }
+    requires there { AllByRecursion (λ f. IsSome (find_row f.key node.old.rows)) out.report.rows }
+    requires node { IsNode (given_back out.report.rows out.beside node.old) }
     ensures node { OnOk result (node.new ≡ node.old) }
     ensures letters { OnOk result (letters.new.items ≡ letters.old.items ++ out.letters) }
     ensures shown { IfOk result (λ shown. shown ≡ posted letters.old.items id node.old out call) }
-    ensures undone { OnErr result (node.new ≡ given_back out.replaced node.old) }
+    ensures undone { OnErr result (node.new ≡ given_back out.report.rows out.beside node.old) }
     ensures unsent { OnErr result (letters.new.items ≡ letters.old.items) }
 {
     let first_letter = first_number(letters, &out.letters);
-    match send(alloc, node, letters, &out) {
-        Ok(view) => Ok(Shown {
+    match send(alloc, node, letters, out.letters, out.installed) {
+        Ok(sent) => Ok(Shown {
             call,
-            view,
+            view: sent.view,
             installed: out.installed.map(|_| id),
             first_letter,
-            letters: out.letters,
+            letters: sent.letters,
             replies: out.replies,
+            acted: Some(Acted {
+                node: id,
+                report: out.report,
+            }),
         }),
         Err(error) => {
-            node.give_back(out.replaced);
+            node.undo(out.report, out.beside);
             Err(error)
         }
     }

@@ -12,6 +12,7 @@ ghost use Rattle.hk_world.specs.Allowed.{may_run_by, higher_clock};
 use crate::process::Process;
 use crate::refused::Refused;
 use hk_base::{NodeId, View};
+use std::alloc::Global;
 use std::collections::BTreeMap;
 
 /// Whether the view has the node as a member.
@@ -107,12 +108,12 @@ pub(super) fn greatest_clock(processes: &BTreeMap<NodeId, Process>, low: u64) ->
 }
 
 /// The clocks of all live nodes rise. It takes no memory, and every process is kept.
-pub(super) fn tick_live(processes: &mut BTreeMap<NodeId, Process>, to: u64)
+pub(super) fn tick_live(processes: &mut BTreeMap<NodeId, Process>, alloc: Global, to: u64)
     requires { to ≤ MAX_TIME }
     ensures { processes.new.entries ≡ map (process_ticked to) processes.old.entries }
 {
     processes.retain(|_id, process| {
-        process.tick(to);
+        process.tick(alloc, to);
         true
     });
 }

@@ -84,6 +84,7 @@ fn agreed(alloc: Global, view: View) -> Shown
         first_letter: 0,
         letters: Letters::new(alloc),
         replies: Replies::new(alloc),
+        acted: None,
     }
 }
 

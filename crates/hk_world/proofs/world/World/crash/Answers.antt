@@ -6,7 +6,7 @@ use Rattle.hk_world.specs.declared.process.Process.{Process}
 use Rattle.hk_world.specs.World.{WorldState, Processes, process_at}
 use Rattle.hk_world.specs.Sound.{IsWorld}
 use Rattle.hk_world.specs.Steps.{world_step, live, live_actor, crashes_at}
-use Rattle.hk_world.proofs.Acted.{crashed_is, stays}
+use Rattle.hk_world.proofs.Answering.{crashed_is, stays}
 use Rattle.hk_world.proofs.Changed.{crash_is, told_aside}
 use Rattle.hk_world.proofs.Processes.{set_is_put}
 use Rattle.hk_world.proofs.Soundness.{crash_world}
@@ -49,7 +49,6 @@ returns c =
     let stopped : Process = record { node = p.node; crashed = true } in
     let found : process_at c.in-Node.id w.processes ≡ Some p = sym c.in-Some.ensures.value in
     let entries : Processes = (c.get_mut.follows.lender stopped).entries in (
-      None,
       [],
       subst (λ (o : WorldState). world_step o (Crash c.args.actor) ≡ told_aside w c.nothing.result entries) c.self.view_is
           (crash_is w c.args.actor c.in-Node.id p entries c.nothing.result c.in-Node.is found c.if-process.false ((c.get_mut.follows.holds stopped).0 ∙ set_is_put c.in-Node.id stopped p w.processes c.self.invariant.ordered found) c.nothing.ensures),

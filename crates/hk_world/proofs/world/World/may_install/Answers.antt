@@ -9,8 +9,9 @@ use Rattle.hk_world.specs.declared.refused.Refused.{Refused}
 use Rattle.hk_world.specs.declared.refused.Refused.TheVariants.{LeaseRuns}
 use Rattle.hk_world.specs.declared.event.Event.TheVariants.{Install}
 use Rattle.hk_world.specs.World.{WorldState, numbered, process_at}
-use Rattle.hk_world.specs.Steps.{world_step, live}
-use Rattle.hk_world.specs.Acting.{running, acted}
+use Rattle.hk_world.specs.Steps.{world_step}
+use Rattle.hk_node.specs.declared.event.NodeEvent.TheVariants.{Install as NodeInstall}
+use Rattle.hk_world.specs.Acting.{made_by, running}
 use Rattle.hk_world.specs.Views.{given_before}
 use Rattle.hk_world.specs.Allowed.{may_run_by}
 use Rattle.hk_world.proofs.Allowed.{install_checked, guard_refuses, guard_lets}
@@ -19,8 +20,8 @@ use Rattle.hk_world.proofs.world.World.may_install.Goals as goal
 abbrev told_of : Option (NodeId × Process) → Option Refused
 told_of o = option_map (λ (p : NodeId × Process). LeaseRuns p.0 p.1.node.granted) o
 
-pub returns-in-Some-first_running : goal.returns-in-Some-first_running
-returns-in-Some-first_running c =
+pub returns-in-Some-first_running-clause-err : goal.returns-in-Some-first_running-clause-err
+returns-in-Some-first_running-clause-err c =
     let w : WorldState = record { skew = c.self.inside.skew; processes = c.self.inside.processes.entries; letters = c.self.inside.letters.items; views = c.self.inside.views.items; calls = c.self.inside.calls } in
     let view = c.in-Some.view.now in
     let node = c.in-Ok.node.now in
@@ -34,8 +35,8 @@ returns-in-Some-first_running c =
     subst (λ (o : WorldState). world_step o (Install c.args.id c.args.epoch) ≡ Err c.in-Some-first_running.refused) c.self.view_is
     (install_checked w c.args.id c.args.epoch node view c.self.invariant runs at member low ∙ guard_refuses _ w c.args.id node view c.in-Some-first_running.refused first)
 
-pub returns-in-None : goal.returns-in-None
-returns-in-None c =
+pub returns-in-None-clause-ok : goal.returns-in-None-clause-ok
+returns-in-None-clause-ok c =
     let w : WorldState = record { skew = c.self.inside.skew; processes = c.self.inside.processes.entries; letters = c.self.inside.letters.items; views = c.self.inside.views.items; calls = c.self.inside.calls } in
     let view = c.in-Some.view.now in
     let node = c.in-Ok.node.now in
@@ -46,5 +47,5 @@ returns-in-None c =
     let given : c.given_before-given.result ≡ given_before w.views c.args.epoch = c.given_before-given.ensures ∙ ap (λ (vs : List View). given_before vs c.args.epoch) c.deref-2.ensures.value in
     let first : told_of (find (may_run_by w.skew (given_before w.views c.args.epoch) view) w.processes) ≡ None =
     ap (λ (g : ℕ). told_of (find (may_run_by w.skew g view) w.processes)) (sym given) ∙ sym c.in-None.ensures in
-    subst (λ (o : WorldState). world_step o (Install c.args.id c.args.epoch) ≡ live o c.args.id (acted o (Install c.args.id c.args.epoch) c.args.id)) c.self.view_is
-    (install_checked w c.args.id c.args.epoch node view c.self.invariant runs at member low ∙ guard_lets _ w c.args.id c.args.epoch node view first runs at)
+    subst (λ (o : WorldState). world_step o (Install c.args.id c.args.epoch) ≡ made_by o c.args.id None (NodeInstall view)) c.self.view_is
+    (install_checked w c.args.id c.args.epoch node view c.self.invariant runs at member low ∙ guard_lets _ w c.args.id node view first runs)
