@@ -43,14 +43,14 @@ module _ (P : Type 0) (w : WorldState) (a : Accepted) where
   live_actor_step (A.Node id) step go_on e = live_step id (step id) (go_on id) e
   live_actor_step (A.Manager m) step go_on e = cc
 
-  pub takes_step : (n : ℕ) → ((l : Letter) → In w.letters l → (id : NodeId) (x : NodeState) → process_at id w.processes ≡ Some (alive x) → acts w id (receives x l) ≡ Ok a → P) → takes w (numbered n w.letters) ≡ Ok a → P
+  pub takes_step : (n : ℕ) → ((l : Letter) → In w.letters l → (id : NodeId) (x : NodeState) → process_at id w.processes ≡ Some (alive x) → acts w id x (receives x l) ≡ Ok a → P) → takes w (numbered n w.letters) ≡ Ok a → P
   takes_step n go_on e = by_letter (numbered n w.letters) refl e
     where
       by_letter : (o : Option Letter) → numbered n w.letters ≡ o → takes w o ≡ Ok a → P
       by_letter None found e = cc
-      by_letter (Some l) found e = live_actor_step l.to (λ id node. acts w id (receives node l)) (go_on l (numbered_in n w.letters l found)) e
+      by_letter (Some l) found e = live_actor_step l.to (λ id node. acts w id node (receives node l)) (go_on l (numbered_in n w.letters l found)) e
 
-  pub ticks_step : (to : ℕ) (id : NodeId) (x : NodeState) → (x.clock ≤ to → acts w id (ticks x to) ≡ Ok a → P) → ticks_at w to id x ≡ Ok a → P
+  pub ticks_step : (to : ℕ) (id : NodeId) (x : NodeState) → (x.clock ≤ to → acts w id x (ticks x to) ≡ Ok a → P) → ticks_at w to id x ≡ Ok a → P
   ticks_step to id x go_on e = by_falls (ltb to x.clock) refl e
     where
       by_far : (o : Option (NodeId × Process)) → x.clock ≤ to → ticked_unless o w id to x ≡ Ok a → P
@@ -117,7 +117,7 @@ module _ (P : Type 0) (w : WorldState) (a : Accepted) where
       by_full false e = by_next (leb 65536 (last_view w.views).next) e
 
   -- an agreed view is installed where no lease may run of a node that it leaves out
-  pub installs_step : (epoch : ℕ) (id : NodeId) (x : NodeState) → ((v : View) → In w.views v → find (may_run w.views v) w.processes ≡ None → acts w id (installs x v) ≡ Ok a → P) →
+  pub installs_step : (epoch : ℕ) (id : NodeId) (x : NodeState) → ((v : View) → In w.views v → find (may_run w.views v) w.processes ≡ None → acts w id x (installs x v) ≡ Ok a → P) →
       installs_at (numbered epoch w.views) w id x ≡ Ok a → P
   installs_step epoch id x go_on e = by_view (numbered epoch w.views) refl e
     where
@@ -138,9 +138,9 @@ module _ (P : Type 0) (w : WorldState) (a : Accepted) where
       by_view (Some v) found e = by_member v (numbered_in epoch w.views v found) (is_member id v.members) e
 
   -- a lease is granted to a member of the last view
-  pub leases_step : (id : NodeId) (end : ℕ) (x : NodeState) → (In (member_numbers (last_view w.views).members) id.0 → acts w id (grants x end) ≡ Ok a → P) → leases_at w id end x ≡ Ok a → P
+  pub leases_step : (id : NodeId) (end : ℕ) (x : NodeState) → (In (member_numbers (last_view w.views).members) id.0 → acts w id x (grants x end) ≡ Ok a → P) → leases_at w id end x ≡ Ok a → P
   leases_step id end x go_on e = by_member (is_member id (last_view w.views).members) refl e
     where
-      by_member : (b : Bool) → is_member id (last_view w.views).members ≡ b → cond b (acts w id (grants x end)) (Err NotMember) ≡ Ok a → P
+      by_member : (b : Bool) → is_member id (last_view w.views).members ≡ b → cond b (acts w id x (grants x end)) (Err NotMember) ≡ Ok a → P
       by_member true m e = go_on (in_members id (last_view w.views).members m) e
       by_member false m e = cc

@@ -3,7 +3,7 @@ use Rattle.std.proofs.Common.{◌≡◌, ℕ, Bool, true, false, cond, Option, S
 use Rattle.std.proofs.lemmas.Bool.{false≢true}
 use Rattle.hk_base.specs.declared.call.Content.{Content}
 use Rattle.hk_base.specs.declared.call.Op.{Op}
-use Rattle.hk_base.specs.declared.call.Op.TheVariants.{Read, Write, Cas, Incr, Decr}
+use Rattle.hk_base.specs.declared.call.Op.TheVariants.{Read, Write, Cas, Incr, Decr, Add, Replace, Delete}
 use Rattle.hk_base.specs.declared.stamp.Kind.TheVariants.{Write as Plain}
 use Rattle.hk_base.specs.declared.call.Answer.TheVariants.{Stored, Exists}
 use Rattle.hk_base.specs.Register.{Register, Acted, act, stays, changes, acts_number, number_in}
@@ -33,11 +33,17 @@ alike (Write d) None tag t u = record { changed = refl; answer = refl; content =
 alike (Cas k d) None tag t u = record { changed = refl; answer = refl; content = refl; stays = λ e. refl; answered = refl }
 alike (Incr n) None tag t u = record { changed = refl; answer = refl; content = refl; stays = λ e. refl; answered = refl }
 alike (Decr n) None tag t u = record { changed = refl; answer = refl; content = refl; stays = λ e. refl; answered = refl }
+alike (Add d) None tag t u = record { changed = refl; answer = refl; content = refl; stays = λ e. absurd (false≢true (sym e)); answered = refl }
+alike (Replace d) None tag t u = record { changed = refl; answer = refl; content = refl; stays = λ e. refl; answered = refl }
+alike Delete None tag t u = record { changed = refl; answer = refl; content = refl; stays = λ e. refl; answered = refl }
 alike Read (Some h) tag t u = record { changed = refl; answer = refl; content = refl; stays = λ e. refl; answered = refl }
 alike (Write d) (Some h) tag t u = record { changed = refl; answer = refl; content = refl; stays = λ e. absurd (false≢true (sym e)); answered = refl }
 alike (Cas k d) (Some h) tag t u = alike_if (record { content = Some h; tag = tag }) (eqb k tag) d t u
 alike (Incr n) (Some h) tag t u = alike_number (record { content = Some h; tag = tag }) (number_in h.bytes) _ h t u
 alike (Decr n) (Some h) tag t u = alike_number (record { content = Some h; tag = tag }) (number_in h.bytes) _ h t u
+alike (Add d) (Some h) tag t u = record { changed = refl; answer = refl; content = refl; stays = λ e. refl; answered = refl }
+alike (Replace d) (Some h) tag t u = record { changed = refl; answer = refl; content = refl; stays = λ e. absurd (false≢true (sym e)); answered = refl }
+alike Delete (Some h) tag t u = record { changed = refl; answer = refl; content = refl; stays = λ e. absurd (false≢true (sym e)); answered = refl }
 
 -- ---- a change takes the new tag
 takes_if : (r : Register) (b : Bool) (c : Content) (t : ℕ) → (cond b (changes Stored c t) (stays Exists r)).changed ≡ true → (cond b (changes Stored c t) (stays Exists r)).register ≡ record { content = (cond b (changes Stored c t) (stays Exists r)).register.content; tag = t }
@@ -54,11 +60,17 @@ takes_tag (Write d) None tag t e = refl
 takes_tag (Cas k d) None tag t e = absurd (false≢true e)
 takes_tag (Incr n) None tag t e = absurd (false≢true e)
 takes_tag (Decr n) None tag t e = absurd (false≢true e)
+takes_tag (Add d) None tag t e = refl
+takes_tag (Replace d) None tag t e = absurd (false≢true e)
+takes_tag Delete None tag t e = absurd (false≢true e)
 takes_tag Read (Some h) tag t e = absurd (false≢true e)
 takes_tag (Write d) (Some h) tag t e = refl
 takes_tag (Cas k d) (Some h) tag t e = takes_if (record { content = Some h; tag = tag }) (eqb k tag) d t e
 takes_tag (Incr n) (Some h) tag t e = takes_number (record { content = Some h; tag = tag }) (number_in h.bytes) _ h t e
 takes_tag (Decr n) (Some h) tag t e = takes_number (record { content = Some h; tag = tag }) (number_in h.bytes) _ h t e
+takes_tag (Add d) (Some h) tag t e = absurd (false≢true e)
+takes_tag (Replace d) (Some h) tag t e = refl
+takes_tag Delete (Some h) tag t e = refl
 
 -- ---- only a write is begun as a plain one, and a write looks at nothing
 write_does : (d : Content) (c : Option Content) (tag t : ℕ) → act (Write d) (record { content = c; tag = tag }) t ≡ changes Stored d t
@@ -71,3 +83,6 @@ plain_is_blind Read e = cc
 plain_is_blind (Cas k d) e = cc
 plain_is_blind (Incr n) e = cc
 plain_is_blind (Decr n) e = cc
+plain_is_blind (Add d) e = cc
+plain_is_blind (Replace d) e = cc
+plain_is_blind Delete e = cc

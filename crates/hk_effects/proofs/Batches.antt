@@ -6,7 +6,9 @@ use Rattle.hk_copy.specs.Batches.{Cut, is_after, is_nil, rows_after}
 use Rattle.hk_copy.proofs.Lawful.{is_whole}
 use Rattle.hk_key.specs.declared.row.Row.{Row}
 use Rattle.hk_key.specs.Table.{on_copy}
-use Rattle.hk_key.proofs.Unchanged.{same_after_copy}
+use Rattle.hk_key.proofs.Rising.{copy_never_lowers}
+use Rattle.hk_node.proofs.Order.{AreTouched, touched_with}
+use Rattle.hk_node.proofs.Acts.{copy_untouched, untouched_stays}
 use Rattle.hk_node.specs.Rows.{Rows, row_at, with_row}
 use Rattle.hk_node.specs.Node.{NodeState}
 use Rattle.hk_node.specs.Sound.{IsNode}
@@ -103,8 +105,9 @@ module _ (i : CopyItem) (rows : Rows) where
   abbrev with_item : Rows
   with_item = with_row i.key (on_copy (row_at i.key rows) i) rows
 
-  row-item_same : row_at i.key with_item ≡ on_copy (row_at i.key rows) i
-  row-item_same = row-with_same i.key (on_copy (row_at i.key rows) i) rows (same_after_copy (row_at i.key rows) i)
+  row-item_same : AreTouched rows → row_at i.key with_item ≡ on_copy (row_at i.key rows) i
+  row-item_same touched = row-with_same i.key (on_copy (row_at i.key rows) i) rows
+      (untouched_stays i.key rows (on_copy (row_at i.key rows) i) touched (copy_never_lowers (row_at i.key rows) i) (copy_untouched (row_at i.key rows) i))
 
   row-item_other : (key : List ℕ) → key ≢ i.key → row_at key with_item ≡ row_at key rows
   row-item_other key ne = row-with_other key i.key (on_copy (row_at i.key rows) i) rows ne
@@ -123,19 +126,19 @@ merged_past low key (i ∷ items) rows rises past =
     merged_past (Some i.key) key items (with_item i rows) rises.1 past' ∙ row-item_other i rows key (above_differs i.key key up)
 
 -- a key is met once, or has no item
-pub merged_at : (low : Option (List ℕ)) (key : List ℕ) (items : List CopyItem) (rows : Rows) → RisesBehind low (item_keys items) →
+pub merged_at : (low : Option (List ℕ)) (key : List ℕ) (items : List CopyItem) (rows : Rows) → AreTouched rows → RisesBehind low (item_keys items) →
     (row_at key (merged items rows) ≡ on_copy (row_at key rows) (item_at key items)) ⊎ (row_at key (merged items rows) ≡ row_at key rows) × (item_at key items ≡ first_item)
-merged_at low key [] rows rises = inr (refl, refl)
-merged_at low key (i ∷ items) rows rises =
+merged_at low key [] rows touched rises = inr (refl, refl)
+merged_at low key (i ∷ items) rows touched rises =
     ⊎_elim
     (λ (e : key ≡ i.key).
     let out : is_behind (Some i.key) key ≡ false = subst (λ (k : List ℕ). is_behind (Some i.key) k ≡ false) (sym e) (not_behind_itself i.key) in
     let later = merged_below (Some i.key) key items (with_item i rows) rises.1 out in
-    let now : row_at key (with_item i rows) ≡ on_copy (row_at key rows) i = ap (λ (k : List ℕ). row_at k (with_item i rows)) e ∙ (row-item_same i rows ∙ ap (λ (k : List ℕ). on_copy (row_at k rows) i) (sym e)) in
+    let now : row_at key (with_item i rows) ≡ on_copy (row_at key rows) i = ap (λ (k : List ℕ). row_at k (with_item i rows)) e ∙ (row-item_same i rows touched ∙ ap (λ (k : List ℕ). on_copy (row_at k rows) i) (sym e)) in
     inl (later ∙ (now ∙ ap (on_copy (row_at key rows)) (sym (item_here key i items e)))))
     (λ (ne : key ≢ i.key).
     let still = row-item_other i rows key ne in
     let none = item_next key i items ne in
     ⊎_elim
     (λ (h : row_at key (merged items (with_item i rows)) ≡ on_copy (row_at key (with_item i rows)) (item_at key items)). inl (h ∙ (ap (λ (r : Row). on_copy r (item_at key items)) still ∙ ap (on_copy (row_at key rows)) (sym none))))
-    (λ (h : (row_at key (merged items (with_item i rows)) ≡ row_at key (with_item i rows)) × (item_at key items ≡ first_item)). inr (h.0 ∙ still, none ∙ h.1)) (merged_at (Some i.key) key items (with_item i rows) rises.1)) (cases_key key i.key)
+    (λ (h : (row_at key (merged items (with_item i rows)) ≡ row_at key (with_item i rows)) × (item_at key items ≡ first_item)). inr (h.0 ∙ still, none ∙ h.1)) (merged_at (Some i.key) key items (with_item i rows) (touched_with i.key (on_copy (row_at i.key rows) i) rows touched) rises.1)) (cases_key key i.key)

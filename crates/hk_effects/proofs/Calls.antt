@@ -19,16 +19,15 @@ use Rattle.hk_base.specs.Register.{act, stays}
 use Rattle.hk_history.specs.History.{is_void, is_answered}
 use Rattle.hk_key.specs.declared.row.Row.{Row}
 use Rattle.hk_key.specs.Notes.{all_noted}
-use Rattle.hk_key.specs.Same.{is_same_row}
 use Rattle.hk_key.specs.Table.{Done, begin}
-use Rattle.hk_key.proofs.Unchanged.{begin_changes, started_stamp}
+use Rattle.hk_key.proofs.Unchanged.{started_stamp}
 use Rattle.hk_register.specs.Machine.{Node, Item}
 use Rattle.hk_register.specs.Machine.Phase.{Valid}
 use Rattle.hk_register.specs.Machine.Item.{Called, Looked, Missed}
 use Rattle.hk_register.specs.Effects.{Leased, Stays, step_of, register_of}
 use Rattle.hk_register.specs.Effects.Effect.{Look, Refuse}
 use Rattle.hk_register.specs.Parts.{Parts}
-use Rattle.hk_node.specs.Rows.{row_at}
+use Rattle.hk_node.specs.Rows.{row_at, is_touched}
 use Rattle.hk_node.specs.Node.{NodeState, epoch_of, members_of}
 use Rattle.hk_node.specs.Stepped.{Stepped, row_step, told_of}
 use Rattle.hk_node.specs.Calls.{kind_of, next_stamp, register_in, answers, at_limit, at_turn, at_state, lease_end, at_lease, called}
@@ -67,6 +66,9 @@ above v m s n small some = omega arith
 -- what a call that begins an update says
 begins_said : (c : ℕ) (op : Op) (was z : Node) (s : ℕ) (rs : List Reply) → z.stamp ≡ s → s ≢ was.stamp → call_items (eqb z.stamp was.stamp) c op was z rs ≡ map (reply_item s) rs ++ Called c s op ∷ []
 begins_said c op was z s rs same ne = ap (λ (n : ℕ). call_items (eqb n was.stamp) c op was (record z { stamp = n }) rs) same ∙ ap (λ (b : Bool). call_items b c op was (record z { stamp = s }) rs) (ne_eqb s was.stamp ne)
+
+above_zero : (a b : ℕ) → a < b → ltb 0 b ≡ false → ⊥
+above_zero a b less none = let le = ltb-false 0 b none in omega arith
 
 module _ (V : ℕ → List ℕ) (key : List ℕ) (t : Trace) (parts : Parts V (view key t)) (own : IsOwn t.world) (agrees : Agrees t.world V) (tok : IsTrace t) (x : NodeState) (alive : IsLive V key t parts own agrees tok x) where
   abbrev at_key : (view key t).node x.id.0 ≡ key_node key (Some x)
@@ -140,9 +142,8 @@ module _ (V : ℕ → List ℕ) (key : List ℕ) (t : Trace) (parts : Parts V (v
       let d : Done = begins op r s in
       let changes' : (act op (register_of r.content (tag_of r.stamp)) (tag_of s)).changed ≡ true = sym (alike op r.content (tag_of r.stamp) 0 (tag_of s)).changed ∙ changes in
       let rises : tag_of r.stamp < tag_of s = rw (ap tag_of stamp) (above r.stamp.version r.stamp.node (step_of (kind_of op)) x.id.0 (mine.row key).small (step_some (kind_of op))) in
-      let differs : is_same_row r d.row ≡ false = begin_changes x.id (members_of x) r (begun_reply c op r s) s (kind_of op) (act op (register_in r) (tag_of s)).register.content rises in
-      let unchanged : is_same_row r d.row ≡ true → d.row ≡ r = λ e. absurd (false≢true (sym differs ∙ e)) in
       let at_s : d.row.stamp ≡ s = started_stamp (all_noted x.id (members_of x) []) (beginning op r s) (begun_update c op r s) in
+      let unchanged : is_touched d.row ≡ false → d.row ≡ r = λ e. absurd (above_zero (tag_of r.stamp) (tag_of s) rises (ap (λ (t : Stamp). ltb 0 (tag_of t)) (sym at_s) ∙ e)) in
       let now_s : (key_node key (Some (row_step x key d).node)).stamp ≡ tag_of s = ap (λ (w : Row). tag_of w.stamp) (row-with_same key d.row x.rows unchanged) ∙ ap tag_of at_s in
       let hs : List Item = reply_items (tag_of s) d.out.reply ++ Called c (tag_of s) op ∷ [] in
       let ne : tag_of s ≢ tag_of r.stamp = λ e. absurd (omega (arith, e)) in

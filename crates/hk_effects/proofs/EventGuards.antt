@@ -25,7 +25,7 @@ use Rattle.hk_effects.proofs.Guards.{EpochGuarded, Guards, step_carries, acts_gu
 
 module _ (w : WorldState) (own : IsOwn w) where
   agreed_guards : (v : View) (a : Accepted) → v.epoch ≡ (last_view w.views).epoch + 1 → agreed_on w v ≡ Ok a → Guards w a
-  agreed_guards v a next e = aside_guards w (record w { views = w.views ++ v ∷ [] }) (record nothing { view = Some v }) (λ k g. record {
+  agreed_guards v a next e = aside_guards w (record w { views = w.views ++ v ∷ [] }) (Some v) (λ k g. record {
     upto = rw (last_added w.views v) (let u = g.upto in omega (arith, next));
     ended = λ id y at p q hp hq low at_q in_p out_q. ended k g id y at p q low at_q in_p out_q (old_or_new p hp) (old_or_new q hq);
   }) a e
@@ -56,7 +56,7 @@ module _ (w : WorldState) (own : IsOwn w) where
       last_test b c d eb ec e = rw (eb, ec) at e
 
   module _ (id : NodeId) (x : NodeState) (at : process_at id w.processes ≡ Some (alive x)) where
-    install_guards : (v : View) → In w.views v → find (may_run w.views v) w.processes ≡ None → (a : Accepted) → acts w id (installs x v) ≡ Ok a → Guards w a
+    install_guards : (v : View) → In w.views v → find (may_run w.views v) w.processes ≡ None → (a : Accepted) → acts w id x (installs x v) ≡ Ok a → Guards w a
     install_guards v agreed none a e =
         let s = installs x v in
         let test = ltb (epoch_of x) v.epoch && is_member x.id v.members in
@@ -74,7 +74,7 @@ module _ (w : WorldState) (own : IsOwn w) where
         new_epoch false = inl refl
 
     -- a member of the last view is one of each view since it first was: no view leaves it out
-    lease_guards : (end : ℕ) → In (member_numbers (last_view w.views).members) id.0 → (a : Accepted) → acts w id (grants x end) ≡ Ok a → Guards w a
+    lease_guards : (end : ℕ) → In (member_numbers (last_view w.views).members) id.0 → (a : Accepted) → acts w id x (grants x end) ≡ Ok a → Guards w a
     lease_guards end inside a e = acts_guards w id x at (grants x end)
         (λ k u v hu hv low at_v in_u out_v. absurd (out_v (own.views.chain u v (last_view w.views) hu hv own.views.last (omega (arith, at_v, low)) (own.views.within v hv).1 id.0 in_u inside))) (inl refl) a e
 
@@ -84,15 +84,15 @@ module _ (w : WorldState) (own : IsOwn w) where
   guards_at (Tick actor to) a e = live_actor_step (Guards w a) w a actor (ticks_at w to) (λ id x at e. ticks_step (Guards w a) w a to id x (λ up e. tick_guards w id x at to a e) e) e
   guards_at (TickAll to) a e = all_tick_step (Guards w a) w a to (λ e. tick_all_guards w to a e) e
   guards_at (Crash actor) a e = live_actor_step (Guards w a) w a actor (crashes_at w) (λ id x at e. crash_guards w id x a e) e
-  guards_at (Resend id key) a e = live_step (Guards w a) w a id (λ node. acts w id (resent node key)) (λ x at e. seen_guards w id x at (resent x key) (found_seen x key resend (find_row key x.rows)) a e) e
-  guards_at (Replay id key) a e = live_step (Guards w a) w a id (λ node. acts w id (replayed node key)) (λ x at e. seen_guards w id x at (replayed x key) (replayed_seen x key) a e) e
-  guards_at (Copy id from room) a e = live_step (Guards w a) w a id (λ node. acts w id (asks_copy node from room)) (λ x at e. seen_guards w id x at (asks_copy x from room) (asks_seen x from room) a e) e
+  guards_at (Resend id key) a e = live_step (Guards w a) w a id (λ node. acts w id node (resent node key)) (λ x at e. seen_guards w id x at (resent x key) (found_seen x key resend (find_row key x.rows)) a e) e
+  guards_at (Replay id key) a e = live_step (Guards w a) w a id (λ node. acts w id node (replayed node key)) (λ x at e. seen_guards w id x at (replayed x key) (replayed_seen x key) a e) e
+  guards_at (Copy id from room) a e = live_step (Guards w a) w a id (λ node. acts w id node (asks_copy node from room)) (λ x at e. seen_guards w id x at (asks_copy x from room) (asks_seen x from room) a e) e
   guards_at (Start id) a e = starts_step (Guards w a) w a id (λ inside e. join_guards w id a e) e
   guards_at (Agree change) a e = agrees_step (Guards w a) w a own.views change (λ v follows e. agreed_guards v a follows.epoch e) e
   guards_at (Install id epoch) a e = live_step (Guards w a) w a id (λ node. installs_at (numbered epoch w.views) w id node)
       (λ x at e. installs_step (Guards w a) w a epoch id x (λ v agreed none e. install_guards id x at v agreed none a e) e) e
   guards_at (Lease id end) a e = live_step (Guards w a) w a id (leases_at w id end) (λ x at e. leases_step (Guards w a) w a id end x (λ inside e. lease_guards id x at end inside a e) e) e
-  guards_at (AskLease id manager) a e = live_step (Guards w a) w a id (λ node. acts w id (idle node)) (λ x at e. seen_guards w id x at (idle x) refl a e) e
+  guards_at (AskLease id manager) a e = live_step (Guards w a) w a id (λ node. acts w id node (idle node)) (λ x at e. seen_guards w id x at (idle x) refl a e) e
   guards_at (Propose manager base change) a e = cc
   guards_at (Activate manager) a e = cc
 

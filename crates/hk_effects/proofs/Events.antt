@@ -38,7 +38,7 @@ module _ (V : ℕ → List ℕ) (key : List ℕ) (t : Trace) (parts : Parts V (v
 
   -- the step of a live node
   acts_effect : (event : Event) (id : NodeId) (x : NodeState) → x.id ≡ id → (alive : IsLive V key t parts own agrees tok x) (o : Stepped) (a : Accepted) →
-      OwesLive V key t parts own agrees tok x alive o (items_said key event (t.world.calls + 1) x o) → acts t.world id o ≡ accepts a → Is event a
+      OwesLive V key t parts own agrees tok x alive o (items_said key event (t.world.calls + 1) x o) → acts t.world id x o ≡ accepts a → Is event a
   acts_effect event id x same alive o a owed e = stepped_effect V key t parts own agrees tok event t.world.calls None id x same alive o a owed e
 
   -- that changes nothing of any key
@@ -60,7 +60,7 @@ module _ (V : ℕ → List ℕ) (key : List ℕ) (t : Trace) (parts : Parts V (v
 
   tick_all_effect : (to : ℕ) (a : Accepted) (b : Bool) → cond b (Err (ClockFalls (greatest_clock 0 t.world.processes))) (aside (record t.world { processes = map (process_ticked to) t.world.processes }) nothing) ≡ accepts a → Is (TickAll to) a
   tick_all_effect to a true e = cc
-  tick_all_effect to a false e = aside_effect V key t parts own agrees tok (TickAll to) (record t.world { processes = map (process_ticked to) t.world.processes }) nothing a (λ m. ticked_node key to m t.world.processes) refl e
+  tick_all_effect to a false e = aside_effect V key t parts own agrees tok (TickAll to) (record t.world { processes = map (process_ticked to) t.world.processes }) None a (λ m. ticked_node key to m t.world.processes) refl e
 
   -- ---- crashes and starts
   crash_effect : (actor : Actor) (a : Accepted) → live_actor t.world actor (crashes_at t.world) ≡ accepts a → Is (Crash actor) a
@@ -68,7 +68,7 @@ module _ (V : ℕ → List ℕ) (key : List ℕ) (t : Trace) (parts : Parts V (v
   crash_effect (A.Node id) a e = live_effect V key t parts own agrees tok (Crash (A.Node id)) id (crashes_at t.world id) a (λ x same alive e.
       let dead : Process = record { node = x; crashed = true } in
       let at : node_at id.0 t.world.processes ≡ Some x = subst (λ (i : NodeId). node_at i.0 t.world.processes ≡ Some x) same (live_is V key t parts own agrees tok x alive) in
-      aside_effect V key t parts own agrees tok (Crash (A.Node id)) (record t.world { processes = put_process id dead t.world.processes }) nothing a
+      aside_effect V key t parts own agrees tok (Crash (A.Node id)) (record t.world { processes = put_process id dead t.world.processes }) None a
       (λ m. ap (key_node key) (⊎_elim
       (λ (is : m ≡ id.0). rw is (node-put_same id dead t.world.processes ∙ sym at))
       (λ (other : m ≢ id.0). node-put_other m id dead t.world.processes other) (cases_eq m id.0))) refl e) e
@@ -80,7 +80,7 @@ module _ (V : ℕ → List ℕ) (key : List ℕ) (t : Trace) (parts : Parts V (v
       by_member : (b : Bool) → cond b (aside (record t.world { processes = put_process id (joining t.world id) t.world.processes }) nothing) (Err NotMember) ≡ accepts a → Is (Start id) a
       by_member false e = cc
       by_member true e =
-          aside_effect V key t parts own agrees tok (Start id) (record t.world { processes = put_process id (joining t.world id) t.world.processes }) nothing a
+          aside_effect V key t parts own agrees tok (Start id) (record t.world { processes = put_process id (joining t.world id) t.world.processes }) None a
           (λ m. ⊎_elim
           (λ (is : m ≡ id.0).
           let none : key_node key (node_at id.0 t.world.processes) ≡ key_node key None = ap (λ (o : Option Process). key_node key (node_of o)) at in
@@ -90,7 +90,7 @@ module _ (V : ℕ → List ℕ) (key : List ℕ) (t : Trace) (parts : Parts V (v
 
   -- ---- views
   agreed_effect : (change : ViewChange) (v : View) (a : Accepted) → agreed_on t.world v ≡ accepts a → Is (Agree change) a
-  agreed_effect change v a e = aside_effect V key t parts own agrees tok (Agree change) (record t.world { views = t.world.views ++ v ∷ [] }) (record nothing { view = Some v }) a (λ m. refl) refl e
+  agreed_effect change v a e = aside_effect V key t parts own agrees tok (Agree change) (record t.world { views = t.world.views ++ v ∷ [] }) (Some v) a (λ m. refl) refl e
 
   agree_effect : (v : View) (change : ViewChange) (a : Accepted) → changes_view t.world v change ≡ accepts a → Is (Agree change) a
   agree_effect v (Drop id) a e = by_member (is_member id v.members) e
@@ -136,7 +136,7 @@ module _ (V : ℕ → List ℕ) (key : List ℕ) (t : Trace) (parts : Parts V (v
   lease_effect : (id : NodeId) (end : ℕ) (a : Accepted) → live t.world id (leases_at t.world id end) ≡ accepts a → Is (Lease id end) a
   lease_effect id end a e = live_effect V key t parts own agrees tok (Lease id end) id (leases_at t.world id end) a (λ x same alive e. by_member x same alive (is_member id (last_view t.world.views).members) e) e
     where
-      by_member : (x : NodeState) → x.id ≡ id → (alive : IsLive V key t parts own agrees tok x) (b : Bool) → cond b (acts t.world id (grants x end)) (Err NotMember) ≡ accepts a → Is (Lease id end) a
+      by_member : (x : NodeState) → x.id ≡ id → (alive : IsLive V key t parts own agrees tok x) (b : Bool) → cond b (acts t.world id x (grants x end)) (Err NotMember) ≡ accepts a → Is (Lease id end) a
       by_member x same alive true e = acts_effect (Lease id end) id x same alive (grants x end) a (calm_step x alive (grants x end).node refl) e
       by_member x same alive false e = cc
 
@@ -147,14 +147,14 @@ module _ (V : ℕ → List ℕ) (key : List ℕ) (t : Trace) (parts : Parts V (v
   event_effect_at gives taken installed (Tick actor to) a e = tick_effect actor to a e
   event_effect_at gives taken installed (TickAll to) a e = tick_all_effect to a (ltb to (greatest_clock 0 t.world.processes)) e
   event_effect_at gives taken installed (Crash actor) a e = crash_effect actor a e
-  event_effect_at gives taken installed (Resend id k) a e = live_effect V key t parts own agrees tok (Resend id k) id (λ node. acts t.world id (resent node k)) a (λ x same alive e. acts_effect (Resend id k) id x same alive (resent x k) a (resend_owed V key t parts own agrees tok x alive k) e) e
-  event_effect_at gives taken installed (Replay id k) a e = live_effect V key t parts own agrees tok (Replay id k) id (λ node. acts t.world id (replayed node k)) a (λ x same alive e. acts_effect (Replay id k) id x same alive (replayed x k) a (replay_owed V key t parts own agrees tok x alive k) e) e
-  event_effect_at gives taken installed (Copy id from room) a e = live_effect V key t parts own agrees tok (Copy id from room) id (λ node. acts t.world id (asks_copy node from room)) a (λ x same alive e. acts_effect (Copy id from room) id x same alive (asks_copy x from room) a (asks_owed V key t parts own agrees tok x alive from room) e) e
+  event_effect_at gives taken installed (Resend id k) a e = live_effect V key t parts own agrees tok (Resend id k) id (λ node. acts t.world id node (resent node k)) a (λ x same alive e. acts_effect (Resend id k) id x same alive (resent x k) a (resend_owed V key t parts own agrees tok x alive k) e) e
+  event_effect_at gives taken installed (Replay id k) a e = live_effect V key t parts own agrees tok (Replay id k) id (λ node. acts t.world id node (replayed node k)) a (λ x same alive e. acts_effect (Replay id k) id x same alive (replayed x k) a (replay_owed V key t parts own agrees tok x alive k) e) e
+  event_effect_at gives taken installed (Copy id from room) a e = live_effect V key t parts own agrees tok (Copy id from room) id (λ node. acts t.world id node (asks_copy node from room)) a (λ x same alive e. acts_effect (Copy id from room) id x same alive (asks_copy x from room) a (asks_owed V key t parts own agrees tok x alive from room) e) e
   event_effect_at gives taken installed (Start id) a e = start_effect id a (process_at id t.world.processes) refl e
   event_effect_at gives taken installed (Agree change) a e = agree_effect (last_view t.world.views) change a e
   event_effect_at gives taken installed (Install id epoch) a e = install_effect installed id epoch a e
   event_effect_at gives taken installed (Lease id end) a e = lease_effect id end a e
-  event_effect_at gives taken installed (AskLease id manager) a e = live_effect V key t parts own agrees tok (AskLease id manager) id (λ node. acts t.world id (idle node)) a (λ x same alive e. acts_effect (AskLease id manager) id x same alive (idle x) a (calm_step x alive x refl) e) e
+  event_effect_at gives taken installed (AskLease id manager) a e = live_effect V key t parts own agrees tok (AskLease id manager) id (λ node. acts t.world id node (idle node)) a (λ x same alive e. acts_effect (AskLease id manager) id x same alive (idle x) a (calm_step x alive x refl) e) e
   event_effect_at gives taken installed (Propose manager base change) a e = cc
   event_effect_at gives taken installed (Activate manager) a e = cc
 

@@ -1,5 +1,5 @@
 -- What is kept of leases: an epoch that is guarded stays so, and a node acts in its old epoch, or in a guarded one.
-use Rattle.std.proofs.Common.{◌≡◌, ◌⊎◌, ◌≢◌, ℕ, Bool, true, false, ◌+◌, List, [], map, ◌<◌, ◌≤◌, ◌∙◌, sym, refl, ap, subst, inl, ⊎_elim, arith, Some, None, Ok}
+use Rattle.std.proofs.Common.{◌≡◌, ◌⊎◌, ◌≢◌, ℕ, Bool, true, false, ◌+◌, List, [], map, ◌<◌, ◌≤◌, ◌∙◌, sym, refl, ap, subst, inl, ⊎_elim, arith, Option, Some, None, Ok}
 use Rattle.std.proofs.lemmas.Bool.{false≢true, cases_eq}
 use Rattle.hk_base.specs.declared.stamp.NodeId.{NodeId}
 use Rattle.hk_base.specs.declared.call.CallNo.{CallNo}
@@ -14,7 +14,7 @@ use Rattle.hk_node.specs.Steps.{ticks}
 use Rattle.hk_world.specs.declared.process.Process.{Process}
 use Rattle.hk_world.specs.declared.shown.Shown.{Shown}
 use Rattle.hk_world.specs.World.{WorldState, process_at, put_process, node_of, last_view}
-use Rattle.hk_world.specs.Steps.{Accepted, with_step, shown_of, acts, aside, nothing, calls_at, process_ticked, crashes_at, joining}
+use Rattle.hk_world.specs.Steps.{acting_of, Accepted, with_step, shown_of, acts, aside, nothing, calls_at, process_ticked, crashes_at, joining}
 use Rattle.hk_effects.specs.View.{node_at}
 use Rattle.hk_effects.specs.Own.{Ended}
 use Rattle.hk_effects.proofs.Processes.{numbered_node, process-put_same, process-put_other, node-put_same}
@@ -38,7 +38,7 @@ pub record ActsGuarded (w next : WorldState) (id : NodeId) : Type 0 where
 -- what an event keeps of leases
 pub record Guards (w : WorldState) (a : Accepted) : Type 0 where
   pub carries : (e : ℕ) → EpochGuarded w e → EpochGuarded a.world e
-  pub acting : (id : NodeId) → a.acting ≡ Some id → ActsGuarded w a.world id
+  pub acting : (id : NodeId) → acting_of a ≡ Some id → ActsGuarded w a.world id
 
 module _ (w : WorldState) where
   -- a node is put: its lease has ended, if it had before, or it has crashed
@@ -71,7 +71,7 @@ module _ (w : WorldState) where
     pub step_acting : (calls : ℕ) (s : Stepped) → (epoch_of s.node ≡ epoch_of x) ⊎ EpochGuarded (record (with_step w id s) { calls = calls }) (epoch_of s.node) → ActsGuarded w (record (with_step w id s) { calls = calls }) id
     step_acting calls s epoch = record { was = x; now = s.node; at_was = ap node_of at; at_now = node-put_same id (alive s.node) w.processes; epoch = epoch }
 
-    pub step_guards : (calls : ℕ) (s : Stepped) (a : Accepted) → a.world ≡ record (with_step w id s) { calls = calls } → a.acting ≡ Some id →
+    pub step_guards : (calls : ℕ) (s : Stepped) (a : Accepted) → a.world ≡ record (with_step w id s) { calls = calls } → acting_of a ≡ Some id →
         ((e : ℕ) (u v : View) → In w.views u → In w.views v → u.epoch < e → v.epoch ≡ e → In (member_numbers u.members) id.0 → (In (member_numbers v.members) id.0 → ⊥) → StillEnded x s.node) →
         (epoch_of s.node ≡ epoch_of x) ⊎ EpochGuarded (record (with_step w id s) { calls = calls }) (epoch_of s.node) → Guards w a
     step_guards calls s a world acting still epoch = record {
@@ -82,13 +82,13 @@ module _ (w : WorldState) where
     -- an accepted step, whose world and node these are
     pub acts_guards : (s : Stepped) →
         ((e : ℕ) (u v : View) → In w.views u → In w.views v → u.epoch < e → v.epoch ≡ e → In (member_numbers u.members) id.0 → (In (member_numbers v.members) id.0 → ⊥) → StillEnded x s.node) →
-        (epoch_of s.node ≡ epoch_of x) ⊎ EpochGuarded (with_step w id s) (epoch_of s.node) → (a : Accepted) → acts w id s ≡ Ok a → Guards w a
+        (epoch_of s.node ≡ epoch_of x) ⊎ EpochGuarded (with_step w id s) (epoch_of s.node) → (a : Accepted) → acts w id x s ≡ Ok a → Guards w a
     acts_guards s still epoch a e =
-        let b : Accepted = record { world = with_step w id s; acting = Some id; told = s.told; shown = shown_of w id s None } in
-        let same : b ≡ a = the_accepted b a (acts w id s) refl e in
-        step_guards w.calls s a (sym (ap (λ (z : Accepted). z.world) same)) (sym (ap (λ (z : Accepted). z.acting) same)) still epoch
+        let b : Accepted = record { world = with_step w id s; told = s.told; shown = shown_of w id x s None } in
+        let same : b ≡ a = the_accepted b a (acts w id x s) refl e in
+        step_guards w.calls s a (sym (ap (λ (z : Accepted). z.world) same)) (sym (ap acting_of same)) still epoch
 
-    pub seen_guards : (s : Stepped) → SeesSame x s → (a : Accepted) → acts w id s ≡ Ok a → Guards w a
+    pub seen_guards : (s : Stepped) → SeesSame x s → (a : Accepted) → acts w id x s ≡ Ok a → Guards w a
     seen_guards s seen a e = acts_guards s (λ e u v hu hv low at_v in_u out_v. seen_ended x s.node seen) (inl (ap (λ (z : Seen). z.epoch) seen)) a e
 
     pub call_guards : (key : List ℕ) (op : Op) (a : Accepted) → calls_at w id key op x ≡ Ok a → Guards w a
@@ -96,20 +96,20 @@ module _ (w : WorldState) where
         let call : CallNo = record { 0 = w.calls + 1 } in
         let s : Stepped = called x call key op in
         let seen : SeesSame x s = called_seen x call key op in
-        let b : Accepted = record { world = record (with_step w id s) { calls = w.calls + 1 }; acting = Some id; told = s.told; shown = shown_of w id s (Some call) } in
+        let b : Accepted = record { world = record (with_step w id s) { calls = w.calls + 1 }; told = s.told; shown = shown_of w id x s (Some call) } in
         let same : b ≡ a = the_accepted b a (calls_at w id key op x) refl e in
-        step_guards (w.calls + 1) s a (sym (ap (λ (z : Accepted). z.world) same)) (sym (ap (λ (z : Accepted). z.acting) same)) (λ e u v hu hv low at_v in_u out_v. seen_ended x s.node seen) (inl (ap (λ (z : Seen). z.epoch) seen))
+        step_guards (w.calls + 1) s a (sym (ap (λ (z : Accepted). z.world) same)) (sym (ap acting_of same)) (λ e u v hu hv low at_v in_u out_v. seen_ended x s.node seen) (inl (ap (λ (z : Seen). z.epoch) seen))
 
     -- a clock does not fall
-    pub tick_guards : (to : ℕ) (a : Accepted) → acts w id (ticks x to) ≡ Ok a → Guards w a
+    pub tick_guards : (to : ℕ) (a : Accepted) → acts w id x (ticks x to) ≡ Ok a → Guards w a
     tick_guards to a e = acts_guards (ticks x to) (λ e u v hu hv low at_v in_u out_v h. omega arith) (inl refl) a e
 
-  pub aside_guards : (next : WorldState) (shown : Shown) → ((e : ℕ) → EpochGuarded w e → EpochGuarded next e) → (a : Accepted) → aside next shown ≡ Ok a → Guards w a
-  aside_guards next shown carries a e =
-      subst (Guards w) (the_accepted (record { world = next; acting = None; told = []; shown = shown }) a (aside next shown) refl e) (record { carries = carries; acting = λ i none. cc })
+  pub aside_guards : (next : WorldState) (v : Option View) → ((e : ℕ) → EpochGuarded w e → EpochGuarded next e) → (a : Accepted) → aside next (record nothing { view = v }) ≡ Ok a → Guards w a
+  aside_guards next v carries a e =
+      subst (Guards w) (the_accepted (record { world = next; told = []; shown = record nothing { view = v } }) a (aside next (record nothing { view = v })) refl e) (record { carries = carries; acting = λ i none. cc })
 
   pub tick_all_guards : (to : ℕ) (a : Accepted) → aside (record w { processes = map (process_ticked to) w.processes }) nothing ≡ Ok a → Guards w a
-  tick_all_guards to a e = aside_guards (record w { processes = map (process_ticked to) w.processes }) nothing (λ k g. record {
+  tick_all_guards to a e = aside_guards (record w { processes = map (process_ticked to) w.processes }) None (λ k g. record {
     upto = g.upto;
     ended = λ id y at u v hu hv low at_v in_u out_v.
         let f = ticked_from to (numbered_node id) w.processes (alive y) at in
@@ -123,7 +123,7 @@ module _ (w : WorldState) where
 
   -- a process that is put, whose lease has ended, or that has crashed
   pub put_guards : (id : NodeId) (p : Process) → ((y : NodeState) → p ≡ alive y → y.granted < y.clock + y.skew) → (a : Accepted) → aside (record w { processes = put_process id p w.processes }) nothing ≡ Ok a → Guards w a
-  put_guards id p ended a e = aside_guards (record w { processes = put_process id p w.processes }) nothing
+  put_guards id p ended a e = aside_guards (record w { processes = put_process id p w.processes }) None
       (put_carries (record w { processes = put_process id p w.processes }) id p refl refl (λ e y is u v hu hv low at_v in_u out_v g. ended y is)) a e
 
   pub crash_guards : (id : NodeId) (x : NodeState) (a : Accepted) → crashes_at w id x ≡ Ok a → Guards w a

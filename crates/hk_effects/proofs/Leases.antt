@@ -88,7 +88,7 @@ received_seen (Ack k s top) x from = found_seen x k _ (find_row k x.rows)
 received_seen (Val k s) x from = found_seen x k _ (find_row k x.rows)
 received_seen (CopyAsk after room) x from = given_seen x (record { node = x; letters = letters_to x (CopyGive after (is_nil (batch_behind x after room).left) (batch_behind x after room).taken) (from ∷ []); told = []; installed = None }) x.ready refl
 received_seen (CopyGive after done items) x from = given_seen x (record { node = record x { ready = done; cursor = option_or (last_key items) x.cursor; rows = merged items x.rows }; letters = []; told = []; installed = None }) (not x.ready && is_next after x.cursor) refl
-received_seen LeaseAsk x from = refl
+received_seen (LeaseAsk asked) x from = refl
 received_seen (LeaseGive end) x from = refl
 received_seen (Prepare ballot) x from = refl
 received_seen (Promise ballot vote) x from = refl

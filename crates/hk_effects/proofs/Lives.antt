@@ -15,9 +15,9 @@ use Rattle.hk_node.specs.Stepped.{Stepped}
 use Rattle.hk_world.specs.declared.event.Event.{Event}
 use Rattle.hk_world.specs.declared.process.Process.{Process}
 use Rattle.hk_world.specs.declared.refused.Refused.{Refused}
-use Rattle.hk_world.specs.declared.shown.Shown.{Shown}
+use Rattle.hk_base.specs.declared.view.View.{View}
 use Rattle.hk_world.specs.World.{WorldState, process_at, node_of}
-use Rattle.hk_world.specs.Steps.{Accepted, aside, live, live_at, running_at}
+use Rattle.hk_world.specs.Steps.{Accepted, nothing, aside, live, live_at, running_at}
 use Rattle.hk_effects.specs.View.{key_node, node_at, Trace, view, traced}
 use Rattle.hk_effects.specs.Own.{IsNodeOf, IsOwn, IsTrace, Agrees}
 use Rattle.hk_effects.specs.Laws.{Effects}
@@ -54,15 +54,15 @@ module _ (V : ℕ → List ℕ) (key : List ℕ) (t : Trace) (parts : Parts V (v
 
   -- the effect of a live node's step
   pub stepped_effect : (event : Event) (calls : ℕ) (call : Option CallNo) (id : NodeId) (x : NodeState) → x.id ≡ id → (alive : IsLive x) (o : Stepped) (a : Accepted) → OwesLive x alive o (items_said key event (t.world.calls + 1) x o) →
-      accepts (accepted t.world id o calls call) ≡ accepts a → IsEffects event a
+      accepts (accepted t.world id x o calls call) ≡ accepts a → IsEffects event a
   stepped_effect event calls call id x same alive o a owes e =
-      let is : a ≡ accepted t.world x.id o calls call = sym (accepts_same (accepted t.world id o calls call) a e) ∙ ap (λ (i : NodeId). accepted t.world i o calls call) (sym same) in
-      rw is (owes (view key (traced key t event (accepted t.world x.id o calls call))) (step_change key t event calls call x.id x o (live_is x alive)))
+      let is : a ≡ accepted t.world x.id x o calls call = sym (accepts_same (accepted t.world id x o calls call) a e) ∙ ap (λ (i : NodeId). accepted t.world i x o calls call) (sym same) in
+      rw is (owes (view key (traced key t event (accepted t.world x.id x o calls call))) (step_change key t event calls call x.id x o (live_is x alive)))
 
   -- no node's step: no node looks different for the key, and nothing is sent
-  pub aside_effect : (event : Event) (w : WorldState) (shown : Shown) (a : Accepted) → ((m : ℕ) → key_node key (node_at m w.processes) ≡ key_node key (node_at m t.world.processes)) → w.letters ≡ t.world.letters → aside w shown ≡ accepts a → IsEffects event a
-  aside_effect event w shown a same letters e =
-      let is : a ≡ record { world = w; acting = None; told = []; shown = shown } = sym (accepts_same (record { world = w; acting = None; told = []; shown = shown }) a e) in
+  pub aside_effect : (event : Event) (w : WorldState) (v : Option View) (a : Accepted) → ((m : ℕ) → key_node key (node_at m w.processes) ≡ key_node key (node_at m t.world.processes)) → w.letters ≡ t.world.letters → aside w (record nothing { view = v }) ≡ accepts a → IsEffects event a
+  aside_effect event w v a same letters e =
+      let is : a ≡ record { world = w; told = []; shown = record nothing { view = v } } = sym (accepts_same (record { world = w; told = []; shown = record nothing { view = v } }) a e) in
       rw is (inl (
         Quiet 0,
         record {

@@ -27,6 +27,7 @@ use Rattle.hk_effects.proofs.Marks.{own_pending, row_is_new}
 use Rattle.hk_effects.proofs.Two.{mid_state, at_mid, mid_change, second_change}
 use Rattle.hk_effects.proofs.Nodes.{OwesStep, quiet_node}
 use Rattle.hk_effects.proofs.Rising.{RisesBehind, item_keys, next_cursor, behind_last, upto_last}
+use Rattle.hk_node.proofs.Order.{AreTouched}
 use Rattle.hk_effects.proofs.Batches.{merged_below, merged_past, merged_at}
 
 copied_phase : (v : Bool) → phase_of (state_of_copy v) None ≡ (if v then Valid else Invalid)
@@ -132,7 +133,7 @@ module _ (V : ℕ → List ℕ) (st : State) (parts : Parts V st) (key : List �
       passes_row new from i (omega (arith, above)) sent ch
 
   -- ---- a batch
-  module _ (from : ℕ) (done : Bool) (items : List CopyItem) (rises : RisesBehind x.cursor (item_keys items))
+  module _ (from : ℕ) (done : Bool) (items : List CopyItem) (touched : AreTouched x.rows) (rises : RisesBehind x.cursor (item_keys items))
       (sent : covers key x.cursor done items ≡ true → In st.letters (Give from (epoch_of x) (tag_of (item_at key items).stamp) (item_at key items).kind (item_at key items).content (item_at key items).valid)) where
     -- the node afterwards
     now_is : (d : Bool) (r : Row) → done ≡ d → row_at key (merged items x.rows) ≡ r → (c : Bool) → cond d true (not (is_behind (next_cursor x.cursor items) key)) ≡ c → key_node key (Some (after_batch x done items).node) ≡ as_copied x d c r
@@ -203,7 +204,7 @@ module _ (V : ℕ → List ℕ) (st : State) (parts : Parts V st) (key : List �
             ⊎_elim
             (λ (h : row_at key (merged items x.rows) ≡ on_copy row item).
             covered new ch done (on_copy row item) refl h upto (copy_calm (nat_cmp (tag_of row.stamp) (tag_of item.stamp)) row item none_waits) (λ to ch. copies_row to from item (nat_cmp (tag_of row.stamp) (tag_of item.stamp)) refl (sent e) ch))
-            (λ (h : (row_at key (merged items x.rows) ≡ row) × (item ≡ first_item)). covered new ch done row refl h.0 upto none_waits (λ to ch. passes_row to from item (rw h.1 (omega arith)) (sent e) ch)) (merged_at x.cursor key items x.rows rises)
+            (λ (h : (row_at key (merged items x.rows) ≡ row) × (item ≡ first_item)). covered new ch done row refl h.0 upto none_waits (λ to ch. passes_row to from item (rw h.1 (omega arith)) (sent e) ch)) (merged_at x.cursor key items x.rows touched rises)
         by_cover false e = ⊎_elim
             (λ (low : is_behind x.cursor key ≡ false). passed new ch done refl low)
             (λ (f : (done || not (is_behind (next_cursor x.cursor items) key)) ≡ false).

@@ -1,14 +1,13 @@
 -- The step of one node, for one key: what it owes.
-use Rattle.std.proofs.Common.{◌≡◌, ◌≢◌, ℕ, true, List, [], map, ◌∙◌, sym, refl, ap, subst, inl, Option, Some, None}
+use Rattle.std.proofs.Common.{◌≡◌, ◌≢◌, ℕ, false, List, [], map, ◌∙◌, sym, refl, ap, subst, inl, Option, Some, None}
 use Rattle.hk_base.specs.declared.call.Reply.{Reply}
 use Rattle.hk_key.specs.declared.row.Row.{Row}
 use Rattle.hk_key.specs.Table.{Done}
-use Rattle.hk_key.specs.Same.{is_same_row}
 use Rattle.hk_register.specs.Machine.{Node, Letter, Update, Item, State}
 use Rattle.hk_register.specs.Effects.{Change}
 use Rattle.hk_register.specs.Effects.Effect.{Quiet}
 use Rattle.hk_register.specs.Parts.{Parts}
-use Rattle.hk_node.specs.Rows.{find_row, row_at}
+use Rattle.hk_node.specs.Rows.{find_row, row_at, is_touched}
 use Rattle.hk_node.specs.Node.{NodeState}
 use Rattle.hk_node.specs.Sends.{sent}
 use Rattle.hk_node.specs.Stepped.{Stepped, idle, row_step}
@@ -56,7 +55,7 @@ module _ (V : ℕ → List ℕ) (st : State) (parts : Parts V st) (key : List �
   idle_step = quiet_node (idle x) [] refl refl refl
 
   -- a row's step, on its key
-  pub own_row : (d : Done) (hs : List Item) (us : List Update) → (is_same_row (row_at key x.rows) d.row ≡ true → d.row ≡ row_at key x.rows) → updates_of x.id.0 (key_node key (Some x)) hs ≡ us →
+  pub own_row : (d : Done) (hs : List Item) (us : List Update) → (is_touched d.row ≡ false → d.row ≡ row_at key x.rows) → updates_of x.id.0 (key_node key (Some x)) hs ≡ us →
       Owes V st parts key x (has_copied x key) (row_at key x.rows) is d us hs → OwesNode (row_step x key d) hs
   own_row d hs us unchanged begun owes new ch =
       let z0 : Node = key_node key (Some x) in
@@ -66,7 +65,7 @@ module _ (V : ℕ → List ℕ) (st : State) (parts : Parts V st) (key : List �
       owes new (subst (λ (us : List Update). Change st new x.id.0 (row_node x (has_copied x key) d.row) ls (step_marks x.id.0 z0 (row_node x (has_copied x key) d.row) ls) us hs) begun ch1)
 
   -- of an event that is no call
-  pub own_told : (d : Done) (hs : List Item) → (is_same_row (row_at key x.rows) d.row ≡ true → d.row ≡ row_at key x.rows) →
+  pub own_told : (d : Done) (hs : List Item) → (is_touched d.row ≡ false → d.row ≡ row_at key x.rows) →
       told V st parts key x (has_copied x key) (row_at key x.rows) is d ≡ hs → Owes V st parts key x (has_copied x key) (row_at key x.rows) is d [] hs → OwesStep (row_step x key d)
   own_told d hs unchanged says owes =
       let n : ℕ = pending_stamp (key_node key (Some x)).phase in

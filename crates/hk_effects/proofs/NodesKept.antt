@@ -168,7 +168,7 @@ module _ (views : List View) (calls : ℕ) (x : NodeState) (mine : IsNodeOf view
   received_fine (Val k s) told from = found_fine k (λ row. still (on_val row s)) (λ r ok. still_of calls (on_val r s) (val_of calls r s ok)) (find_row k x.rows) refl
   received_fine (CopyAsk after room) told from = gives_fine from after room
   received_fine (CopyGive after done items) told from = takes_fine after done items told.2
-  received_fine LeaseAsk told from = idle_fine
+  received_fine (LeaseAsk asked) told from = idle_fine
   received_fine (LeaseGive end) told from = idle_fine
   received_fine (Prepare ballot) told from = idle_fine
   received_fine (Promise ballot vote) told from = idle_fine

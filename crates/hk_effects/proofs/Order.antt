@@ -8,8 +8,7 @@ use Rattle.std.proofs.lemmas.Cmp.{nat_list_cmp_total, tied_itself}
 use Rattle.hk_copy.specs.Batches.{key_cmp}
 use Rattle.hk_key.specs.declared.row.Row.{Row}
 use Rattle.hk_key.specs.Table.{first_row}
-use Rattle.hk_key.specs.Same.{is_same_row}
-use Rattle.hk_node.specs.Rows.{Rows, find_row, row_at, put_row, with_row}
+use Rattle.hk_node.specs.Rows.{Rows, find_row, row_at, put_row, with_row, is_touched}
 use Rattle.hk_effects.specs.View.{is_same_key, is_behind}
 use Rattle.hk_effects.proofs.Entries.{found_same, found_other}
 
@@ -112,17 +111,17 @@ row-put_same key row rs = row_of_found key (put_row key row rs) (Some row) (foun
 pub row-put_other : (key k : List ℕ) (row : Row) (rs : Rows) → key ≢ k → row_at key (put_row k row rs) ≡ row_at key rs
 row-put_other key k row rs ne = row_of_found key (put_row k row rs) (find_row key rs) (found_other key_cmp equal_keys key_itself key k row rs ne)
 
--- The row that a step leaves is at its key, where a row that is the same by the test is the very row.
-pub row-with_same : (key : List ℕ) (row : Row) (rs : Rows) → (is_same_row (row_at key rs) row ≡ true → row ≡ row_at key rs) → row_at key (with_row key row rs) ≡ row
-row-with_same key row rs unchanged = by_test (is_same_row (row_at key rs) row) refl
+-- The row that a step leaves is at its key, where one that is not touched is the row that was there.
+pub row-with_same : (key : List ℕ) (row : Row) (rs : Rows) → (is_touched row ≡ false → row ≡ row_at key rs) → row_at key (with_row key row rs) ≡ row
+row-with_same key row rs unchanged = by_test (is_touched row) refl
   where
-    by_test : (b : Bool) → is_same_row (row_at key rs) row ≡ b → row_at key (cond b rs (put_row key row rs)) ≡ row
-    by_test true e = sym (unchanged e)
-    by_test false e = row-put_same key row rs
+    by_test : (b : Bool) → is_touched row ≡ b → row_at key (cond b (put_row key row rs) rs) ≡ row
+    by_test false e = sym (unchanged e)
+    by_test true e = row-put_same key row rs
 
 pub row-with_other : (key k : List ℕ) (row : Row) (rs : Rows) → key ≢ k → row_at key (with_row k row rs) ≡ row_at key rs
-row-with_other key k row rs ne = by_test (is_same_row (row_at k rs) row)
+row-with_other key k row rs ne = by_test (is_touched row)
   where
-    by_test : (b : Bool) → row_at key (cond b rs (put_row k row rs)) ≡ row_at key rs
-    by_test true = refl
-    by_test false = row-put_other key k row rs ne
+    by_test : (b : Bool) → row_at key (cond b (put_row k row rs) rs) ≡ row_at key rs
+    by_test false = refl
+    by_test true = row-put_other key k row rs ne

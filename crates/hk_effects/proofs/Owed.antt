@@ -105,7 +105,7 @@ module _ (V : ℕ → List ℕ) (key : List ℕ) (t : Trace) (parts : Parts V (v
       let at_cursor : l.body ≡ CopyGive x.cursor done items = subst (λ (a : Option (List ℕ)). l.body ≡ CopyGive a done items) next body in
       let told_so : IsTold (CopyGive x.cursor done items) = subst IsTold at_cursor (own.letter l sent_so) in
       let some = in_some t.world.views t.world.calls x (node_own V key t parts own agrees tok x alive) own.views from inside in
-      batch_step V (view key t) parts key x (here V key t parts own agrees tok x alive) some shadow from.0 done items (items_rise x.cursor items told_so.0 told_so.1)
+      batch_step V (view key t) parts key x (here V key t parts own agrees tok x alive) some shadow from.0 done items (node_sound V key t parts own agrees tok x alive).touched (items_rise x.cursor items told_so.0 told_so.1)
       (λ covered. letter_sent key t.world.letters l _ sent_so (rw (at_cursor, covered, sender, epoch) (inl refl)))
 
   pub takes_owed : TakesOwed V key t parts own agrees tok

@@ -2,7 +2,7 @@
 use Rattle.std.proofs.Common.{◌≡◌, ◌≢◌, ℕ, Bool, true, false, cond, List, [], ◌∷◌, ◌++◌, map, ◌∙◌, refl, ap, Option, Some, None, IfSome, IsTrue}
 use Rattle.std.proofs.lemmas.Bool.{false≢true}
 use Rattle.hk_base.specs.declared.call.Answer.{Answer}
-use Rattle.hk_base.specs.declared.call.Answer.TheVariants.{Found, Missing, Stored, Number, Exists, NotFound, NotNumber, Busy, Aborted, Exhausted}
+use Rattle.hk_base.specs.declared.call.Answer.TheVariants.{Found, Missing, Stored, Number, Exists, NotFound, NotNumber, NotStored, Deleted, Busy, Aborted, Exhausted}
 use Rattle.hk_base.specs.declared.call.Reply.{Reply}
 use Rattle.hk_base.specs.declared.call.Op.{Op}
 use Rattle.hk_history.specs.History.{is_void, is_unsure, is_answered}
@@ -26,6 +26,8 @@ answered_sure (Number n) e = refl
 answered_sure Exists e = refl
 answered_sure NotFound e = refl
 answered_sure NotNumber e = refl
+answered_sure NotStored e = refl
+answered_sure Deleted e = refl
 answered_sure (Busy why) e = absurd (false≢true e)
 answered_sure (Aborted s) e = absurd (false≢true e)
 answered_sure (Exhausted s) e = absurd (false≢true e)
@@ -38,6 +40,8 @@ answered_not_void (Number n) e = refl
 answered_not_void Exists e = refl
 answered_not_void NotFound e = refl
 answered_not_void NotNumber e = refl
+answered_not_void NotStored e = refl
+answered_not_void Deleted e = refl
 answered_not_void (Busy why) e = absurd (false≢true e)
 answered_not_void (Aborted s) e = absurd (false≢true e)
 answered_not_void (Exhausted s) e = absurd (false≢true e)

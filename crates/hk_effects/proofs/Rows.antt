@@ -1,5 +1,5 @@
 -- A resend, a replay and a request for copies are, for each key, effects.
-use Rattle.std.proofs.Common.{◌≡◌, ◌⊎◌, ◌≢◌, ℕ, Bool, true, false, cond, not, ◌&&◌, List, [], ◌∷◌, ◌∙◌, refl, ap, subst, ⊎_elim, None}
+use Rattle.std.proofs.Common.{◌≡◌, ◌⊎◌, ◌≢◌, ℕ, Bool, true, false, cond, not, ◌&&◌, List, [], ◌∷◌, ◌∙◌, refl, ap, subst, ⊎_elim, None, sym}
 use Rattle.hk_base.specs.declared.stamp.NodeId.{NodeId}
 use Rattle.hk_base.specs.declared.call.State.{State as RowState}
 use Rattle.hk_base.specs.declared.call.State.TheVariants.{Valid as IsValid, Invalid as IsInvalid, Write as IsWrite, Replay as IsReplay, Trans as IsTrans}
@@ -8,7 +8,9 @@ use Rattle.hk_key.specs.declared.row.Row.{Row}
 use Rattle.hk_key.specs.Notes.{all_noted}
 use Rattle.hk_key.specs.Table.{Done, resend, replay, replay_at}
 use Rattle.hk_key.proofs.Answers.{replay_answers_none, resend_answers_none}
-use Rattle.hk_key.proofs.Unchanged.{resend_keeps_row, same_after_replay}
+use Rattle.hk_key.proofs.Unchanged.{resend_keeps_row}
+use Rattle.hk_key.proofs.Rising.{replay_never_lowers}
+use Rattle.hk_node.proofs.Acts.{untouched_stays}
 use Rattle.hk_register.specs.Parts.{Parts}
 use Rattle.hk_node.specs.Rows.{find_row, row_at}
 use Rattle.hk_node.specs.Node.{NodeState, members_of, is_other}
@@ -58,7 +60,7 @@ module _ (V : ℕ → List ℕ) (key : List ℕ) (t : Trace) (parts : Parts V (v
   replay_here : x.ready ≡ true → Owed V key t parts own agrees tok x alive (row_step x key (replay x.id (members_of x) (row_at key x.rows)))
   replay_here ready =
       let row = row_at key x.rows in
-      own_told V (view key t) parts key x (here V key t parts own agrees tok x alive) (replay x.id (members_of x) row) [] (same_after_replay x.id (members_of x) row)
+      own_told V (view key t) parts key x (here V key t parts own agrees tok x alive) (replay x.id (members_of x) row) [] (untouched_stays key x.rows (replay x.id (members_of x) row).row (node_sound V key t parts own agrees tok x alive).touched (replay_never_lowers x.id (members_of x) row) (λ first none. ap (λ (r : Row). (replay x.id (members_of x) r).row) first ∙ sym first))
       (ap (reply_items (pending_stamp (phase_of row.state row.pending))) (replay_answers_none x.id (members_of x) row)) (replay_state ready row.state refl)
 
   replay_at_ready : (k : List ℕ) (b : Bool) → x.ready ≡ b → Owed V key t parts own agrees tok x alive (cond b (on_found (find_row k x.rows) x k (replay x.id (members_of x))) (idle x))

@@ -23,9 +23,8 @@ use Rattle.hk_key.specs.declared.row.Row.{Row}
 use Rattle.hk_key.specs.declared.out.Aim.{Aim}
 use Rattle.hk_key.specs.declared.out.What.{What}
 use Rattle.hk_key.specs.Notes.{all_noted, all_exact, note_in}
-use Rattle.hk_key.specs.Same.{is_same_row}
 use Rattle.hk_key.specs.Table.{Done, first_row, still, sends, completed_at, started_at, unnoted, begin, displaced_write, displaced, aborted, given_up_write, given_up, on_inv_at, with_acks, noted_at, on_ack_at, on_ack_pending, on_ack, validated, on_val_at, on_val, resend, resend_at, replay_at, replay, on_view_at, on_view, copied_same, on_copy_at, on_copy}
-use Rattle.hk_node.specs.Rows.{Rows, find_row, row_at, put_row, with_row}
+use Rattle.hk_node.specs.Rows.{Rows, find_row, row_at, put_row, with_row, is_touched}
 use Rattle.hk_effects.specs.Own.{IsSmall, IsPendingOf, IsRowOf}
 
 -- a reply's call is one of those so far
@@ -218,11 +217,11 @@ put_either cmp test (e ∷ es) k v = by_order (cmp k e.0) (put_either cmp test e
     by_order Greater h = later (test e.0) (lookup test (insert_entry cmp es k v)) h
 
 pub with_row_of : (calls : ℕ) (k : List ℕ) (row : Row) (rows : Rows) → ((key : List ℕ) → IsRowOf calls (row_at key rows)) → IsRowOf calls row → (key : List ℕ) → IsRowOf calls (row_at key (with_row k row rows))
-with_row_of calls k row rows ok good key = by_test (is_same_row (row_at k rows) row)
+with_row_of calls k row rows ok good key = by_test (is_touched row)
   where
-    by_test : (b : Bool) → IsRowOf calls (row_at key (cond b rows (put_row k row rows)))
-    by_test true = ok key
-    by_test false = ⊎_elim
+    by_test : (b : Bool) → IsRowOf calls (row_at key (cond b (put_row k row rows) rows))
+    by_test false = ok key
+    by_test true = ⊎_elim
         (λ (e : find_row key (put_row k row rows) ≡ Some row). subst (λ (o : Option Row). IsRowOf calls (unwrap_or o first_row)) (sym e) good)
         (λ (e : find_row key (put_row k row rows) ≡ find_row key rows). subst (λ (o : Option Row). IsRowOf calls (unwrap_or o first_row)) (sym e) (ok key))
         (put_either key_cmp (is_at (key_cmp key)) rows k row)

@@ -13,7 +13,7 @@ use Rattle.hk_register.proofs.Grow.{in_either, in_left}
 use Rattle.hk_node.specs.Node.{NodeState, epoch_of}
 use Rattle.hk_world.specs.declared.event.Event.{Event}
 use Rattle.hk_world.specs.World.{WorldState}
-use Rattle.hk_world.specs.Steps.{Accepted, world_step}
+use Rattle.hk_world.specs.Steps.{acting_of, Accepted, world_step}
 use Rattle.hk_world.specs.Sound.{IsEvent}
 use Rattle.hk_effects.specs.View.{Trace, key_node, node_at, letters_of, step_marks, told_at, items_of, view, traced, traced_by}
 use Rattle.hk_effects.specs.Own.{IsChain, IsOwn, IsTrace, IsGuarded, Agrees}
@@ -95,7 +95,7 @@ module _ (is_effects : EventIsEffects) (keeps : KeepsSound) (key : List ℕ) (t 
   old_item i h = le_trans (ok.trace.numbered i h) next.more
 
   -- the marks of the acting node are of its old epoch, in which it was marked, or of one that the guard let it install
-  new_mark : (id : NodeId) → a.acting ≡ Some id → Parts (view_members a.world.views) (view key (traced_by key t event a (Some id))) → (k : Mark) →
+  new_mark : (id : NodeId) → acting_of a ≡ Some id → Parts (view_members a.world.views) (view key (traced_by key t event a (Some id))) → (k : Mark) →
       In (step_marks id.0 (key_node key (node_at id.0 t.world.processes)) (key_node key (node_at id.0 a.world.processes)) (letters_of key a.shown.letters)) k → IsGuarded a.world k
   new_mark id acts parts k fresh =
       let g = guards.acting id acts in
@@ -113,7 +113,7 @@ module _ (is_effects : EventIsEffects) (keeps : KeepsSound) (key : List ℕ) (t 
       same_epoch a.world m.0.epoch k.epoch (sym m.1.epoch ∙ (node_is ∙ (sym same ∙ (sym z_is ∙ sym at_z)))) old)
       (λ (installed : EpochGuarded a.world (epoch_of g.now)). same_epoch a.world (epoch_of g.now) k.epoch (sym z_is ∙ sym at_z) installed) g.epoch)
 
-  trace_now : (acting : Option NodeId) → a.acting ≡ acting → Parts (view_members a.world.views) (view key (traced_by key t event a acting)) → IsTrace (traced_by key t event a acting)
+  trace_now : (acting : Option NodeId) → acting_of a ≡ acting → Parts (view_members a.world.views) (view key (traced_by key t event a acting)) → IsTrace (traced_by key t event a acting)
   trace_now None e parts = record { guarded = old_mark; numbered = old_item }
   trace_now (Some id) e parts = record {
     guarded = λ k h. ⊎_elim (new_mark id e parts k) (old_mark k)
@@ -130,9 +130,9 @@ module _ (is_effects : EventIsEffects) (keeps : KeepsSound) (key : List ℕ) (t 
 
   event_kept : IsKept key (traced key t event a)
   event_kept = record {
-    own = subst IsOwn (sym (world_is a.acting)) (own_kept keeps t.world event a is event_ok ok.own);
-    trace = trace_now a.acting refl (parts_now (view_members a.world.views) now_agrees);
-    parts = λ V agrees. parts_now V (subst (λ (w : WorldState). Agrees w V) (world_is a.acting) agrees);
+    own = subst IsOwn (sym (world_is (acting_of a))) (own_kept keeps t.world event a is event_ok ok.own);
+    trace = trace_now (acting_of a) refl (parts_now (view_members a.world.views) now_agrees);
+    parts = λ V agrees. parts_now V (subst (λ (w : WorldState). Agrees w V) (world_is (acting_of a)) agrees);
     calls = calls_now;
   }
 

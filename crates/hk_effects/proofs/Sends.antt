@@ -68,7 +68,7 @@ silent_body key k x (AckBody j s top) (n ∷ ns) ne of = let other : key ≢ j =
 silent_body key k x (ValBody j s) (n ∷ ns) ne of = let other : key ≢ j = λ w. ne (w ∙ of) in rw (same_not key j other) (silent_body key k x (ValBody j s) ns ne of)
 silent_body key k x (CopyAsk a r) (n ∷ ns) ne of = absurd of
 silent_body key k x (CopyGive a d items) (n ∷ ns) ne of = absurd of
-silent_body key k x LeaseAsk (n ∷ ns) ne of = absurd of
+silent_body key k x (LeaseAsk asked) (n ∷ ns) ne of = absurd of
 silent_body key k x (LeaseGive e) (n ∷ ns) ne of = absurd of
 silent_body key k x (Prepare b) (n ∷ ns) ne of = absurd of
 silent_body key k x (Promise b v) (n ∷ ns) ne of = absurd of

@@ -1,5 +1,5 @@
 -- A letter that is taken is, for each key, an effect or two.
-use Rattle.std.proofs.Common.{◌≡◌, ◌⊎◌, ◌≢◌, ℕ, Bool, true, false, cond, not, ◌&&◌, List, [], ◌≤◌, ◌<◌, ◌∙◌, refl, ap, subst, inl, ⊎_elim, Option, Some, None, eqb, nat_cmp, IfSome}
+use Rattle.std.proofs.Common.{◌≡◌, ◌⊎◌, ◌≢◌, ℕ, Bool, true, false, cond, not, ◌&&◌, List, [], ◌≤◌, ◌<◌, ◌∙◌, refl, ap, subst, inl, ⊎_elim, Option, Some, None, eqb, nat_cmp, IfSome, sym}
 use Rattle.std.proofs.lemmas.Bool.{eqb-true, and_parts}
 use Rattle.hk_base.specs.declared.stamp.Stamp.{Stamp}
 use Rattle.hk_base.specs.declared.stamp.NodeId.{NodeId}
@@ -16,7 +16,8 @@ use Rattle.hk_base.specs.Stamp.{tag_of}
 use Rattle.hk_key.specs.declared.row.Pending.{Pending as Waits}
 use Rattle.hk_key.specs.declared.row.Row.{Row}
 use Rattle.hk_key.specs.Table.{still, on_inv, on_val, on_ack, on_ack_pending}
-use Rattle.hk_key.proofs.Unchanged.{same_after_inv, same_after_ack, same_after_val}
+use Rattle.hk_key.proofs.Rising.{inv_never_lowers, ack_never_lowers, val_never_lowers}
+use Rattle.hk_node.proofs.Acts.{inv_untouched, val_untouched, untouched_stays}
 use Rattle.hk_register.specs.Machine.{In}
 use Rattle.hk_register.specs.Machine.Letter.{Inv, Ack as AckL, Val}
 use Rattle.hk_register.specs.Parts.{Parts}
@@ -81,7 +82,7 @@ module _ (V : ℕ → List ℕ) (key : List ℕ) (t : Trace) (parts : Parts V (v
           let d = on_inv row from s kind content in
           let letter : In (letters_of key t.world.letters) (Inv from.0 (epoch_of x) (tag_of s) kind content) = letter_sent key t.world.letters l (Inv from.0 (epoch_of x) (tag_of s) kind content) sent_so (rw (is, same_of key k same, sender, epoch) (inl refl)) in
           subst (λ (k : List ℕ). Owed x alive (row_step x k (on_inv (row_at k x.rows) from s kind content))) same
-          (own_told V (view key t) parts key x (here V key t parts own agrees tok x alive) d _ (same_after_inv row from s kind content) refl
+          (own_told V (view key t) parts key x (here V key t parts own agrees tok x alive) d _ (untouched_stays key x.rows d.row (node_sound V key t parts own agrees tok x alive).touched (inv_never_lowers row from s kind content) (λ first none. inv_untouched key row from s kind content none)) refl
           (inv_step V (view key t) parts key x (has_copied x key) row (here V key t parts own agrees tok x alive) from s kind content (nat_cmp (tag_of row.stamp) (tag_of s)) refl some letter)))
           (λ (other : key ≢ k). other_told V (view key t) parts key x (here V key t parts own agrees tok x alive) k (on_inv (row_at k x.rows) from s kind content) other) (cases_key key k)
 
@@ -102,7 +103,7 @@ module _ (V : ℕ → List ℕ) (key : List ℕ) (t : Trace) (parts : Parts V (v
           let r_is : row ≡ r = ap (λ (j : List ℕ). row_at j x.rows) same ∙ at_r in
           subst (λ (k : List ℕ). Owed x alive (row_step x k (on_ack x.id (members_of x) r from s top))) same
           (subst (λ (r : Row). Owed x alive (row_step x key (on_ack x.id (members_of x) r from s top))) r_is
-          (own_told V (view key t) parts key x (here V key t parts own agrees tok x alive) (on_ack x.id (members_of x) row from s top) _ (same_after_ack x.id (members_of x) row from s top) refl (take_ack_at s top letter row.pending refl))))
+          (own_told V (view key t) parts key x (here V key t parts own agrees tok x alive) (on_ack x.id (members_of x) row from s top) _ (untouched_stays key x.rows (on_ack x.id (members_of x) row from s top).row (node_sound V key t parts own agrees tok x alive).touched (ack_never_lowers x.id (members_of x) row from s top) (λ first none. ap (λ (r : Row). (on_ack x.id (members_of x) r from s top).row) first ∙ sym first)) refl (take_ack_at s top letter row.pending refl))))
           (λ (other : key ≢ k). other_told V (view key t) parts key x (here V key t parts own agrees tok x alive) k (on_ack x.id (members_of x) r from s top) other) (cases_key key k)
 
       take_val : (k : List ℕ) (s : Stamp) → l.body ≡ ValBody k s → (r : Row) → row_at k x.rows ≡ r → Owed x alive (row_step x k (still (on_val r s)))
@@ -114,7 +115,7 @@ module _ (V : ℕ → List ℕ) (key : List ℕ) (t : Trace) (parts : Parts V (v
           let r_is : row ≡ r = ap (λ (j : List ℕ). row_at j x.rows) same ∙ at_r in
           subst (λ (k : List ℕ). Owed x alive (row_step x k (still (on_val r s)))) same
           (subst (λ (r : Row). Owed x alive (row_step x key (still (on_val r s)))) r_is
-          (own_told V (view key t) parts key x (here V key t parts own agrees tok x alive) (still (on_val row s)) [] (same_after_val row s) refl
+          (own_told V (view key t) parts key x (here V key t parts own agrees tok x alive) (still (on_val row s)) [] (untouched_stays key x.rows (on_val row s) (node_sound V key t parts own agrees tok x alive).touched (val_never_lowers row s) (λ first none. val_untouched key row s first)) refl
           (val_step V (view key t) parts key x (has_copied x key) row (here V key t parts own agrees tok x alive) from s (eqb (tag_of row.stamp) (tag_of s)) refl letter))))
           (λ (other : key ≢ k). other_told V (view key t) parts key x (here V key t parts own agrees tok x alive) k (still (on_val r s)) other) (cases_key key k)
 
@@ -124,7 +125,7 @@ module _ (V : ℕ → List ℕ) (key : List ℕ) (t : Trace) (parts : Parts V (v
       receive gives takes_so (ValBody k s) is = found_step V (view key t) parts key x (here V key t parts own agrees tok x alive) k (λ row. still (on_val row s)) (take_val k s is) (find_row k x.rows) refl
       receive gives takes_so (CopyAsk after room) is = gives x alive from after room inside
       receive gives takes_so (CopyGive after done items) is = takes_so x alive l from after done items sent_so sender epoch inside is
-      receive gives takes_so LeaseAsk is = idle_step V (view key t) parts key x (here V key t parts own agrees tok x alive)
+      receive gives takes_so (LeaseAsk asked) is = idle_step V (view key t) parts key x (here V key t parts own agrees tok x alive)
       receive gives takes_so (LeaseGive end) is = idle_step V (view key t) parts key x (here V key t parts own agrees tok x alive)
       receive gives takes_so (Prepare ballot) is = idle_step V (view key t) parts key x (here V key t parts own agrees tok x alive)
       receive gives takes_so (Promise ballot vote) is = idle_step V (view key t) parts key x (here V key t parts own agrees tok x alive)
@@ -151,7 +152,7 @@ module _ (V : ℕ → List ℕ) (key : List ℕ) (t : Trace) (parts : Parts V (v
   take_effect gives takes_so n a None got e = cc
   take_effect gives takes_so n a (Some l) got e = by_to l.to e
     where
-      by_to : (to : Actor) → live_actor t.world to (λ id node. acts t.world id (receives node l)) ≡ accepts a → IsEffects V key t parts own agrees tok (Take n) a
+      by_to : (to : Actor) → live_actor t.world to (λ id node. acts t.world id node (receives node l)) ≡ accepts a → IsEffects V key t parts own agrees tok (Take n) a
       by_to (A.Manager m) e = cc
-      by_to (A.Node id) e = live_effect V key t parts own agrees tok (Take n) id (λ node. acts t.world id (receives node l)) a (λ x same alive e.
+      by_to (A.Node id) e = live_effect V key t parts own agrees tok (Take n) id (λ node. acts t.world id node (receives node l)) a (λ x same alive e.
           stepped_effect V key t parts own agrees tok (Take n) t.world.calls None id x same alive (receives x l) a (receives_owed x alive gives takes_so l (numbered_in n t.world.letters l got) l.from refl) e) e

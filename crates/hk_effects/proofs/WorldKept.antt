@@ -78,13 +78,13 @@ module _ (w : WorldState) (own : IsOwn w) where
     grows = λ v h. h;
   }
 
-  acts_kept : (event : Event) (id : NodeId) (s : Stepped) → calls_after event w.calls ≡ w.calls → IsSteppedOf w.views w.calls s → (a : Accepted) → acts w id s ≡ Ok a → Next event a
-  acts_kept event id s quiet good a e =
-      let b : Accepted = record { world = with_step w id s; acting = Some id; told = s.told; shown = shown_of w id s None } in
+  acts_kept : (event : Event) (id : NodeId) (x : NodeState) (s : Stepped) → calls_after event w.calls ≡ w.calls → IsSteppedOf w.views w.calls s → (a : Accepted) → acts w id x s ≡ Ok a → Next event a
+  acts_kept event id x s quiet good a e =
+      let b : Accepted = record { world = with_step w id s; told = s.told; shown = shown_of w id x s None } in
       let kept : IsNextOf w event (with_step w id s) s.told =
       subst (λ (n : ℕ). IsNextOf w event (record (with_step w id s) { calls = n }) s.told) quiet
       (step_kept event id s (subst (λ (n : ℕ). w.calls ≤ n) (sym quiet) (le_refl w.calls)) (subst (λ (n : ℕ). IsSteppedOf w.views n s) (sym quiet) good)) in
-      subst (Next event) (the_accepted b a (acts w id s) refl e) kept
+      subst (Next event) (the_accepted b a (acts w id x s) refl e) kept
 
   fine : (id : NodeId) (x : NodeState) → process_at id w.processes ≡ Some (alive x) → (calls : ℕ) → w.calls ≤ calls → IsNodeOf w.views calls x
   fine id x at calls up = node_more w.views w.calls calls x up (process_own id (alive x) at)
@@ -93,19 +93,19 @@ module _ (w : WorldState) (own : IsOwn w) where
   call_kept id key op x at a e =
       let call : CallNo = record { 0 = w.calls + 1 } in
       let s : Stepped = called x call key op in
-      let b : Accepted = record { world = record (with_step w id s) { calls = w.calls + 1 }; acting = Some id; told = s.told; shown = shown_of w id s (Some call) } in
+      let b : Accepted = record { world = record (with_step w id s) { calls = w.calls + 1 }; told = s.told; shown = shown_of w id x s (Some call) } in
       subst (Next (Call id key op)) (the_accepted b a (calls_at w id key op x) refl e)
       (step_kept (Call id key op) id s (omega arith) (called_fine w.views (w.calls + 1) x (fine id x at (w.calls + 1) (omega arith)) (ordered_rows w own.sound id x at) call key op (le_refl (w.calls + 1))))
 
   -- a step that makes no call
   quiet_kept : (event : Event) → calls_after event w.calls ≡ w.calls → (step : NodeState → Stepped) →
       ((x : NodeState) → IsNodeOf w.views w.calls x → IsStrictlySortedBy key_cmp (keys_of x.rows) → IsSteppedOf w.views w.calls (step x)) →
-      (id : NodeId) (x : NodeState) → process_at id w.processes ≡ Some (alive x) → (a : Accepted) → acts w id (step x) ≡ Ok a → Next event a
-  quiet_kept event quiet step good id x at a e = acts_kept event id (step x) quiet (good x (fine id x at w.calls (le_refl w.calls)) (ordered_rows w own.sound id x at)) a e
+      (id : NodeId) (x : NodeState) → process_at id w.processes ≡ Some (alive x) → (a : Accepted) → acts w id x (step x) ≡ Ok a → Next event a
+  quiet_kept event quiet step good id x at a e = acts_kept event id x (step x) quiet (good x (fine id x at w.calls (le_refl w.calls)) (ordered_rows w own.sound id x at)) a e
 
   -- ---- beside the nodes
   aside_kept : (event : Event) (next : WorldState) (shown : Shown) → IsNextOf w event next [] → (a : Accepted) → aside next shown ≡ Ok a → Next event a
-  aside_kept event next shown kept a e = subst (Next event) (the_accepted (record { world = next; acting = None; told = []; shown = shown }) a (aside next shown) refl e) kept
+  aside_kept event next shown kept a e = subst (Next event) (the_accepted (record { world = next; told = []; shown = shown }) a (aside next shown) refl e) kept
 
   ticked_fine : (to : ℕ) (id : NodeId) (q : Process) → process_at id (map (process_ticked to) w.processes) ≡ Some q → IsNodeOf w.views w.calls q.node
   ticked_fine to id q at =
@@ -148,11 +148,11 @@ module _ (w : WorldState) (own : IsOwn w) where
   next_kept_at (TickAll to) a e = all_tick_step (Next (TickAll to) a) w a to (λ e. processes_kept (TickAll to) refl (map (process_ticked to) w.processes) (ticked_fine to) a e) e
   next_kept_at (Crash actor) a e = live_actor_step (Next (Crash actor) a) w a actor (crashes_at w)
       (λ id x at e. processes_kept (Crash actor) refl (put_process id (record { node = x; crashed = true }) w.processes) (put_kept w.calls (le_refl w.calls) id (record { node = x; crashed = true }) (process_own id (alive x) at)) a e) e
-  next_kept_at (Resend id key) a e = live_step (Next (Resend id key) a) w a id (λ node. acts w id (resent node key))
+  next_kept_at (Resend id key) a e = live_step (Next (Resend id key) a) w a id (λ node. acts w id node (resent node key))
       (λ x at e. quiet_kept (Resend id key) refl (λ x. resent x key) (λ x good ordered. resent_fine w.views w.calls x good ordered key) id x at a e) e
-  next_kept_at (Replay id key) a e = live_step (Next (Replay id key) a) w a id (λ node. acts w id (replayed node key))
+  next_kept_at (Replay id key) a e = live_step (Next (Replay id key) a) w a id (λ node. acts w id node (replayed node key))
       (λ x at e. quiet_kept (Replay id key) refl (λ x. replayed x key) (λ x good ordered. replayed_fine w.views w.calls x good ordered key) id x at a e) e
-  next_kept_at (Copy id from room) a e = live_step (Next (Copy id from room) a) w a id (λ node. acts w id (asks_copy node from room))
+  next_kept_at (Copy id from room) a e = live_step (Next (Copy id from room) a) w a id (λ node. acts w id node (asks_copy node from room))
       (λ x at e. quiet_kept (Copy id from room) refl (λ x. asks_copy x from room) (λ x good ordered. asks_fine w.views w.calls x good ordered from room) id x at a e) e
   next_kept_at (Start id) a e = starts_step (Next (Start id) a) w a id
       (λ inside e. processes_kept (Start id) refl (put_process id (joining w id) w.processes) (put_kept w.calls (le_refl w.calls) id (joining w id) (joiner_fine id inside)) a e) e
@@ -162,7 +162,7 @@ module _ (w : WorldState) (own : IsOwn w) where
       (λ v agreed none e. quiet_kept (Install id epoch) refl (λ x. installs x v) (λ x good ordered. installs_fine w.views w.calls x good ordered v agreed) id x at a e) e) e
   next_kept_at (Lease id end) a e = live_step (Next (Lease id end) a) w a id (leases_at w id end)
       (λ x at e. leases_step (Next (Lease id end) a) w a id end x (λ inside e. quiet_kept (Lease id end) refl (λ x. grants x end) (λ x good ordered. grants_fine w.views w.calls x good ordered end) id x at a e) e) e
-  next_kept_at (AskLease id manager) a e = live_step (Next (AskLease id manager) a) w a id (λ node. acts w id (idle node))
+  next_kept_at (AskLease id manager) a e = live_step (Next (AskLease id manager) a) w a id (λ node. acts w id node (idle node))
       (λ x at e. quiet_kept (AskLease id manager) refl idle (λ x good ordered. idle_fine w.views w.calls x good ordered) id x at a e) e
   next_kept_at (Propose manager base change) a e = cc
   next_kept_at (Activate manager) a e = cc

@@ -33,7 +33,7 @@ use Rattle.hk_node.specs.Calls.{kind_of}
 use Rattle.hk_world.specs.declared.event.Event.{Event}
 use Rattle.hk_world.specs.declared.event.Event.TheVariants.{Call}
 use Rattle.hk_world.specs.World.{WorldState, Processes, process_at, node_of}
-use Rattle.hk_world.specs.Steps.{Accepted}
+use Rattle.hk_world.specs.Steps.{acting_of, Accepted}
 
 -- ---- a row and its node, seen from the key
 abbrev pub note_of : Ack → Note
@@ -105,7 +105,7 @@ letter_of key l (CopyGive after done items) =
     then Give (number_of l.from) l.epoch (tag_of (item_at key items).stamp) (item_at key items).kind (item_at key items).content (item_at key items).valid ∷ []
     else []
 letter_of key l (CopyAsk after room) = []
-letter_of key l LeaseAsk = []
+letter_of key l (LeaseAsk asked) = []
 letter_of key l (LeaseGive end) = []
 letter_of key l (Prepare ballot) = []
 letter_of key l (Promise ballot vote) = []
@@ -219,4 +219,4 @@ traced_by key t event a None = record { world = a.world; marks = t.marks; begun 
 traced_by key t event a (Some id) = added key t event a id.0 (key_node key (node_at id.0 t.world.processes)) (key_node key (node_at id.0 a.world.processes))
 
 abbrev pub traced : List ℕ → Trace → Event → Accepted → Trace
-traced key t event a = traced_by key t event a a.acting
+traced key t event a = traced_by key t event a (acting_of a)

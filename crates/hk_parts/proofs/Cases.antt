@@ -22,8 +22,8 @@ use Rattle.hk_world.specs.declared.refused.Refused.TheVariants.{NotMember, NoSuc
 use Rattle.hk_world.specs.World.{WorldState, Processes, process_at, put_process, node_of, numbered, last_view}
 use Rattle.hk_world.specs.declared.process.Process.{Process}
 use Rattle.hk_effects.specs.View.{key_node, node_at}
-use Rattle.hk_world.specs.Steps.{Accepted, acts, aside, nothing, calls_at, ticks_at, process_ticked, crashes_at, joining, starts_at, agreed_on, agrees, installs_at, leases_at, world_step}
-use Rattle.hk_effects.proofs.Accepting.{alive, live_step, live_actor_step, takes_step, ticks_step, all_tick_step, installs_step, leases_step}
+use Rattle.hk_world.specs.Steps.{acting_of, Accepted, acts, aside, nothing, calls_at, takes, ticks_at, process_ticked, crashes_at, joining, starts_at, agreed_on, agrees, installs_at, leases_at, world_step}
+use Rattle.hk_effects.proofs.Accepting.{alive, live_step, live_actor_step, ticks_step, all_tick_step, installs_step, leases_step}
 use Rattle.hk_effects.proofs.Frames.{accepted}
 use Rattle.hk_effects.proofs.Processes.{numbered_node, node-put_same, node-put_other, process_of_node, in_members}
 use Rattle.hk_effects.proofs.Rests.{ticked_node}
@@ -33,7 +33,7 @@ use Rattle.hk_parts.specs.ViewPart.{IsDropped, IsAdded}
 -- the step that a node makes at an event
 abbrev pub Steps : WorldState → NodeState → Event → Stepped → Type 0
 Steps w x (Call id key op) s = s ≡ called x (record { 0 = w.calls + 1 }) key op
-Steps w x (Take n) s = (l : Wire) × In w.letters l × (s ≡ receives x l)
+Steps w x (Take n) s = (l : Wire) × (numbered n w.letters ≡ Some l) × (s ≡ receives x l)
 Steps w x (Tick actor to) s = s ≡ ticks x to
 Steps w x (Resend id key) s = s ≡ resent x key
 Steps w x (Replay id key) s = s ≡ replayed x key
@@ -51,7 +51,7 @@ pub record Stepping (w : WorldState) (event : Event) (a : Accepted) : Type 0 whe
   pub how : Steps w x event s
   pub calls : ℕ
   pub call : Option CallNo
-  pub is : a ≡ accepted w id s calls call
+  pub is : a ≡ accepted w id x s calls call
 
 -- the next view is agreed
 pub record Agreed (w : WorldState) (a : Accepted) : Type 0 where
@@ -68,7 +68,7 @@ abbrev pub SeenSame : WorldState → Processes → Type 0
 SeenSame w ps = (key : List ℕ) (n : ℕ) → key_node key (node_at n ps) ≡ key_node key (node_at n w.processes)
 
 pub record Beside (w : WorldState) (a : Accepted) : Type 0 where
-  pub acting : a.acting ≡ None
+  pub acting : acting_of a ≡ None
   pub letters : a.world.letters ≡ w.letters
   pub views : (a.world.views ≡ w.views) ⊎ Agreed w a
   pub nodes : RowsFrom w a.world.processes
@@ -78,14 +78,14 @@ abbrev pub EventCase : WorldState → Event → Accepted → Type 0
 EventCase w event a = Stepping w event a ⊎ Beside w a
 
 module _ (w : WorldState) where
-  acts_case : (event : Event) (id : NodeId) (x : NodeState) → process_at id w.processes ≡ Some (alive x) → (s : Stepped) → Steps w x event s → (a : Accepted) → acts w id s ≡ Ok a → EventCase w event a
-  acts_case event id x at s how a e = inl (record { id = id; x = x; there = at; s = s; how = how; calls = w.calls; call = None; is = the_accepted a (accepted w id s w.calls None) (Ok a) refl (sym e) })
+  acts_case : (event : Event) (id : NodeId) (x : NodeState) → process_at id w.processes ≡ Some (alive x) → (s : Stepped) → Steps w x event s → (a : Accepted) → acts w id x s ≡ Ok a → EventCase w event a
+  acts_case event id x at s how a e = inl (record { id = id; x = x; there = at; s = s; how = how; calls = w.calls; call = None; is = the_accepted a (accepted w id x s w.calls None) (Ok a) refl (sym e) })
 
   call_case : (id : NodeId) (key : List ℕ) (op : Op) (x : NodeState) → process_at id w.processes ≡ Some (alive x) → (a : Accepted) → calls_at w id key op x ≡ Ok a → EventCase w (Call id key op) a
   call_case id key op x at a e =
       let call : CallNo = record { 0 = w.calls + 1 } in
       let s : Stepped = called x call key op in
-      inl (record { id = id; x = x; there = at; s = s; how = refl; calls = w.calls + 1; call = Some call; is = the_accepted a (accepted w id s (w.calls + 1) (Some call)) (Ok a) refl (sym e) })
+      inl (record { id = id; x = x; there = at; s = s; how = refl; calls = w.calls + 1; call = Some call; is = the_accepted a (accepted w id x s (w.calls + 1) (Some call)) (Ok a) refl (sym e) })
 
   -- ---- rows
   ticked_rows : (to : ℕ) → RowsFrom w (map (process_ticked to) w.processes)
@@ -111,9 +111,9 @@ module _ (w : WorldState) where
   -- views stay
   beside_case : (event : Event) (next : WorldState) → next.letters ≡ w.letters → next.views ≡ w.views → RowsFrom w next.processes → SeenSame w next.processes → (a : Accepted) → aside next nothing ≡ Ok a → EventCase w event a
   beside_case event next letters views nodes seen a e =
-      let is : a ≡ record { world = next; acting = None; told = []; shown = nothing } = the_accepted a (record { world = next; acting = None; told = []; shown = nothing }) (Ok a) refl (sym e) in
+      let is : a ≡ record { world = next; told = []; shown = nothing } = the_accepted a (record { world = next; told = []; shown = nothing }) (Ok a) refl (sym e) in
       inr (record {
-        acting = ap (λ (b : Accepted). b.acting) is;
+        acting = ap acting_of is;
         letters = rw is letters;
         views = inl (rw is views);
         nodes = rw is nodes;
@@ -131,10 +131,10 @@ module _ (w : WorldState) where
 
   agreed_case : (event : Event) (v : View) → IsDropped (last_view w.views) v ⊎ IsAdded (last_view w.views) v → (a : Accepted) → agreed_on w v ≡ Ok a → EventCase w event a
   agreed_case event v changed a e =
-      let b : Accepted = record { world = record w { views = w.views ++ v ∷ [] }; acting = None; told = []; shown = record nothing { view = Some v } } in
+      let b : Accepted = record { world = record w { views = w.views ++ v ∷ [] }; told = []; shown = record nothing { view = Some v } } in
       let is : a ≡ b = the_accepted a b (Ok a) refl (sym e) in
       inr (record {
-        acting = ap (λ (b : Accepted). b.acting) is;
+        acting = ap acting_of is;
         letters = ap (λ (b : Accepted). b.world.letters) is;
         views = inr (record { view = v; changed = changed; views = ap (λ (b : Accepted). b.world.views) is });
         nodes = rw is (λ n y at. inr (y, at, refl));
@@ -161,22 +161,26 @@ module _ (w : WorldState) where
       by_full true e = cc
       by_full false e = by_next (leb 65536 (last_view w.views).next) e
 
+  take_case : (n : ℕ) (o : Option Wire) → numbered n w.letters ≡ o → (a : Accepted) → takes w o ≡ Ok a → EventCase w (Take n) a
+  take_case n None found a e = cc
+  take_case n (Some l) found a e = live_actor_step (EventCase w (Take n) a) w a l.to (λ id node. acts w id node (receives node l)) (λ id x at e. acts_case (Take n) id x at (receives x l) (l, found, refl) a e) e
+
   case_at : (event : Event) (a : Accepted) → world_step w event ≡ Ok a → EventCase w event a
   case_at (Call id key op) a e = live_step (EventCase w (Call id key op) a) w a id (calls_at w id key op) (λ x at e. call_case id key op x at a e) e
-  case_at (Take n) a e = takes_step (EventCase w (Take n) a) w a n (λ l sent id x at e. acts_case (Take n) id x at (receives x l) (l, sent, refl) a e) e
+  case_at (Take n) a e = take_case n (numbered n w.letters) refl a e
   case_at (Tick actor to) a e = live_actor_step (EventCase w (Tick actor to) a) w a actor (ticks_at w to) (λ id x at e. ticks_step (EventCase w (Tick actor to) a) w a to id x (λ up e. acts_case (Tick actor to) id x at (ticks x to) refl a e) e) e
   case_at (TickAll to) a e = all_tick_step (EventCase w (TickAll to) a) w a to (λ e. beside_case (TickAll to) (record w { processes = map (process_ticked to) w.processes }) refl refl (ticked_rows to) (λ key n. ticked_node key to n w.processes) a e) e
   case_at (Crash actor) a e = live_actor_step (EventCase w (Crash actor) a) w a actor (crashes_at w) (λ id x at e. beside_case (Crash actor) (record w { processes = put_process id (record { node = x; crashed = true }) w.processes }) refl refl (put_rows id (record { node = x; crashed = true }) (inr (x, ap node_of at, refl)))
       (put_seen id (record { node = x; crashed = true }) (λ key. ap (key_node key) (sym (ap node_of at)))) a e) e
-  case_at (Resend id key) a e = live_step (EventCase w (Resend id key) a) w a id (λ node. acts w id (resent node key)) (λ x at e. acts_case (Resend id key) id x at (resent x key) refl a e) e
-  case_at (Replay id key) a e = live_step (EventCase w (Replay id key) a) w a id (λ node. acts w id (replayed node key)) (λ x at e. acts_case (Replay id key) id x at (replayed x key) refl a e) e
-  case_at (Copy id from room) a e = live_step (EventCase w (Copy id from room) a) w a id (λ node. acts w id (asks_copy node from room)) (λ x at e. acts_case (Copy id from room) id x at (asks_copy x from room) refl a e) e
+  case_at (Resend id key) a e = live_step (EventCase w (Resend id key) a) w a id (λ node. acts w id node (resent node key)) (λ x at e. acts_case (Resend id key) id x at (resent x key) refl a e) e
+  case_at (Replay id key) a e = live_step (EventCase w (Replay id key) a) w a id (λ node. acts w id node (replayed node key)) (λ x at e. acts_case (Replay id key) id x at (replayed x key) refl a e) e
+  case_at (Copy id from room) a e = live_step (EventCase w (Copy id from room) a) w a id (λ node. acts w id node (asks_copy node from room)) (λ x at e. acts_case (Copy id from room) id x at (asks_copy x from room) refl a e) e
   case_at (Start id) a e = start_case id (process_at id w.processes) refl a e
   case_at (Agree change) a e = agree_case change a e
   case_at (Install id epoch) a e = live_step (EventCase w (Install id epoch) a) w a id (λ node. installs_at (numbered epoch w.views) w id node)
       (λ x at e. installs_step (EventCase w (Install id epoch) a) w a epoch id x (λ v agreed none e. acts_case (Install id epoch) id x at (installs x v) (v, agreed, refl) a e) e) e
   case_at (Lease id end) a e = live_step (EventCase w (Lease id end) a) w a id (leases_at w id end) (λ x at e. leases_step (EventCase w (Lease id end) a) w a id end x (λ inside e. acts_case (Lease id end) id x at (grants x end) refl a e) e) e
-  case_at (AskLease id manager) a e = live_step (EventCase w (AskLease id manager) a) w a id (λ node. acts w id (idle node)) (λ x at e. acts_case (AskLease id manager) id x at (idle x) refl a e) e
+  case_at (AskLease id manager) a e = live_step (EventCase w (AskLease id manager) a) w a id (λ node. acts w id node (idle node)) (λ x at e. acts_case (AskLease id manager) id x at (idle x) refl a e) e
   case_at (Propose manager base change) a e = cc
   case_at (Activate manager) a e = cc
 

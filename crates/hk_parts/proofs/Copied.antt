@@ -30,26 +30,30 @@ use Rattle.hk_node.specs.Stepped.{Stepped, idle}
 use Rattle.hk_node.specs.Steps.{on_found, installed_in, received, is_addressed, receives_from, receives}
 use Rattle.hk_world.specs.declared.event.Event.{Event}
 use Rattle.hk_world.specs.declared.event.Event.TheVariants.{Call, Take, Tick, TickAll, Crash, Resend, Replay, Copy, Start, Agree, Install, Lease, AskLease, Propose, Activate as ActivateEvent}
-use Rattle.hk_world.specs.World.{WorldState}
+use Rattle.hk_world.specs.World.{WorldState, numbered}
 use Rattle.hk_effects.specs.View.{is_behind, has_copied, item_at, first_item, covers}
 use Rattle.hk_effects.specs.Own.{IsTold}
+use Rattle.hk_node.proofs.Order.{AreTouched}
 use Rattle.hk_effects.proofs.Batches.{merged_at}
 use Rattle.hk_effects.proofs.Order.{same_true}
+use Rattle.hk_effects.proofs.Rests.{numbered_in}
 use Rattle.hk_effects.proofs.Rising.{items_rise}
 use Rattle.hk_parts.proofs.Cases.{Steps}
 
 -- the batch by which a key was copied
-pub record Took (key : List ℕ) (w : WorldState) (x : NodeState) (s : Stepped) : Type 0 where
+pub record Took (key : List ℕ) (w : WorldState) (event : Event) (x : NodeState) (s : Stepped) : Type 0 where
+  pub number : ℕ
+  pub is : event ≡ Take number
   pub letter : Letter
-  pub sent : In w.letters letter
+  pub taken : numbered number w.letters ≡ Some letter
   pub from : NodeId
   pub sender : letter.from ≡ A.Node from
+  pub to : letter.to ≡ A.Node x.id
   pub epoch : letter.epoch ≡ epoch_of x
-  pub after : Option (List ℕ)
   pub done : Bool
   pub items : List CopyItem
-  pub body : letter.body ≡ CopyGive after done items
-  pub covered : covers key after done items ≡ true
+  pub body : letter.body ≡ CopyGive x.cursor done items
+  pub covered : covers key x.cursor done items ≡ true
   pub stamp : tag_of (item_at key items).stamp ≤ tag_of (row_at key s.node.rows).stamp
   pub same : epoch_of s.node ≡ epoch_of x
 
@@ -78,10 +82,14 @@ next_is None (Some c) e = absurd (false≢true e)
 next_is (Some a) None e = absurd (false≢true e)
 next_is (Some a) (Some c) e = ap Some (same_true a c e)
 
-module _ (key : List ℕ) (w : WorldState) (x : NodeState) (told : (l : Letter) → In w.letters l → IsTold l.body) where
+addressed : (x : NodeState) (to : Actor) → is_addressed x to ≡ true → to ≡ A.Node x.id
+addressed x (A.Node n) e = ap (λ (k : ℕ). A.Node (record { 0 = k })) (eqb-true n.0 x.id.0 e)
+addressed x (A.Manager m) e = absurd (false≢true e)
+
+module _ (key : List ℕ) (w : WorldState) (x : NodeState) (told : (l : Letter) → In w.letters l → IsTold l.body) (touched : AreTouched x.rows) (event : Event) where
   -- copied afterwards only where it was before, or by this batch
   abbrev Copies : Stepped → Type 0
-  Copies s = has_copied s.node key ≡ true → (has_copied x key ≡ true) ⊎ Took key w x s
+  Copies s = has_copied s.node key ≡ true → (has_copied x key ≡ true) ⊎ Took key w event x s
 
   either : (b : Bool) (s : Stepped) → (b ≡ true → Copies s) → Copies (cond b s (idle x))
   either true s good = good refl
@@ -113,7 +121,7 @@ module _ (key : List ℕ) (w : WorldState) (x : NodeState) (told : (l : Letter) 
       by_lease true = inl
       by_lease false = by_state (row_at k x.rows).state
 
-  module _ (l : Letter) (sent : In w.letters l) (from : NodeId) (sender : l.from ≡ A.Node from) (epoch : l.epoch ≡ epoch_of x) where
+  module _ (n : ℕ) (take : event ≡ Take n) (l : Letter) (got : numbered n w.letters ≡ Some l) (from : NodeId) (sender : l.from ≡ A.Node from) (to : l.to ≡ A.Node x.id) (epoch : l.epoch ≡ epoch_of x) where
     abbrev after_batch : Bool → List CopyItem → Stepped
     after_batch done items = record { node = record x { ready = done; cursor = option_or (last_key items) x.cursor; rows = merged items x.rows }; letters = []; told = []; installed = None }
 
@@ -123,12 +131,14 @@ module _ (key : List ℕ) (w : WorldState) (x : NodeState) (told : (l : Letter) 
         (λ (behind : is_behind x.cursor key ≡ true).
         let rises = items_rise x.cursor items (tells.0) (tells.1) in
         inr (record {
+          number = n;
+          is = take;
           letter = l;
-          sent = sent;
+          taken = got;
           from = from;
           sender = sender;
+          to = to;
           epoch = epoch;
-          after = x.cursor;
           done = done;
           items = items;
           body = body;
@@ -136,13 +146,13 @@ module _ (key : List ℕ) (w : WorldState) (x : NodeState) (told : (l : Letter) 
           stamp = ⊎_elim
               (λ (e : row_at key (merged items x.rows) ≡ on_copy (row_at key x.rows) (item_at key items)). rw e (copy_above (row_at key x.rows) (item_at key items)))
               (λ (e : (row_at key (merged items x.rows) ≡ row_at key x.rows) × (item_at key items ≡ first_item)). rw e.1 (omega arith))
-              (merged_at x.cursor key items x.rows rises);
+              (merged_at x.cursor key items x.rows touched rises);
           same = refl;
         }))
         (λ (upto : is_behind x.cursor key ≡ false). inl (rw (shadow, upto) refl)) (cases_Bool (is_behind x.cursor key))
       where
         tells : IsTold (CopyGive x.cursor done items)
-        tells = subst IsTold body (told l sent)
+        tells = subst IsTold body (told l (numbered_in n w.letters l got))
 
         by_done : (d : Bool) → cond d true (not (is_behind (option_or (last_key items) x.cursor) key)) ≡ true → (d || not (is_behind (option_or (last_key items) x.cursor) key)) ≡ true
         by_done true e = refl
@@ -160,7 +170,7 @@ module _ (key : List ℕ) (w : WorldState) (x : NodeState) (told : (l : Letter) 
     received_copies (CopyGive after done items) is = either (not x.ready && is_next after x.cursor) (after_batch done items) (λ e.
         let p = and_parts (not x.ready) (is_next after x.cursor) e in
         taken done items (is ∙ ap (λ (c : Option (List ℕ)). CopyGive c done items) (next_is after x.cursor p.1)) (not_of x.ready p.0))
-    received_copies LeaseAsk is = inl
+    received_copies (LeaseAsk asked) is = inl
     received_copies (LeaseGive end) is = inl
     received_copies (Prepare ballot) is = inl
     received_copies (Promise ballot vote) is = inl
@@ -169,28 +179,32 @@ module _ (key : List ℕ) (w : WorldState) (x : NodeState) (told : (l : Letter) 
     received_copies (Chosen view) is = inl
     received_copies (Activate view) is = inl
 
-  receives_copies : (l : Letter) → In w.letters l → Copies (receives x l)
-  receives_copies l sent = by_from l.from refl
+  receives_copies : (n : ℕ) → event ≡ Take n → (l : Letter) → numbered n w.letters ≡ Some l → Copies (receives x l)
+  receives_copies n take l got = by_from l.from refl
     where
       by_from : (a : Actor) → l.from ≡ a → Copies (receives_from a x l)
       by_from (A.Manager m) sender = inl
       by_from (A.Node from) sender = either (is_addressed x l.to && (eqb l.epoch (epoch_of x) && is_other x from)) (received l.body x from) (λ e.
-          let q = and_parts (eqb l.epoch (epoch_of x)) (is_other x from) (and_parts (is_addressed x l.to) (eqb l.epoch (epoch_of x) && is_other x from) e).1 in
-          received_copies l sent from sender (eqb-true l.epoch (epoch_of x) q.0) l.body refl)
+          let p = and_parts (is_addressed x l.to) (eqb l.epoch (epoch_of x) && is_other x from) e in
+          let q = and_parts (eqb l.epoch (epoch_of x)) (is_other x from) p.1 in
+          received_copies n take l got from sender (addressed x l.to p.0) (eqb-true l.epoch (epoch_of x) q.0) l.body refl)
 
-  pub step_copies : (event : Event) (s : Stepped) → Steps w x event s → has_copied s.node key ≡ true → (has_copied x key ≡ true) ⊎ Took key w x s
-  step_copies (Call id k op) s is = rw is (called_copies (record { 0 = w.calls + 1 }) k op)
-  step_copies (Take n) s is = rw is.2 (receives_copies is.0 is.1)
-  step_copies (Tick actor to) s is = rw is inl
-  step_copies (Resend id k) s is = rw is (found k _ (find_row k x.rows))
-  step_copies (Replay id k) s is = rw is (either x.ready (on_found (find_row k x.rows) x k (replay x.id (members_of x))) (λ e. found k (replay x.id (members_of x)) (find_row k x.rows)))
-  step_copies (Copy id from room) s is = rw is (either (not x.ready && is_other x from) (record { node = x; letters = letters_to x (CopyAsk x.cursor room) (from ∷ []); told = []; installed = None }) (λ e. inl))
-  step_copies (Install id epoch) s is = rw is.2 (either (ltb (epoch_of x) is.0.epoch && is_member x.id is.0.members) (installed_in (record x { view = Some is.0 }) is.0.epoch) (λ e. inl))
-  step_copies (Lease id end) s is = rw is inl
-  step_copies (AskLease id manager) s is = rw is inl
-  step_copies (TickAll to) s is = absurd is
-  step_copies (Crash actor) s is = absurd is
-  step_copies (Start id) s is = absurd is
-  step_copies (Agree change) s is = absurd is
-  step_copies (Propose manager base change) s is = absurd is
-  step_copies (ActivateEvent manager) s is = absurd is
+  copies_at : (e : Event) → event ≡ e → (s : Stepped) → Steps w x e s → Copies s
+  copies_at (Call id k op) same s is = rw is (called_copies (record { 0 = w.calls + 1 }) k op)
+  copies_at (Take n) same s is = rw is.2 (receives_copies n same is.0 is.1)
+  copies_at (Tick actor to) same s is = rw is inl
+  copies_at (Resend id k) same s is = rw is (found k _ (find_row k x.rows))
+  copies_at (Replay id k) same s is = rw is (either x.ready (on_found (find_row k x.rows) x k (replay x.id (members_of x))) (λ e. found k (replay x.id (members_of x)) (find_row k x.rows)))
+  copies_at (Copy id from room) same s is = rw is (either (not x.ready && is_other x from) (record { node = x; letters = letters_to x (CopyAsk x.cursor room) (from ∷ []); told = []; installed = None }) (λ e. inl))
+  copies_at (Install id epoch) same s is = rw is.2 (either (ltb (epoch_of x) is.0.epoch && is_member x.id is.0.members) (installed_in (record x { view = Some is.0 }) is.0.epoch) (λ e. inl))
+  copies_at (Lease id end) same s is = rw is inl
+  copies_at (AskLease id manager) same s is = rw is inl
+  copies_at (TickAll to) same s is = absurd is
+  copies_at (Crash actor) same s is = absurd is
+  copies_at (Start id) same s is = absurd is
+  copies_at (Agree change) same s is = absurd is
+  copies_at (Propose manager base change) same s is = absurd is
+  copies_at (ActivateEvent manager) same s is = absurd is
+
+  pub step_copies : (s : Stepped) → Steps w x event s → Copies s
+  step_copies = copies_at event refl

@@ -12,6 +12,7 @@ use Rattle.hk_node.specs.Copies.{copy_of}
 use Rattle.hk_node.specs.Node.{NodeState, epoch_of, members_of}
 use Rattle.hk_node.specs.Rows.{row_at}
 use Rattle.hk_node.specs.Sound.{IsViewOf}
+use Rattle.hk_world.specs.Steps.{acting_of}
 use Rattle.hk_world.specs.Sound.{IsHeader}
 use Rattle.hk_world.specs.World.{WorldState}
 use Rattle.hk_effects.specs.View.{Trace, view, traced, node_at, key_node}
@@ -69,7 +70,7 @@ module _ (runs : RunsKeepParts) (key : List ℕ) (run : Run) (header : IsHeader 
     agreed_after v h = agreed key t ok v (views_stay key o.sent.at.later (traced key o.sent.at.was o.sent.at.event o.sent.at.accepted) t (later_of key run (traced key o.sent.at.was o.sent.at.event o.sent.at.accepted) t after ends) v h)
 
     there : node_at o.sent.id.0 (traced key o.sent.at.was o.sent.at.event o.sent.at.accepted).world.processes ≡ Some o.sent.node
-    there = ap (λ (w : WorldState). node_at o.sent.id.0 w.processes) (world_is key o.sent.at.was o.sent.at.event o.sent.at.accepted o.sent.at.accepted.acting) ∙ o.sent.there
+    there = ap (λ (w : WorldState). node_at o.sent.id.0 w.processes) (world_is key o.sent.at.was o.sent.at.event o.sent.at.accepted (acting_of o.sent.at.accepted)) ∙ o.sent.there
 
     in_epoch : 1 ≤ epoch_of o.sent.node
     in_epoch =

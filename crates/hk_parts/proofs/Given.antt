@@ -48,7 +48,7 @@ module _ (key : List ℕ) (l : Wire) (m f s : ℕ) (kind : Kind) (content : Opti
       by_cover true e (inr none) = absurd none
       by_cover false e none = absurd none
   given_of (CopyAsk after room) h = absurd h
-  given_of LeaseAsk h = absurd h
+  given_of (LeaseAsk asked) h = absurd h
   given_of (LeaseGive end) h = absurd h
   given_of (Prepare ballot) h = absurd h
   given_of (Promise ballot vote) h = absurd h

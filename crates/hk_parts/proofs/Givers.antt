@@ -4,6 +4,7 @@ use Rattle.std.proofs.lemmas.Bool.{false≢true, cases_eq, cases_lt, cases_Bool}
 use Rattle.hk_base.specs.declared.call.Content.{Content}
 use Rattle.hk_base.specs.declared.stamp.Kind.{Kind}
 use Rattle.hk_base.specs.declared.stamp.NodeId.{NodeId}
+use Rattle.hk_base.specs.declared.letter.Actor.TheVariants as A
 use Rattle.hk_base.specs.declared.letter.Body.{Body}
 use Rattle.hk_base.specs.declared.letter.Body.TheVariants.{CopyGive}
 use Rattle.hk_base.specs.declared.letter.Letter.{Letter as Wire}
@@ -16,7 +17,7 @@ use Rattle.hk_node.specs.Node.{NodeState, epoch_of}
 use Rattle.hk_node.specs.Rows.{row_at}
 use Rattle.hk_world.specs.declared.event.Event.{Event}
 use Rattle.hk_world.specs.declared.event.Header.{Header}
-use Rattle.hk_world.specs.Steps.{Accepted, world_step}
+use Rattle.hk_world.specs.Steps.{acting_of, Accepted, world_step}
 use Rattle.hk_world.specs.Sound.{IsHeader, IsEvent}
 use Rattle.hk_world.specs.World.{WorldState, last_view, node_of}
 use Rattle.hk_effects.specs.View.{Trace, view, traced, key_node, node_at, has_copied, number_of, letters_of, item_at}
@@ -25,7 +26,7 @@ use Rattle.hk_effects.specs.Runs.{start_trace, Follows, IsKept, RunsKeepParts}
 use Rattle.hk_effects.proofs.Accepting.{alive}
 use Rattle.hk_effects.proofs.Frames.{itself, in_letters_append}
 use Rattle.hk_effects.proofs.Processes.{numbered_node, node-put_same, node-put_other}
-use Rattle.hk_effects.proofs.Rests.{letter_sent, node_holds}
+use Rattle.hk_effects.proofs.Rests.{letter_sent, node_holds, numbered_in}
 use Rattle.hk_parts.specs.Moments.{Run}
 use Rattle.hk_parts.proofs.Moments.{follows_then, world_is, always}
 use Rattle.hk_parts.proofs.Cases.{Stepping, Beside, event_case}
@@ -113,21 +114,21 @@ module _ (runs : RunsKeepParts) (key : List ℕ) (h : Header) (header : IsHeader
 
     -- what the world has of a node afterwards
     now_of : (n : ℕ) (y : NodeState) → node_at n a.world.processes ≡ Some y → Now n ≡ key_node key (Some y)
-    now_of n y at = ap (λ (w : WorldState). key_node key (node_at n w.processes)) (world_is key t event a a.acting) ∙ ap (key_node key) at
+    now_of n y at = ap (λ (w : WorldState). key_node key (node_at n w.processes)) (world_is key t event a (acting_of a)) ∙ ap (key_node key) at
 
     stepped_there : (c : Stepping t.world event a) → node_at c.id.0 a.world.processes ≡ Some c.s.node
     stepped_there c = ap (λ (b : Accepted). node_at c.id.0 b.world.processes) c.is ∙ node-put_same c.id (alive c.s.node) t.world.processes
 
     -- a key that is copied by a batch rests on the batch
-    by_batch : (c : Stepping t.world event a) → (Was c.id.0).copied ≡ false → (Now c.id.0).copied ≡ true → Took key t.world c.x c.s → (i : ℕ) → 1 ≤ i → i < (Now c.id.0).epoch → (In (V i) c.id.0 → ⊥) → Rested i c.id.0 (Now c.id.0).stamp
+    by_batch : (c : Stepping t.world event a) → has_copied c.x key ≡ false → (Now c.id.0).copied ≡ true → Took key t.world event c.x c.s → (i : ℕ) → 1 ≤ i → i < (Now c.id.0).epoch → (In (V i) c.id.0 → ⊥) → Rested i c.id.0 (Now c.id.0).stamp
     by_batch c not_yet copied k i one below outside =
         let item = item_at key k.items in
         let is_now = now_of c.id.0 c.s.node (stepped_there c) in
+        let number : c.x.id ≡ numbered_node c.id.0 = (node_holds t.world before.own.sound c.id.0 c.x (ap node_of c.there)).0 in
         let sent : In (letters_of key t.world.letters) (Give k.from.0 (epoch_of c.x) (tag_of item.stamp) item.kind item.content item.valid) =
-        letter_sent key t.world.letters k.letter (Give k.from.0 (epoch_of c.x) (tag_of item.stamp) item.kind item.content item.valid) k.sent (rw (k.body, k.covered, k.sender, k.epoch) (inl refl)) in
+        letter_sent key t.world.letters k.letter (Give k.from.0 (epoch_of c.x) (tag_of item.stamp) item.kind item.content item.valid) (numbered_in k.number t.world.letters k.letter k.taken) (rw (k.body, k.covered, k.sender, k.epoch) (inl refl)) in
         let epoch : (Now c.id.0).epoch ≡ epoch_of c.x = ap (λ (z : Node). z.epoch) is_now ∙ k.same in
         let stamp : (Now c.id.0).stamp ≡ tag_of (row_at key c.s.node.rows).stamp = ap (λ (z : Node). z.stamp) is_now in
-        let was_epoch : (Was c.id.0).epoch ≡ epoch_of c.x = ap (λ (o : Option NodeState). (key_node key o).epoch) (ap node_of c.there) in
         let o = later i k.from.0 (tag_of item.stamp) (Now c.id.0).stamp (rw stamp k.stamp) (rest.letter k.from.0 (epoch_of c.x) (tag_of item.stamp) item.kind item.content item.valid sent i one (rw (← epoch) below)) in
         record {
           who = o.who;
@@ -139,18 +140,21 @@ module _ (runs : RunsKeepParts) (key : List ℕ) (h : Header) (header : IsHeader
             outside,
             record {
               at = record { past = past; event = event; later = []; split = refl; was = t; follows = f; accepted = a; accepts = e };
-              acts = ap (λ (b : Accepted). b.acting) c.is;
-              not_yet = not_yet;
-              now = copied;
+              number = k.number;
+              event = k.is;
               letter = k.letter;
-              sent = k.sent;
+              taken = k.taken;
               from = k.sender;
-              epoch = k.epoch ∙ sym was_epoch;
-              after = k.after;
+              to = k.to ∙ ap (λ (j : NodeId). A.Node j) number;
+              node = c.x;
+              there = ap node_of c.there;
+              epoch = k.epoch;
               done = k.done;
               items = k.items;
               body = k.body;
               covered = k.covered;
+              not_yet = not_yet;
+              now = copied;
             },
             o.rests,
           );
@@ -170,13 +174,13 @@ module _ (runs : RunsKeepParts) (key : List ℕ) (h : Header) (header : IsHeader
             let not_yet' : (Was c.id.0).copied ≡ false = subst (λ (k : ℕ). (Was k).copied ≡ false) same not_yet in
             subst (λ (k : ℕ). Rested i k (Now k).stamp) (sym same) (⊎_elim
             (λ (had : has_copied c.x key ≡ true). absurd (false≢true (sym not_yet' ∙ (was_is ∙ had))))
-            (λ (k : Took key t.world c.x c.s). by_batch c not_yet' copied' k i one (subst (λ (k : ℕ). i < (Now k).epoch) same below) (subst (λ (k : ℕ). In (V i) k → ⊥) same outside))
-            (step_copies key t.world c.x before.own.letter event c.s c.how (sym now_is ∙ copied')))
+            (λ (k : Took key t.world event c.x c.s). by_batch c (sym was_is ∙ not_yet') copied' k i one (subst (λ (k : ℕ). i < (Now k).epoch) same below) (subst (λ (k : ℕ). In (V i) k → ⊥) same outside))
+            (step_copies key t.world c.x before.own.letter (node_holds t.world before.own.sound c.id.0 c.x (ap node_of c.there)).1.touched event c.s c.how (sym now_is ∙ copied')))
 
         by_case : Stepping t.world event a ⊎ Beside t.world a → Rested i n (Now n).stamp
         by_case (inl c) = ⊎_elim (here c)
-            (λ (other : n ≢ c.id.0). unchanged (ap (λ (w : WorldState). key_node key (node_at n w.processes)) (world_is key t event a a.acting) ∙ (ap (λ (b : Accepted). key_node key (node_at n b.world.processes)) c.is ∙ ap (key_node key) (node-put_other n c.id (alive c.s.node) t.world.processes other)))) (cases_eq n c.id.0)
-        by_case (inr b) = unchanged (ap (λ (w : WorldState). key_node key (node_at n w.processes)) (world_is key t event a a.acting) ∙ b.seen key n)
+            (λ (other : n ≢ c.id.0). unchanged (ap (λ (w : WorldState). key_node key (node_at n w.processes)) (world_is key t event a (acting_of a)) ∙ (ap (λ (b : Accepted). key_node key (node_at n b.world.processes)) c.is ∙ ap (key_node key) (node-put_other n c.id (alive c.s.node) t.world.processes other)))) (cases_eq n c.id.0)
+        by_case (inr b) = unchanged (ap (λ (w : WorldState). key_node key (node_at n w.processes)) (world_is key t event a (acting_of a)) ∙ b.seen key n)
 
     node_rests : (n : ℕ) → (Now n).copied ≡ true → (i : ℕ) → 1 ≤ i → i < (Now n).epoch → Rested i n (Now n).stamp
     node_rests n copied i one below = ⊎_elim
@@ -196,7 +200,7 @@ module _ (runs : RunsKeepParts) (key : List ℕ) (h : Header) (header : IsHeader
         let o = given_of key w.0 m g s kind content valid w.0.body w.2 in
         let says : Says c.s.node w.0 = step_said c.x (node_holds t.world before.own.sound c.id.0 c.x (ap node_of c.there)).1 t.world event c.s c.how w.0 w.1 in
         let tells : BodyTells c.s.node (CopyGive o.after o.done o.items) = subst (λ (b : Body). BodyTells c.s.node b) o.body says.tells in
-        let at' : node_at c.id.0 (traced key t event a).world.processes ≡ Some c.s.node = ap (λ (w : WorldState). node_at c.id.0 w.processes) (world_is key t event a a.acting) ∙ stepped_there c in
+        let at' : node_at c.id.0 (traced key t event a).world.processes ≡ Some c.s.node = ap (λ (w : WorldState). node_at c.id.0 w.processes) (world_is key t event a (acting_of a)) ∙ stepped_there c in
         let id : c.s.node.id ≡ numbered_node c.id.0 = (node_holds (traced key t event a).world now.own.sound c.id.0 c.s.node at').0 in
         let is_now = now_of c.id.0 c.s.node (stepped_there c) in
         let copied : (Now c.id.0).copied ≡ true = ap (λ (z : Node). z.copied) is_now ∙ rw tells.0 refl in
@@ -206,7 +210,7 @@ module _ (runs : RunsKeepParts) (key : List ℕ) (h : Header) (header : IsHeader
         rw (who, ← stamp) (node_rests c.id.0 copied i one (rw epoch below))
 
     letter_rests : (m g s : ℕ) (kind : Kind) (content : Option Content) (valid : Bool) → In (view key (traced key t event a)).letters (Give m g s kind content valid) → (i : ℕ) → 1 ≤ i → i < g → Rested i m s
-    letter_rests m g s kind content valid there i one below = by_case (event_case t.world event a e) (subst (λ (w : WorldState). In (letters_of key w.letters) (Give m g s kind content valid)) (world_is key t event a a.acting) there)
+    letter_rests m g s kind content valid there i one below = by_case (event_case t.world event a e) (subst (λ (w : WorldState). In (letters_of key w.letters) (Give m g s kind content valid)) (world_is key t event a (acting_of a)) there)
       where
         old : In (letters_of key t.world.letters) (Give m g s kind content valid) → Rested i m s
         old was = later i m s s (le_refl s) (rest.letter m g s kind content valid was i one below)

@@ -13,7 +13,7 @@ use Rattle.hk_base.specs.Stamp.{tag_of}
 use Rattle.hk_world.specs.declared.event.Event.{Event}
 use Rattle.hk_world.specs.declared.event.Header.{Header}
 use Rattle.hk_world.specs.Start.{counted}
-use Rattle.hk_world.specs.Steps.{Accepted, world_step}
+use Rattle.hk_world.specs.Steps.{acting_of, Accepted, world_step}
 use Rattle.hk_world.specs.Sound.{IsHeader}
 use Rattle.hk_world.specs.World.{WorldState}
 use Rattle.hk_effects.specs.View.{Trace, view, traced, traced_by, key_node, node_at, letters_of, step_marks}
@@ -103,7 +103,7 @@ module _ (runs : RunsKeepParts) (run : Run) (header : IsHeader run.header) (key 
       let same : f.0 ≡ at.accepted = the_accepted f.0 at.accepted (world_step at.was.world at.event) f.1 at.accepts in
       let rest : Follows key (traced key at.was at.event at.accepted) at.later last = subst (λ (a : Accepted). Follows key (traced key at.was at.event a) at.later last) same f.3 in
       let z = key_node key (node_at n at.accepted.world.processes) in
-      let epoch : z.epoch ≡ e = sym (ap (λ (w : WorldState). (key_node key (node_at n w.processes)).epoch) (world_is key at.was at.event at.accepted at.accepted.acting)) ∙ o.epoch in
+      let epoch : z.epoch ≡ e = sym (ap (λ (w : WorldState). (key_node key (node_at n w.processes)).epoch) (world_is key at.was at.event at.accepted (acting_of at.accepted))) ∙ o.epoch in
       let k = cover_mark n z o.pending.stamp in
       let made : In (traced_by key at.was at.event at.accepted (Some (record { 0 = n }))).marks k =
       in_left (step_marks n ((view key at.was).node n) z (letters_of key at.accepted.shown.letters)) at.was.marks k (install_mark n ((view key at.was).node n) z (letters_of key at.accepted.shown.letters) o.pending o.has (rw epoch o.before)) in

@@ -11,7 +11,7 @@ use Rattle.hk_register.specs.Machine.Letter.{Inv, Ack, Val, Give}
 use Rattle.hk_register.proofs.Grow.{in_right, in_either}
 use Rattle.hk_world.specs.declared.event.Event.{Event}
 use Rattle.hk_world.specs.declared.event.Header.{Header}
-use Rattle.hk_world.specs.Steps.{Accepted, world_step}
+use Rattle.hk_world.specs.Steps.{acting_of, Accepted, world_step}
 use Rattle.hk_world.specs.Sound.{IsHeader, IsEvent}
 use Rattle.hk_world.specs.World.{WorldState, node_of}
 use Rattle.hk_effects.specs.View.{Trace, view, traced, traced_by, key_node, node_at, number_of, letter_of, letters_of, step_marks, item_at, covers, is_same_key}
@@ -60,7 +60,7 @@ module _ (key : List ℕ) (l : Wire) (m f s top : ℕ) where
   ack_from (CopyGive after done items) h = no_other (covers key after done items)
       (Give (number_of l.from) l.epoch (tag_of (item_at key items).stamp) (item_at key items).kind (item_at key items).content (item_at key items).valid) (λ e. cc) h
   ack_from (CopyAsk after room) h = absurd h
-  ack_from LeaseAsk h = absurd h
+  ack_from (LeaseAsk asked) h = absurd h
   ack_from (LeaseGive end) h = absurd h
   ack_from (Prepare ballot) h = absurd h
   ack_from (Promise ballot vote) h = absurd h
@@ -105,16 +105,16 @@ module _ (runs : RunsKeepParts) (key : List ℕ) (h : Header) (header : IsHeader
     moment = record { past = past ++ event ∷ []; later = []; split = sym (append-nil (past ++ event ∷ [])); follows = now_follows }
 
     now_is : (n : ℕ) → (view key (traced key t event a)).node n ≡ key_node key (node_at n a.world.processes)
-    now_is n = ap (λ (w : WorldState). key_node key (node_at n w.processes)) (world_is key t event a a.acting)
+    now_is n = ap (λ (w : WorldState). key_node key (node_at n w.processes)) (world_is key t event a (acting_of a))
 
     -- an ACK of the step is the acting node's, in its epoch
-    acked : (id : NodeId) → a.acting ≡ Some id → (from c s top : ℕ) → In (letters_of key a.shown.letters) (Ack from c s top) →
+    acked : (id : NodeId) → acting_of a ≡ Some id → (from c s top : ℕ) → In (letters_of key a.shown.letters) (Ack from c s top) →
         In (view key (traced key t event a)).letters (Ack id.0 (key_node key (node_at id.0 a.world.processes)).epoch s top)
     acked id acts from c s top there = by_case (event_case t.world event a e)
       where
         by_case : Stepping t.world event a ⊎ Beside t.world a → In (view key (traced key t event a)).letters (Ack id.0 (key_node key (node_at id.0 a.world.processes)).epoch s top)
         by_case (inl k) =
-            let same : k.id ≡ id = the_some k.id id (sym (ap (λ (b : Accepted). b.acting) k.is) ∙ acts) in
+            let same : k.id ≡ id = the_some k.id id (sym (ap acting_of k.is) ∙ acts) in
             let mine : In (letters_of key k.s.letters) (Ack from c s top) = subst (λ (b : Accepted). In (letters_of key b.shown.letters) (Ack from c s top)) k.is there in
             let w = wire_of key k.s.letters (Ack from c s top) mine in
             let o = ack_from key w.0 from c s top w.0.body w.2 in
@@ -122,20 +122,20 @@ module _ (runs : RunsKeepParts) (key : List ℕ) (h : Header) (header : IsHeader
             let now : IsKept key (traced key t event a) = runs h header key (past ++ event ∷ []) (traced key t event a) now_follows in
             let says : Says k.s.node w.0 = step_said k.x (node_holds t.world before.own.sound k.id.0 k.x (ap node_of k.there)).1 t.world event k.s k.how w.0 w.1 in
             let at : node_at k.id.0 a.world.processes ≡ Some k.s.node = ap (λ (b : Accepted). node_at k.id.0 b.world.processes) k.is ∙ node-put_same k.id (alive k.s.node) t.world.processes in
-            let at' : node_at k.id.0 (traced key t event a).world.processes ≡ Some k.s.node = ap (λ (w : WorldState). node_at k.id.0 w.processes) (world_is key t event a a.acting) ∙ at in
+            let at' : node_at k.id.0 (traced key t event a).world.processes ≡ Some k.s.node = ap (λ (w : WorldState). node_at k.id.0 w.processes) (world_is key t event a (acting_of a)) ∙ at in
             let id_is : k.s.node.id ≡ numbered_node k.id.0 = (node_holds (traced key t event a).world now.own.sound k.id.0 k.s.node at').0 in
             let who : from ≡ id.0 = o.0 ∙ (ap number_of says.from ∙ (ap (λ (i : NodeId). i.0) id_is ∙ ap (λ (i : NodeId). i.0) same)) in
             let epoch : c ≡ (key_node key (node_at id.0 a.world.processes)).epoch = o.1 ∙ (says.epoch ∙ (sym (ap (λ (z : Option NodeState). (key_node key z).epoch) at) ∙ ap (λ (i : NodeId). (key_node key (node_at i.0 a.world.processes)).epoch) same)) in
             let all : In (letters_of key (t.world.letters ++ k.s.letters)) (Ack from c s top) = rw (letters_append key t.world.letters k.s.letters) (in_right (letters_of key t.world.letters) (letters_of key k.s.letters) (Ack from c s top) mine) in
             let sent : In (letters_of key a.world.letters) (Ack from c s top) = subst (λ (b : Accepted). In (letters_of key b.world.letters) (Ack from c s top)) (sym k.is) all in
-            let sent' : In (view key (traced key t event a)).letters (Ack from c s top) = subst (λ (w : WorldState). In (letters_of key w.letters) (Ack from c s top)) (sym (world_is key t event a a.acting)) sent in
+            let sent' : In (view key (traced key t event a)).letters (Ack from c s top) = subst (λ (w : WorldState). In (letters_of key w.letters) (Ack from c s top)) (sym (world_is key t event a (acting_of a))) sent in
             subst (λ (i : ℕ). In (view key (traced key t event a)).letters (Ack i (key_node key (node_at id.0 a.world.processes)).epoch s top)) who (subst (λ (i : ℕ). In (view key (traced key t event a)).letters (Ack from i s top)) epoch sent')
         by_case (inr b) = absurd (none_acts (sym b.acting ∙ acts))
           where
             none_acts : None ≡ Some id → ⊥
             none_acts is = cc
 
-    new_mark : (id : NodeId) → a.acting ≡ Some id → (k : Mark) →
+    new_mark : (id : NodeId) → acting_of a ≡ Some id → (k : Mark) →
         Source id.0 (key_node key (node_at id.0 t.world.processes)) (key_node key (node_at id.0 a.world.processes)) (letters_of key a.shown.letters) k → MarkWas key Longer k
     new_mark id acts k (Source.Row some is) =
         let z = now_is id.0 in
@@ -161,12 +161,12 @@ module _ (runs : RunsKeepParts) (key : List ℕ) (h : Header) (header : IsHeader
         rw is (λ no_exact. absurd (false≢true no_exact), inr (inr (inr (record { when = traced key t event a; moment = moment; top = top; sent = acked id acts from c s top there }))))
 
     pub goes_on : ((k : Mark) → In t.marks k → MarkWas key (record { header = h; events = past }) k) → (k : Mark) → In (traced key t event a).marks k → MarkWas key Longer k
-    goes_on was k i = by_acting a.acting refl i
+    goes_on was k i = by_acting (acting_of a) refl i
       where
         old : In t.marks k → MarkWas key Longer k
         old j = let o = was k j in (λ exact. row_later key h past event k.who k.epoch k.stamp (o.0 exact), cover_later key h past event k.who k.epoch k.stamp o.1)
 
-        by_acting : (acting : Option NodeId) → a.acting ≡ acting → In (traced_by key t event a acting).marks k → MarkWas key Longer k
+        by_acting : (acting : Option NodeId) → acting_of a ≡ acting → In (traced_by key t event a acting).marks k → MarkWas key Longer k
         by_acting None acts j = old j
         by_acting (Some id) acts j =
             let x = key_node key (node_at id.0 t.world.processes) in

@@ -5,7 +5,7 @@ use Rattle.hk_register.specs.Machine.{In, Mark, Marked, Update}
 use Rattle.hk_register.proofs.Grow.{in_right}
 use Rattle.hk_world.specs.declared.event.Event.{Event}
 use Rattle.hk_world.specs.declared.event.Header.{Header}
-use Rattle.hk_world.specs.Steps.{Accepted, world_step}
+use Rattle.hk_world.specs.Steps.{acting_of, Accepted, world_step}
 use Rattle.hk_world.specs.Sound.{IsEvent}
 use Rattle.hk_effects.specs.View.{Trace, view, traced, traced_by}
 use Rattle.hk_effects.specs.Runs.{start_trace, Follows}
@@ -44,7 +44,7 @@ module _ (key : List ℕ) where
 
   pub marks_kept : (xs : List Event) (s t : Trace) → Follows key s xs t → (k : Mark) → In s.marks k → In t.marks k
   marks_kept [] s t same k h = subst (λ (z : Trace). In z.marks k) same h
-  marks_kept (x ∷ xs) s t f k h = marks_kept xs (traced key s x f.0) t f.3 k (mark_kept s x f.0 f.0.acting k h)
+  marks_kept (x ∷ xs) s t f k h = marks_kept xs (traced key s x f.0) t f.3 k (mark_kept s x f.0 (acting_of f.0) k h)
 
   pub still_marked : (s t : Trace) → ((k : Mark) → In s.marks k → In t.marks k) → (k : Mark) → Marked (view key s) k → Marked (view key t) k
   still_marked s t keeps k m = (m.0, m.1, keeps m.0 m.2)

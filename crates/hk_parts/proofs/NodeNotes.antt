@@ -35,7 +35,7 @@ use Rattle.hk_world.specs.declared.event.Event.TheVariants.{Call, Take, Tick, Ti
 use Rattle.hk_world.specs.World.{WorldState}
 use Rattle.hk_effects.specs.View.{number_of, letters_of}
 use Rattle.hk_effects.proofs.Order.{same_of}
-use Rattle.hk_effects.proofs.Rests.{letter_sent, found_row}
+use Rattle.hk_effects.proofs.Rests.{letter_sent, found_row, numbered_in}
 use Rattle.hk_effects.proofs.Viewed.{row-viewed}
 use Rattle.hk_parts.proofs.Cases.{Steps}
 use Rattle.hk_parts.proofs.RowNotes.{IsNoted, TopIs, started_noted, inv_noted, ack_noted, val_noted, resend_noted, replay_noted, view_noted, copy_noted, with_row_noted}
@@ -101,7 +101,7 @@ module _ (key : List ℕ) (w : WorldState) (x : NodeState) (ok : IsNoted (row_at
   received_keeps l sent (CopyAsk after room) is from = either x.ready (record { node = x; letters = letters_to x (CopyGive after (is_nil (batch_behind x after room).left) (batch_behind x after room).taken) (from ∷ []); told = []; installed = None }) ok
   received_keeps l sent (CopyGive after done items) is from =
       either (not x.ready && is_next after x.cursor) (record { node = record x { ready = done; cursor = option_or (last_key items) x.cursor; rows = merged items x.rows }; letters = []; told = []; installed = None }) (merged_noted key items x.rows ok)
-  received_keeps l sent LeaseAsk is from = ok
+  received_keeps l sent (LeaseAsk asked) is from = ok
   received_keeps l sent (LeaseGive end) is from = ok
   received_keeps l sent (Prepare ballot) is from = ok
   received_keeps l sent (Promise ballot vote) is from = ok
@@ -125,7 +125,7 @@ module _ (key : List ℕ) (w : WorldState) (x : NodeState) (ok : IsNoted (row_at
 
   pub step_keeps : (event : Event) (s : Stepped) → Steps w x event s → IsNoted (row_at key s.node.rows).pending
   step_keeps (Call id k op) s is = rw is (called_keeps (record { 0 = w.calls + 1 }) k op)
-  step_keeps (Take n) s is = rw is.2 (receives_keeps is.0 is.1)
+  step_keeps (Take n) s is = rw is.2 (receives_keeps is.0 (numbered_in n w.letters is.0 is.1))
   step_keeps (Tick actor to) s is = rw is ok
   step_keeps (Resend id k) s is = rw is (found_keeps k resend (λ r e same. resend_noted r (here k r same e)) (find_row k x.rows) refl)
   step_keeps (Replay id k) s is = rw is (either x.ready (on_found (find_row k x.rows) x k (replay x.id (members_of x))) (found_keeps k (replay x.id (members_of x)) (λ r e same. replay_noted x.id (members_of x) r (here k r same e)) (find_row k x.rows) refl))

@@ -7,7 +7,7 @@ use Rattle.hk_register.specs.Effects.{row_mark, cover_mark}
 use Rattle.hk_register.proofs.Grow.{in_either}
 use Rattle.hk_world.specs.declared.event.Event.{Event}
 use Rattle.hk_world.specs.declared.event.Header.{Header}
-use Rattle.hk_world.specs.Steps.{Accepted}
+use Rattle.hk_world.specs.Steps.{acting_of, Accepted}
 use Rattle.hk_world.specs.World.{WorldState}
 use Rattle.hk_effects.specs.View.{Trace, view, traced, traced_by, key_node, node_at, letters_of, pending_marks, moment_marks, install_marks, ack_marks, step_marks}
 use Rattle.hk_effects.specs.Runs.{IsKept}
@@ -63,13 +63,30 @@ rests_later : (key : List ℕ) (h : Header) (past : List Event) (event : Event) 
 rests_later key h past event members [] n d r = r
 rests_later key h past event members (g ∷ givers) n d r = (
   r.0,
-  let o = r.1 in record { at = event_later key h past event o.at; acts = o.acts; not_yet = o.not_yet; now = o.now; letter = o.letter; sent = o.sent; from = o.from; epoch = o.epoch; after = o.after; done = o.done; items = o.items; body = o.body; covered = o.covered },
+  let o = r.1 in record {
+    at = event_later key h past event o.at;
+    number = o.number;
+    event = o.event;
+    letter = o.letter;
+    taken = o.taken;
+    from = o.from;
+    to = o.to;
+    node = o.node;
+    there = o.there;
+    epoch = o.epoch;
+    done = o.done;
+    items = o.items;
+    body = o.body;
+    covered = o.covered;
+    not_yet = o.not_yet;
+    now = o.now;
+  },
   rests_later key h past event members givers g d r.2,
 )
 
 module _ (key : List ℕ) (t : Trace) (event : Event) (a : Accepted) (before : IsKept key t) (now : IsKept key (traced key t event a)) where
   pub rises : (n : ℕ) → (((view key t).node n).stamp ≤ ((view key (traced key t event a)).node n).stamp) × (((view key t).node n).epoch ≤ ((view key (traced key t event a)).node n).epoch)
-  rises n = risen key (traced key t event a) now t before (λ k h. mark_kept key t event a a.acting k h) n
+  rises n = risen key (traced key t event a) now t before (λ k h. mark_kept key t event a (acting_of a) k h) n
 
   -- a node that has passed an epoch makes no new mark in it
   old_mark : (acting : Option NodeId) → ((n : ℕ) → ((view key t).node n).epoch ≤ (key_node key (node_at n a.world.processes)).epoch) → (e : ℕ) (k : Mark) → In (traced_by key t event a acting).marks k → k.epoch ≤ e → e < ((view key t).node k.who).epoch → In t.marks k
@@ -87,14 +104,14 @@ module _ (key : List ℕ) (t : Trace) (event : Event) (a : Accepted) (before : I
       (λ (old : In t.marks k). old) (in_either (step_marks id.0 was z (letters_of key a.shown.letters)) t.marks k h)
 
   epochs_up : (n : ℕ) → ((view key t).node n).epoch ≤ (key_node key (node_at n a.world.processes)).epoch
-  epochs_up n = subst (λ (w : WorldState). ((view key t).node n).epoch ≤ (key_node key (node_at n w.processes)).epoch) (world_is key t event a a.acting) (rises n).1
+  epochs_up n = subst (λ (w : WorldState). ((view key t).node n).epoch ≤ (key_node key (node_at n w.processes)).epoch) (world_is key t event a (acting_of a)) (rises n).1
 
   pub below_later : (h : Header) (past : List Event) (V : ℕ → List ℕ) (e n s c : ℕ) → s ≤ c → Below key (record { header = h; events = past }) V t e n s → Below key (record { header = h; events = past ++ event ∷ [] }) V (traced key t event a) e n c
   below_later h past V e n s c up o = record {
     who = o.who;
     member = o.member;
     later = let r = (rises o.who).1 in let l = o.later in omega arith;
-    covered = λ k i whose low. le_trans (o.covered k (old_mark a.acting epochs_up e k i low (rw whose o.later)) whose low) up;
+    covered = λ k i whose low. le_trans (o.covered k (old_mark (acting_of a) epochs_up e k i low (rw whose o.later)) whose low) up;
     givers = o.givers;
     rests = rests_later key h past event (V e) o.givers n o.who o.rests;
   }

@@ -15,9 +15,8 @@ use Rattle.hk_key.specs.declared.acks.Ack.{Ack}
 use Rattle.hk_key.specs.declared.row.Pending.{Pending}
 use Rattle.hk_key.specs.declared.row.Row.{Row}
 use Rattle.hk_key.specs.Notes.{all_noted, all_exact, is_of, note_in}
-use Rattle.hk_key.specs.Same.{is_same_row}
 use Rattle.hk_key.specs.Table.{completed_at, started_at, displaced_write, displaced, on_inv_at, with_acks, noted_at, on_ack_at, on_ack_pending, on_ack, validated, on_val_at, on_val, resend_at, resend, replay_at, replay, unnoted, on_view_at, on_view, copied_same, on_copy_at, on_copy}
-use Rattle.hk_node.specs.Rows.{Rows, row_at, put_row, with_row}
+use Rattle.hk_node.specs.Rows.{Rows, row_at, put_row, with_row, is_touched}
 use Rattle.hk_effects.proofs.Order.{cases_key, row-put_same, row-with_other}
 
 abbrev pub AreExact : List Ack → Type 0
@@ -144,9 +143,9 @@ copy_noted row item ok = by_order (nat_cmp (tag_of row.stamp) (tag_of item.stamp
 -- the row at a key after the row at a key was put
 pub with_row_noted : (key k : List ℕ) (row : Row) (rows : Rows) → IsNoted (row_at key rows).pending → (key ≡ k → IsNoted row.pending) → IsNoted (row_at key (with_row k row rows)).pending
 with_row_noted key k row rows ok good = ⊎_elim
-    (λ (same : key ≡ k). subst (λ (j : List ℕ). IsNoted (row_at key (with_row j row rows)).pending) same (by_test (good same) (is_same_row (row_at key rows) row)))
+    (λ (same : key ≡ k). subst (λ (j : List ℕ). IsNoted (row_at key (with_row j row rows)).pending) same (by_test (good same) (is_touched row)))
     (λ (other : key ≢ k). subst (λ (r : Row). IsNoted r.pending) (sym (row-with_other key k row rows other)) ok) (cases_key key k)
   where
-    by_test : IsNoted row.pending → (b : Bool) → IsNoted (row_at key (cond b rows (put_row key row rows))).pending
-    by_test mine true = ok
-    by_test mine false = subst (λ (r : Row). IsNoted r.pending) (sym (row-put_same key row rows)) mine
+    by_test : IsNoted row.pending → (b : Bool) → IsNoted (row_at key (cond b (put_row key row rows) rows)).pending
+    by_test mine false = ok
+    by_test mine true = subst (λ (r : Row). IsNoted r.pending) (sym (row-put_same key row rows)) mine

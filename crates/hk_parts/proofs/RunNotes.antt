@@ -19,7 +19,7 @@ use Rattle.hk_world.specs.declared.event.Header.{Header}
 use Rattle.hk_world.specs.declared.process.Process.{Process}
 use Rattle.hk_world.specs.Start.{counted, founding_process}
 use Rattle.hk_world.specs.World.{WorldState, Processes, node_of}
-use Rattle.hk_world.specs.Steps.{Accepted, world_step}
+use Rattle.hk_world.specs.Steps.{acting_of, Accepted, world_step}
 use Rattle.hk_world.specs.Sound.{IsHeader, IsEvent}
 use Rattle.hk_effects.specs.View.{Trace, view, traced, key_node, note_of, pending_of as waits_of, node_at, letters_of}
 use Rattle.hk_effects.specs.Runs.{start_trace, Follows, IsKept, RunsKeepParts}
@@ -65,16 +65,16 @@ module _ (runs : RunsKeepParts) (key : List ℕ) (h : Header) (header : IsHeader
           top_is (members_at t) (view key t) (parts_at key t ok) known.update known.begun (known.same_kind ∙ rmw) m e (tag_of top) (subst (λ (c : ℕ). AckTold (view key t) m e c (tag_of top)) at_stamp told) ∙ sym at_stamp
 
   goes_on : (past : List Event) (t : Trace) (event : Event) (a : Accepted) → Follows key (start_trace h) past t → world_step t.world event ≡ Ok a → IsEvent event → AreNoted key t.world → AreNoted key (traced key t event a).world
-  goes_on past t event a f e event_ok noted n y at = by_case (event_case t.world event a e) (subst (λ (w : WorldState). node_at n w.processes ≡ Some y) (world_is key t event a a.acting) at)
+  goes_on past t event a f e event_ok noted n y at = by_case (event_case t.world event a e) (subst (λ (w : WorldState). node_at n w.processes ≡ Some y) (world_is key t event a (acting_of a)) at)
     where
       by_case : Stepping t.world event a ⊎ Beside t.world a → node_at n a.world.processes ≡ Some y → IsNoted (row_at key y.rows).pending
       by_case (inl c) at' =
-          let put : node_at n (accepted t.world c.id c.s c.calls c.call).world.processes ≡ Some y = subst (λ (b : Accepted). node_at n b.world.processes ≡ Some y) c.is at' in
+          let put : node_at n (accepted t.world c.id c.x c.s c.calls c.call).world.processes ≡ Some y = subst (λ (b : Accepted). node_at n b.world.processes ≡ Some y) c.is at' in
           let there : node_at c.id.0 t.world.processes ≡ Some c.x = ap node_of c.there in
           let now = step_keeps key t.world c.x (noted c.id.0 c.x there) (tops past t f c.id.0 c.x there) event c.s c.how in
           ⊎_elim
           (λ (same : n ≡ c.id.0).
-          let put' : node_at c.id.0 (accepted t.world c.id c.s c.calls c.call).world.processes ≡ Some y = subst (λ (i : ℕ). node_at i (accepted t.world c.id c.s c.calls c.call).world.processes ≡ Some y) same put in
+          let put' : node_at c.id.0 (accepted t.world c.id c.x c.s c.calls c.call).world.processes ≡ Some y = subst (λ (i : ℕ). node_at i (accepted t.world c.id c.x c.s c.calls c.call).world.processes ≡ Some y) same put in
           let is : c.s.node ≡ y = the_some c.s.node y (sym (node-put_same c.id (alive c.s.node) t.world.processes) ∙ put') in
           subst (λ (z : NodeState). IsNoted (row_at key z.rows).pending) is now)
           (λ (other : n ≢ c.id.0). noted n y (sym (node-put_other n c.id (alive c.s.node) t.world.processes other) ∙ put)) (cases_eq n c.id.0)

@@ -30,12 +30,11 @@ use Rattle.hk_key.specs.declared.out.What.{What}
 use Rattle.hk_key.specs.declared.out.What.TheVariants.{InvRow, InvPending, Ack as AckOf, Val as ValOf}
 use Rattle.hk_key.specs.declared.out.Sending.{Sending}
 use Rattle.hk_key.specs.Notes.{all_noted, all_exact, note_in, is_noted}
-use Rattle.hk_key.specs.Same.{is_same_row}
 use Rattle.hk_key.specs.Table.{Done, started_at, completed_at, on_inv_at, on_ack_at, on_ack_pending, on_ack, noted_at, resend_at, resend, replay_at, replay, on_view_at, on_view, with_acks, unnoted}
 use Rattle.hk_register.specs.Machine.{In}
 use Rattle.hk_node.specs.Copies.{copy_of, copies_of, batch_behind}
 use Rattle.hk_node.specs.Node.{NodeState, epoch_of, members_of, others}
-use Rattle.hk_node.specs.Rows.{Rows, row_at, with_row}
+use Rattle.hk_node.specs.Rows.{Rows, row_at, with_row, is_touched}
 use Rattle.hk_node.specs.Sends.{letters_to, pending_body, body_of, notes_in, addressees, sent}
 use Rattle.hk_node.specs.Stepped.{Stepped, row_step}
 use Rattle.hk_effects.specs.View.{covers, item_at}
@@ -51,7 +50,7 @@ BodyTells y (Inv k s kind content) = ⊤
 BodyTells y (Ack k s top) = tag_of top ≡ tag_of (row_at k y.rows).stamp
 BodyTells y (Val k s) = ⊤
 BodyTells y (CopyAsk after room) = ⊤
-BodyTells y LeaseAsk = ⊤
+BodyTells y (LeaseAsk asked) = ⊤
 BodyTells y (LeaseGive end) = ⊤
 BodyTells y (Prepare ballot) = ⊤
 BodyTells y (Promise ballot vote) = ⊤
@@ -186,7 +185,7 @@ view_aims me ms row = by_pending row.pending
 
 -- an INV is acknowledged with the row's stamp as top, or answered with the row's own update
 pub inv_said : (x : NodeState) (k : List ℕ) (from : NodeId) (s : Stamp) (kind : Kind) (content : Option Content) → In (member_numbers (members_of x)) from.0 → (o : Ordering) → nat_cmp (tag_of (row_at k x.rows).stamp) (tag_of s) ≡ o →
-    (is_same_row (row_at k x.rows) (on_inv_at o (row_at k x.rows) from s kind content).row ≡ true → (on_inv_at o (row_at k x.rows) from s kind content).row ≡ row_at k x.rows) →
+    (is_touched (on_inv_at o (row_at k x.rows) from s kind content).row ≡ false → (on_inv_at o (row_at k x.rows) from s kind content).row ≡ row_at k x.rows) →
     AreSaid (row_step x k (on_inv_at o (row_at k x.rows) from s kind content))
 inv_said x k from s kind content inside Less e same =
     let d = on_inv_at Less (row_at k x.rows) from s kind content in

@@ -8,7 +8,7 @@ use Rattle.hk_register.proofs.Grow.{in_either}
 use Rattle.hk_world.specs.declared.event.Event.{Event}
 use Rattle.hk_world.specs.declared.event.Header.{Header}
 use Rattle.hk_world.specs.World.{WorldState, node_of}
-use Rattle.hk_world.specs.Steps.{Accepted, world_step}
+use Rattle.hk_world.specs.Steps.{acting_of, Accepted, world_step}
 use Rattle.hk_world.specs.Sound.{IsHeader, IsEvent}
 use Rattle.hk_effects.specs.View.{Trace, traced, node_at}
 use Rattle.hk_effects.specs.Runs.{start_trace, Follows, IsKept, RunsKeepParts}
@@ -72,9 +72,9 @@ module _ (runs : RunsKeepParts) (key : List ℕ) (h : Header) (header : IsHeader
     fresh : (c : Stepping t.world event a) (l : Letter) → In c.s.letters l → Told key (record { header = h; events = past ++ event ∷ [] }) l
     fresh c l among =
         let says = step_said c.x (node_holds t.world before.own.sound c.id.0 c.x (ap node_of c.there)).1 t.world event c.s c.how l among in
-        let world : a.world ≡ (accepted t.world c.id c.s c.calls c.call).world = ap (λ (b : Accepted). b.world) c.is in
+        let world : a.world ≡ (accepted t.world c.id c.x c.s c.calls c.call).world = ap (λ (b : Accepted). b.world) c.is in
         let there : node_at c.id.0 a.world.processes ≡ Some c.s.node = ap (λ (w : WorldState). node_at c.id.0 w.processes) world ∙ node-put_same c.id (alive c.s.node) t.world.processes in
-        let there' : node_at c.id.0 (traced key t event a).world.processes ≡ Some c.s.node = ap (λ (w : WorldState). node_at c.id.0 w.processes) (world_is key t event a a.acting) ∙ there in
+        let there' : node_at c.id.0 (traced key t event a).world.processes ≡ Some c.s.node = ap (λ (w : WorldState). node_at c.id.0 w.processes) (world_is key t event a (acting_of a)) ∙ there in
         let own : c.s.node.id ≡ c.id = (node_holds (traced key t event a).world after.own.sound c.id.0 c.s.node there').0 in
         record {
           sent = record {
@@ -91,7 +91,7 @@ module _ (runs : RunsKeepParts) (key : List ℕ) (h : Header) (header : IsHeader
         }
 
     goes_on : Letters past t → Letters (past ++ event ∷ []) (traced key t event a)
-    goes_on told l i = by_case (event_case t.world event a e) (subst (λ (w : WorldState). In w.letters l) (world_is key t event a a.acting) i)
+    goes_on told l i = by_case (event_case t.world event a e) (subst (λ (w : WorldState). In w.letters l) (world_is key t event a (acting_of a)) i)
       where
         by_case : Stepping t.world event a ⊎ Beside t.world a → In a.world.letters l → Told key (record { header = h; events = past ++ event ∷ [] }) l
         by_case (inl c) i = ⊎_elim

@@ -23,8 +23,9 @@ use Rattle.hk_base.specs.View.{member_numbers}
 use Rattle.hk_copy.specs.Batches.{is_nil, last_key}
 use Rattle.hk_key.specs.declared.row.Row.{Row}
 use Rattle.hk_key.specs.Notes.{all_noted}
-use Rattle.hk_key.specs.Table.{Done, begin, on_ack, on_val, resend, replay, still, unnoted}
-use Rattle.hk_key.proofs.Unchanged.{same_after_inv}
+use Rattle.hk_key.specs.Table.{Done, begin, on_ack, on_val, resend, replay, still, unnoted, on_inv}
+use Rattle.hk_key.proofs.Rising.{inv_never_lowers}
+use Rattle.hk_node.proofs.Acts.{inv_untouched, untouched_stays}
 use Rattle.hk_register.specs.Machine.{In}
 use Rattle.hk_register.proofs.Grow.{in_either}
 use Rattle.hk_node.specs.Calls.{kind_of, next_stamp, register_in, at_limit, at_turn, at_state, lease_end, at_lease, called}
@@ -114,12 +115,12 @@ module _ (x : NodeState) (ok : IsNode x) where
   takes_said after done items false l h = absurd h
 
   received_said : (body : Body) (from : NodeId) → In (member_numbers (members_of x)) from.0 → AreSaid (received body x from)
-  received_said (Inv k s kind content) from inside = inv_said x k from s kind content inside (nat_cmp (tag_of (row_at k x.rows).stamp) (tag_of s)) refl (same_after_inv (row_at k x.rows) from s kind content)
+  received_said (Inv k s kind content) from inside = inv_said x k from s kind content inside (nat_cmp (tag_of (row_at k x.rows).stamp) (tag_of s)) refl (untouched_stays k x.rows (on_inv (row_at k x.rows) from s kind content).row ok.touched (inv_never_lowers (row_at k x.rows) from s kind content) (λ first none. inv_untouched k (row_at k x.rows) from s kind content none))
   received_said (Ack k s top) from inside = found_said k (λ row. on_ack x.id (members_of x) row from s top) (λ r. ack_aims x.id (members_of x) r from s top) (find_row k x.rows)
   received_said (Val k s) from inside = found_said k (λ row. still (on_val row s)) (λ r. tt) (find_row k x.rows)
   received_said (CopyAsk after room) from inside = gives_said from after room inside
   received_said (CopyGive after done items) from inside = takes_said after done items (not x.ready && is_next after x.cursor)
-  received_said LeaseAsk from inside = idle_said
+  received_said (LeaseAsk asked) from inside = idle_said
   received_said (LeaseGive end) from inside = idle_said
   received_said (Prepare ballot) from inside = idle_said
   received_said (Promise ballot vote) from inside = idle_said

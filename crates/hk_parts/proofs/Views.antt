@@ -7,7 +7,7 @@ use Rattle.hk_world.specs.declared.event.Event.{Event}
 use Rattle.hk_world.specs.declared.event.Header.{Header}
 use Rattle.hk_world.specs.Start.{founding_view}
 use Rattle.hk_world.specs.World.{WorldState, last_view}
-use Rattle.hk_world.specs.Steps.{Accepted, world_step}
+use Rattle.hk_world.specs.Steps.{acting_of, Accepted, world_step}
 use Rattle.hk_world.specs.Sound.{IsHeader, IsEvent}
 use Rattle.hk_effects.specs.View.{Trace, traced}
 use Rattle.hk_effects.specs.Own.{IsChain}
@@ -33,7 +33,7 @@ module _ (key : List ℕ) where
   pub views_stay : (xs : List Event) (s t : Trace) → Follows key s xs t → (v : View) → In s.world.views v → In t.world.views v
   views_stay [] s t same v h = subst (λ (z : Trace). In z.world.views v) same h
   views_stay (x ∷ xs) s t f v h =
-      views_stay xs (traced key s x f.0) t f.3 v (subst (λ (w : WorldState). In w.views v) (sym (world_is key s x f.0 f.0.acting)) (view_stays s.world x f.0 f.1 v h))
+      views_stay xs (traced key s x f.0) t f.3 v (subst (λ (w : WorldState). In w.views v) (sym (world_is key s x f.0 (acting_of f.0))) (view_stays s.world x f.0 f.1 v h))
 
 -- views as they follow each other
 pub record AreMade (h : Header) (views : List View) : Type 0 where
@@ -77,7 +77,7 @@ module _ (h : Header) where
     goes_on : (past : List Event) (t : Trace) (event : Event) (a : Accepted) → Follows key (start_trace h) past t → world_step t.world event ≡ Ok a → IsEvent event → Made past t → Made (past ++ event ∷ []) (traced key t event a)
     goes_on past t event a f e event_ok made =
         let before : IsKept key t = runs h header key past t f in
-        subst (λ (w : WorldState). AreMade h w.views) (sym (world_is key t event a a.acting)) (⊎_elim
+        subst (λ (w : WorldState). AreMade h w.views) (sym (world_is key t event a (acting_of a))) (⊎_elim
         (λ (same : a.world.views ≡ t.world.views). subst (AreMade h) (sym same) made)
         (λ (n : Agreed t.world a). subst (AreMade h) (sym n.views) (one_more t.world.views n.view before.own.views n.changed made)) (views_after t.world event a e))
 

@@ -3,6 +3,7 @@ use Rattle.std.specs.Prelude.{◌≡◌, ◌⊎◌, ◌↔◌, ℕ, List, ◌<�
 use Rattle.hk_register.specs.Machine.{In, Pending}
 use Rattle.hk_register.specs.Machine.Letter.{Ack}
 use Rattle.hk_register.specs.Effects.{Has}
+use Rattle.hk_world.specs.Steps.{acting_of}
 use Rattle.hk_world.specs.Sound.{IsHeader}
 use Rattle.hk_effects.specs.View.{Trace, view, traced}
 use Rattle.hk_parts.specs.Moments.{Run, Ends, Moment, EventOf}
@@ -29,7 +30,7 @@ module _ (key : List ℕ) (run : Run) (n e s : ℕ) where
   -- its pending update had it when it installed the epoch
   pub record InstalledWith : Type 0 where
     pub at : EventOf key run
-    pub acts : at.accepted.acting ≡ Some (record { 0 = n })
+    pub acts : acting_of at.accepted ≡ Some (record { 0 = n })
     pub pending : Pending
     pub has : Has ((view key at.was).node n).phase pending
     pub stamp : pending.stamp ≡ s

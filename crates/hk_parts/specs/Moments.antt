@@ -8,8 +8,9 @@ use Rattle.hk_register.specs.Machine.Phase.{Valid}
 use Rattle.hk_node.specs.Node.{NodeState, epoch_of}
 use Rattle.hk_world.specs.declared.event.Header.{Header}
 use Rattle.hk_world.specs.declared.event.Event.{Event}
+use Rattle.hk_world.specs.declared.event.Event.TheVariants.{Call}
 use Rattle.hk_world.specs.Steps.{Accepted, world_step}
-use Rattle.hk_effects.specs.View.{Trace, view, node_at}
+use Rattle.hk_effects.specs.View.{Trace, view, traced, node_at}
 use Rattle.hk_effects.specs.Runs.{start_trace, Follows}
 
 -- how a group begins, and what happens in it
@@ -53,9 +54,12 @@ pub record Sent (key : List ℕ) (run : Run) (l : Letter) : Type 0 where
   pub there : node_at id.0 at.accepted.world.processes ≡ Some node
   pub epoch : l.epoch ≡ epoch_of node
 
--- The update was begun by an event of the run, at its coordinator, whose row was Valid then and had the base as its stamp.
+-- The update was begun by an event of the run: by its own call, of its operation, at its coordinator. The coordinator's row was
+-- Valid then and had the base as its stamp, and directly after it had the update's.
 pub record BegunAt (key : List ℕ) (run : Run) (u : Update) : Type 0 where
   pub at : EventOf key run
-  pub acts : at.accepted.acting ≡ Some (record { 0 = u.who })
+  pub event : at.event ≡ Call (record { 0 = u.who }) key u.op
+  pub call : at.accepted.shown.call ≡ Some (record { 0 = u.call })
   pub valid : ((view key at.was).node u.who).phase ≡ Valid
   pub base : ((view key at.was).node u.who).stamp ≡ u.base
+  pub stamp : ((view key (traced key at.was at.event at.accepted)).node u.who).stamp ≡ u.stamp

@@ -12,10 +12,12 @@ use Rattle.hk_base.specs.declared.view.View.{View}
 use Rattle.hk_base.specs.View.{member_numbers}
 use Rattle.hk_register.specs.Machine.{In}
 use Rattle.hk_register.specs.Machine.Letter.{Give}
-use Rattle.hk_node.specs.Node.{NodeState}
+use Rattle.hk_node.specs.Node.{NodeState, epoch_of}
 use Rattle.hk_node.specs.Rows.{row_at}
 use Rattle.hk_node.specs.Copies.{copy_of}
-use Rattle.hk_effects.specs.View.{Trace, view, traced, node_at, covers}
+use Rattle.hk_world.specs.declared.event.Event.TheVariants.{Take}
+use Rattle.hk_world.specs.World.{numbered}
+use Rattle.hk_effects.specs.View.{Trace, view, traced, node_at, has_copied, covers}
 use Rattle.hk_effects.specs.Own.{Ended}
 use Rattle.hk_parts.specs.Moments.{Run, Moment, EventOf, Sent}
 use Rattle.hk_parts.specs.Facts.{members_at, HasCovered}
@@ -45,22 +47,25 @@ pub record BatchTells (key : List ℕ) (run : Run) (l : Wire) (items : List Copy
   pub ready : sent.node.ready ≡ true
   pub row : (i : CopyItem) → In items i → i ≡ copy_of (i.key, row_at i.key sent.node.rows)
 
--- By an event of the run the node took a batch of its epoch that covers the key, from this giver: it had not copied the key before,
--- and had it copied then.
+-- By an event of the run the node took a letter of its epoch that was sent to it by this giver: a batch that begins at the node's
+-- cursor and covers the key. The node had not copied the key before, and had it copied then.
 pub record TookFrom (key : List ℕ) (run : Run) (n g : ℕ) : Type 0 where
   pub at : EventOf key run
-  pub acts : at.accepted.acting ≡ Some (record { 0 = n })
-  pub not_yet : ((view key at.was).node n).copied ≡ false
-  pub now : ((view key (traced key at.was at.event at.accepted)).node n).copied ≡ true
+  pub number : ℕ
+  pub event : at.event ≡ Take number
   pub letter : Wire
-  pub sent : In at.was.world.letters letter
+  pub taken : numbered number at.was.world.letters ≡ Some letter
   pub from : letter.from ≡ A.Node (record { 0 = g })
-  pub epoch : letter.epoch ≡ ((view key at.was).node n).epoch
-  pub after : Option (List ℕ)
+  pub to : letter.to ≡ A.Node (record { 0 = n })
+  pub node : NodeState
+  pub there : node_at n at.was.world.processes ≡ Some node
+  pub epoch : letter.epoch ≡ epoch_of node
   pub done : Bool
   pub items : List CopyItem
-  pub body : letter.body ≡ CopyGive after done items
-  pub covered : covers key after done items ≡ true
+  pub body : letter.body ≡ CopyGive node.cursor done items
+  pub covered : covers key node.cursor done items ≡ true
+  pub not_yet : has_copied node key ≡ false
+  pub now : ((view key (traced key at.was at.event at.accepted)).node n).copied ≡ true
 
 -- On whose covers a copied row rests, for a view with these members: on the node's own where it is a member, and else on those on
 -- which its giver's row rests.
