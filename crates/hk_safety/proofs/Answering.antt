@@ -1,5 +1,6 @@
 -- Calls and replies, in the items of their keys.
-use Rattle.std.proofs.Common.{◌≡◌, ◌≢◌, ℕ, ◌+◌, ◌<◌, take, length, get_or, List, [], ◌∷◌, ◌++◌, append_assoc, append-nil, Bool, true, false, cond, Option, Some, None, is_some, refl, sym, ap, subst, ◌∙◌, ⊎_elim}
+use Rattle.std.proofs.Common.{◌≡◌, ◌≢◌, ℕ, ◌+◌, ◌<◌, take, length, get_or, List, [], ◌∷◌, ◌++◌, append_assoc, append-nil, Bool, true, false, cond, not, eqb, find, Option, Some, None, is_some, refl, sym, ap, subst, ◌∙◌, ⊎_elim}
+use Rattle.std.specs.List.{AllByRecursion}
 use Rattle.std.specs.Map.{keys_of}
 use Rattle.std.specs.List.Sorted.{IsStrictlySortedBy}
 use Rattle.std.proofs.lemmas.Bool.{false≢true}
@@ -10,10 +11,13 @@ use Rattle.hk_copy.specs.Batches.{key_cmp}
 use Rattle.hk_world.specs.World.{numbered}
 use Rattle.hk_effects.specs.View.{is_same_key}
 use Rattle.hk_effects.proofs.Order.{cases_key, same_of, same_not}
+use Rattle.hk_node.specs.declared.report.Former.{Former}
+use Rattle.hk_world.specs.declared.shown.Acted.{Acted}
 use Rattle.hk_safety.specs.declared.key_run.Turn.{Turn}
 use Rattle.hk_safety.specs.Run.{with_key}
 use Rattle.hk_safety.specs.Kept.{KeyState, Keys, first_key, find_key, key_at}
-use Rattle.hk_safety.specs.Grown.{IsTaken, IsNamed, AreTold, reply_line, line_at, lines_at, with_lines}
+use Rattle.hk_safety.specs.Grown.{IsTaken, IsNamed, AreTold, with_lines, IsFormer, AreFormer, former_tag, is_new_in, is_new}
+use Rattle.hk_safety.specs.Shows.{reply_line, line_at, lines_at}
 use Rattle.hk_safety.proofs.Puts.{turn, IsPutAt, put_there, put_stays, put_here, put_others, found_at, absent_at, not_there, key_kept}
 
 -- ---- a call
@@ -108,3 +112,29 @@ lines_more calls (s ∷ rs) r q = ap (λ (l : List Line). line_at q (numbered s.
 pub lines_turn : (calls : List (List ℕ)) (rs : List Reply) (i : ℕ) (r : Reply) → i < length rs → r ≡ get_or rs i r → (q : List ℕ) →
     lines_at q calls (take (i + 1) rs) ≡ lines_at q calls (take i rs) ++ lines_at q calls (r ∷ [])
 lines_turn calls rs i r lt is q = ap (lines_at q calls) (turn rs i r lt is) ∙ lines_more calls (take i rs) r q
+
+-- ---- whether a call's row was another one before
+found_within : (p : Former → Bool) (rows : List Former) (f : Former) → AllByRecursion IsFormer rows → find p rows ≡ Some f → IsFormer f
+found_within p [] f all e = absurd (false≢true (ap is_some e))
+found_within p (g ∷ rows) f all e = by_test (p g) e (found_within p rows f all.1)
+  where
+    by_test : (b : Bool) → cond b (Some g) (find p rows) ≡ Some f → (find p rows ≡ Some f → IsFormer f) → IsFormer f
+    by_test true e more = let same : g ≡ f = cc in subst IsFormer same all.0
+    by_test false e more = more e
+
+former_rows : (by : Option Acted) (r : Acted) → by ≡ Some r → AreFormer by → AllByRecursion IsFormer r.report.rows
+former_rows by r is all = subst AreFormer is all
+
+module _ (by : Option Acted) (r : Acted) (rows : List Former) (key : List ℕ) (is : by ≡ Some r) (same : rows ≡ r.report.rows) where
+  pub former_within : (f : Former) → AreFormer by → Some f ≡ find (λ f. is_same_key key f.key) rows → IsFormer f
+  former_within f all e = found_within (λ f. is_same_key key f.key) r.report.rows f (former_rows by r is all)
+      (ap (find (λ f. is_same_key key f.key)) (sym same) ∙ sym e)
+
+  found_in : (o : Option Former) → o ≡ find (λ f. is_same_key key f.key) rows → (tag : ℕ) → is_new_in o tag ≡ is_new by key tag
+  found_in o e tag = ap (λ (f : Option Former). is_new_in f tag) (e ∙ ap (find (λ f. is_same_key key f.key)) same) ∙ ap (λ (b : Option Acted). is_new b key tag) (sym is)
+
+  pub new_found : (f : Former) (tag t : ℕ) → Some f ≡ find (λ f. is_same_key key f.key) rows → t ≡ former_tag f.row → not (eqb tag t) ≡ is_new by key tag
+  new_found f tag t e at = ap (λ (n : ℕ). not (eqb tag n)) at ∙ found_in (Some f) e tag
+
+  pub new_none : (tag : ℕ) → None ≡ find (λ f. is_same_key key f.key) rows → false ≡ is_new by key tag
+  new_none tag e = found_in None e tag

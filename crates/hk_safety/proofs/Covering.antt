@@ -1,222 +1,319 @@
 -- Covers, one part after the other.
-use Rattle.std.proofs.Common.{◌≡◌, ◌≢◌, ◌⊎◌, ℕ, zero, suc, ◌<◌, ◌≤◌, List, [], ◌∷◌, ◌++◌, length, get_or, Bool, ◌&&◌, true, false, cond, Some, None, is_some, refl, sym, ap, subst, ◌∙◌, inl, inr, ⊎_elim, arith, eqb, ltb}
-use mathlib.Core.Bool.{beq}
+use Rattle.std.proofs.Common.{◌≡◌, ◌≢◌, ◌⊎◌, ℕ, ◌+◌, ◌<◌, ◌≤◌, List, [], ◌∷◌, ◌++◌, append-nil, append_assoc, take, length, get_or, Bool, ◌&&◌, ◌||◌, true, false, cond, not, Less, Option, Some, None, IfSome, is_some, refl, sym, ap, subst, ◌∙◌, inl, inr, ⊎_elim, arith, eqb}
 use Rattle.std.specs.Map.{keys_of}
-use Rattle.std.proofs.lemmas.Bool.{false≢true, eqb-true, ltb-true}
+use Rattle.std.specs.List.{AllByRecursion, find, flat_map}
+use Rattle.std.specs.List.Sorted.{IsStrictlySortedBy}
+use Rattle.std.specs.Option.{option_map}
+use Rattle.std.specs.Ordering.{is_lt}
+use Rattle.std.proofs.lemmas.Map.Keys.{sorted_head, sorted_tail}
+use Rattle.std.proofs.lemmas.Bool.{false≢true, eqb-true, ne_eqb, and_from}
+use Rattle.hk_base.specs.Range.{IsWithin}
+use Rattle.hk_base.specs.Stamp.{tag_of}
+use Rattle.hk_base.specs.declared.view.View.{View}
+use Rattle.hk_copy.specs.Batches.{key_cmp}
+use Rattle.hk_base.specs.View.{member_numbers}
+use Rattle.hk_key.specs.declared.row.Pending.{Pending as Waits}
+use Rattle.hk_key.specs.declared.row.Row.{Row}
+use Rattle.hk_key.specs.Sound.{IsUpdate}
+use Rattle.hk_node.specs.declared.report.Former.{Former}
+use Rattle.hk_node.specs.Node.{NodeState, members_of}
+use Rattle.hk_node.specs.Rows.{Rows, find_row, row_at}
+use Rattle.hk_node.specs.Copies.{is_valid}
+use Rattle.hk_node.specs.Open.{is_behind, is_open_behind, next_open}
+use Rattle.hk_node.specs.Sound.{IsNode}
+use Rattle.hk_node.proofs.Again.{found_sound}
 use Rattle.hk_register.specs.Machine.{In, Mark}
-use Rattle.hk_register.proofs.Grow.{in_left, in_right, in_either}
-use Rattle.hk_effects.proofs.Order.{cases_key, same_of, same_not}
-use Rattle.hk_safety.specs.declared.key_run.Cover.{Cover}
+use Rattle.hk_register.proofs.Grow.{in_left, in_right}
+use Rattle.hk_register.specs.Printed.{is_mark}
+use Rattle.hk_register.specs.Runs.{is_in}
+use Rattle.hk_effects.specs.View.{is_same_key}
+use Rattle.hk_effects.proofs.Order.{cases_key, same_of, same_not, row_of_found, row_here, row_next, test_of_below}
+use Rattle.hk_safety.specs.declared.evidence.Cover.{Cover}
+use Rattle.hk_safety.specs.declared.evidence.Evidence.{Evidence}
 use Rattle.hk_safety.specs.declared.key_run.AtStamp.{AtStamp}
-use Rattle.hk_safety.specs.Kept.{KeyState, Keys, at_stamp, find_key, key_at}
-use Rattle.hk_safety.specs.Grown.{HasCover, IsCoveredAt, Says, IsMarked, IsCovered, mark_by, AreCovered, only_at, stamp_in}
-use Rattle.hk_safety.proofs.Puts.{IsPutAt, put_stays, put_here, put_others, found_at, not_there}
-
--- ---- marks that say the same of covers
-pub record IsLike (m n : Mark) : Type 0 where
-  pub who : m.who ≡ n.who
-  pub epoch : m.epoch ≡ n.epoch
-  pub stamp : m.stamp ≡ n.stamp
-  pub ready : m.ready ≡ n.ready
-
-pub like_itself : (m : Mark) → IsLike m m
-like_itself m = record { who = refl; epoch = refl; stamp = refl; ready = refl }
-
-pub like_back : (m n : Mark) → IsLike m n → IsLike n m
-like_back m n l = record { who = sym l.who; epoch = sym l.epoch; stamp = sym l.stamp; ready = sym l.ready }
-
--- of the stamps of updates
-pub record AreLike (ms ns : List Mark) : Type 0 where
-  pub into : (m : Mark) → In ms m → 1 ≤ m.stamp → (n : Mark) × In ns n × IsLike m n
-  pub back : (n : Mark) → In ns n → 1 ≤ n.stamp → (m : Mark) × In ms m × IsLike n m
-
-says_like : (m n : Mark) (s : ℕ) (c : Cover) → IsLike m n → Says m s c → Says n s c
-says_like m n s c l t = record { who = sym l.who ∙ t.who; epoch = sym l.epoch ∙ t.epoch; stamp = sym l.stamp ∙ t.stamp; ready = sym l.ready ∙ t.ready }
+use Rattle.hk_safety.specs.Kept.{KeyState, Keys, covers_in, is_ready_mark, ready_in, at_stamp, find_key, key_at}
+use Rattle.hk_safety.specs.Grown.{IsKnownBy, mark_by, with_mark, stamp_in, IsCoveredAt, IsCovered, Touch, tags_at, AreCovered, wait_touches, row_touches, touches_now, former_waits, changed_touches, is_open, AreOpenCovered}
+use Rattle.hk_safety.proofs.Puts.{IsPutAt, put_stays, put_here, put_others, found_at, not_there, turn}
+use Rattle.hk_safety.proofs.Known.{TellSame, same_known, shown_known}
 
 -- ---- one key
-pub same_covered : (old new : KeyState) → new ≡ old → IsCovered old new []
-same_covered old new e = record {
-  items = ap (λ (k : KeyState). k.items) e;
-  update = λ s. ap (λ (k : KeyState). (at_stamp s k).update) e;
-  looks = λ s. ap (λ (k : KeyState). (at_stamp s k).looks) e;
-  kept = λ s c h. subst (λ (k : KeyState). In (at_stamp s k).covers c) (sym e) h;
-  from = λ s c h. inl (subst (λ (k : KeyState). In (at_stamp s k).covers c) e h);
-  made = λ m h some. absurd h;
+twice : (a b : Bool) → (a || (a || b)) ≡ (a || b)
+twice true b = refl
+twice false b = refl
+
+tell_twice : (m : Mark) (marks : List Mark) (s : ℕ) → TellSame (m ∷ m ∷ marks) (m ∷ marks) s
+tell_twice m marks s = record {
+  covers = λ n e. twice (is_mark n e s m) (covers_in marks s n e);
+  ready = λ e. twice (is_ready_mark e s m) (ready_in marks s e);
 }
 
-pub covered_like : (old new : KeyState) (ms ns : List Mark) → AreLike ms ns → IsCovered old new ms → IsCovered old new ns
-covered_like old new ms ns like covered = record {
-  items = covered.items;
-  update = covered.update;
-  looks = covered.looks;
-  kept = covered.kept;
-  from = λ s c h. ⊎_elim inl (λ (k : IsMarked ms s c).
-      let n = like.into k.mark k.among (subst (λ (t : ℕ). 1 ≤ t) (sym k.says.stamp) k.some) in
-      inr (record { some = k.some; mark = n.0; among = n.1; says = says_like k.mark n.0 s c n.2 k.says })) (covered.from s c h);
-  made = λ n h some.
-      let m = like.back n h some in
-      let made = covered.made m.0 m.1 (subst (λ (t : ℕ). 1 ≤ t) m.2.stamp some) in
-      let l = like_back n m.0 m.2 in (
-        made.0,
-        subst (λ (t : ℕ). In (at_stamp t new).covers made.0) l.stamp made.1,
-        says_like m.0 n n.stamp made.0 l
-            (record { who = made.2.who; epoch = made.2.epoch; stamp = l.stamp; ready = made.2.ready }),
-      );
-}
+module _ (v : View) (c : Cover) where
+  pub covered_nothing : (old new : KeyState) (tags : List ℕ) → new ≡ old → ((s : ℕ) → 1 ≤ s → is_in s tags ≡ false) → IsCovered v c old new tags
+  covered_nothing old new tags same none = record {
+    items = ap (λ (k : KeyState). k.items) same;
+    update = λ s. ap (λ (k : KeyState). (at_stamp s k).update) same;
+    looks = λ s. ap (λ (k : KeyState). (at_stamp s k).looks) same;
+    known = λ V fits marks s some k.
+        subst (λ (b : Bool). IsKnownBy V (with_mark b (mark_by c v s) marks) s (at_stamp s new).evidence) (sym (none s some))
+        (subst (λ (j : KeyState). IsKnownBy V marks s (at_stamp s j).evidence) (sym same) k);
+  }
 
-marked_left : (ms ns : List Mark) (s : ℕ) (c : Cover) → IsMarked ms s c → IsMarked (ms ++ ns) s c
-marked_left ms ns s c k = record { some = k.some; mark = k.mark; among = in_left ms ns k.mark k.among; says = k.says }
+  with_both : (V : ℕ → List ℕ) (marks : List Mark) (s : ℕ) (ev : Evidence) (a b : Bool) →
+      IsKnownBy V (with_mark b (mark_by c v s) (with_mark a (mark_by c v s) marks)) s ev → IsKnownBy V (with_mark (cond a true b) (mark_by c v s) marks) s ev
+  with_both V marks s ev true true k = same_known V _ _ s ev (tell_twice (mark_by c v s) marks s) k
+  with_both V marks s ev true false k = k
+  with_both V marks s ev false b k = k
 
-marked_right : (ms ns : List Mark) (s : ℕ) (c : Cover) → IsMarked ns s c → IsMarked (ms ++ ns) s c
-marked_right ms ns s c k = record { some = k.some; mark = k.mark; among = in_right ms ns k.mark k.among; says = k.says }
+  in_both : (s : ℕ) (a b : List ℕ) → is_in s (a ++ b) ≡ cond (is_in s a) true (is_in s b)
+  in_both s [] b = refl
+  in_both s (t ∷ a) b = by_test (eqb s t) (in_both s a b)
+    where
+      by_test : (x : Bool) → is_in s (a ++ b) ≡ cond (is_in s a) true (is_in s b) →
+          cond x true (is_in s (a ++ b)) ≡ cond (cond x true (is_in s a)) true (is_in s b)
+      by_test true more = refl
+      by_test false more = more
 
-pub covered_joined : (old mid new : KeyState) (ms ns : List Mark) → IsCovered old mid ms → IsCovered mid new ns → IsCovered old new (ms ++ ns)
-covered_joined old mid new ms ns a b = record {
-  items = b.items ∙ a.items;
-  update = λ s. b.update s ∙ a.update s;
-  looks = λ s. b.looks s ∙ a.looks s;
-  kept = λ s c h. b.kept s c (a.kept s c h);
-  from = λ s c h. ⊎_elim
-      (λ (g : In (at_stamp s mid).covers c). ⊎_elim inl (λ (k : IsMarked ms s c). inr (marked_left ms ns s c k)) (a.from s c g))
-      (λ (k : IsMarked ns s c). inr (marked_right ms ns s c k)) (b.from s c h);
-  made = λ m h some. ⊎_elim
-      (λ (g : In ms m). let made = a.made m g some in (made.0, b.kept m.stamp made.0 made.1, made.2))
-      (λ (g : In ns m). b.made m g some) (in_either ms ns m h);
-}
+  pub covered_joined : (old mid new : KeyState) (a b : List ℕ) → IsCovered v c old mid a → IsCovered v c mid new b → IsCovered v c old new (a ++ b)
+  covered_joined old mid new a b first second = record {
+    items = second.items ∙ first.items;
+    update = λ s. second.update s ∙ first.update s;
+    looks = λ s. second.looks s ∙ first.looks s;
+    known = λ V fits marks s some k.
+        subst (λ (x : Bool). IsKnownBy V (with_mark x (mark_by c v s) marks) s (at_stamp s new).evidence) (sym (in_both s a b))
+        (with_both V marks s (at_stamp s new).evidence (is_in s a) (is_in s b)
+        (second.known V fits (with_mark (is_in s a) (mark_by c v s) marks) s some (first.known V fits marks s some k)));
+  }
 
-both : (a b : Bool) → a && b ≡ true → (a ≡ true) × (b ≡ true)
-both true b e = (refl, e)
-both false b e = absurd (false≢true e)
+  -- the cover of one stamp
+  pub covered_stamp : (old new : KeyState) (s : ℕ) → new.items ≡ old.items → IsCoveredAt old.stamps new.stamps s v c → IsCovered v c old new (s ∷ [])
+  covered_stamp old new s items at = record {
+    items = items;
+    update = λ t. update t (eqb t s) refl;
+    looks = λ t. looks t (eqb t s) refl;
+    known = λ V fits marks t some k. known V fits marks t (eqb t s) refl k;
+  }
+    where
+      update : (t : ℕ) (b : Bool) → eqb t s ≡ b → (at_stamp t new).update ≡ (at_stamp t old).update
+      update t true is = subst (λ (u : ℕ). (stamp_in u new.stamps).update ≡ (stamp_in u old.stamps).update) (sym (eqb-true t s is)) at.update
+      update t false is = ap (λ (a : AtStamp). a.update) (at.there t is)
 
-same_bit : (a b : Bool) → beq a b ≡ true → a ≡ b
-same_bit true true e = refl
-same_bit true false e = absurd (false≢true e)
-same_bit false true e = absurd (false≢true e)
-same_bit false false e = refl
+      looks : (t : ℕ) (b : Bool) → eqb t s ≡ b → (at_stamp t new).looks ≡ (at_stamp t old).looks
+      looks t true is = subst (λ (u : ℕ). (stamp_in u new.stamps).looks ≡ (stamp_in u old.stamps).looks) (sym (eqb-true t s is)) at.looks
+      looks t false is = ap (λ (a : AtStamp). a.looks) (at.there t is)
 
-abbrev cover_with : ℕ → ℕ → Bool → Cover
-cover_with n e r = record { node = record { 0 = n }; epoch = e; ready = r }
+      known : (V : ℕ → List ℕ) → member_numbers v.members ≡ V v.epoch → (marks : List Mark) (t : ℕ) (b : Bool) → eqb t s ≡ b →
+          IsKnownBy V marks t (at_stamp t old).evidence → IsKnownBy V (with_mark (cond b true false) (mark_by c v t) marks) t (at_stamp t new).evidence
+      known V fits marks t true is k =
+          let same : t ≡ s = eqb-true t s is in
+          subst (λ (u : ℕ). IsKnownBy V (mark_by c v u ∷ marks) u (stamp_in u new.stamps).evidence) (sym same)
+          (shown_known V v c fits marks s (stamp_in s old.stamps).evidence (stamp_in s new.stamps).evidence at.shown
+          (subst (λ (u : ℕ). IsKnownBy V marks u (stamp_in u old.stamps).evidence) same k))
+      known V fits marks t false is k = subst (λ (a : AtStamp). IsKnownBy V marks t a.evidence) (sym (at.there t is)) k
 
-same_cover : (a b : Cover) → eqb a.node.0 b.node.0 && (eqb a.epoch b.epoch && beq a.ready b.ready) ≡ true → a ≡ b
-same_cover a b e =
-    let p = both (eqb a.node.0 b.node.0) (eqb a.epoch b.epoch && beq a.ready b.ready) e in
-    let q = both (eqb a.epoch b.epoch) (beq a.ready b.ready) p.1 in
-    ap (λ (n : ℕ). cover_with n a.epoch a.ready) (eqb-true a.node.0 b.node.0 p.0)
-    ∙ ap (λ (n : ℕ). cover_with b.node.0 n a.ready) (eqb-true a.epoch b.epoch q.0)
-    ∙ ap (λ (r : Bool). cover_with b.node.0 b.epoch r) (same_bit a.ready b.ready q.1)
+  -- the stamp of no update
+  none_in : (s tag : ℕ) → 1 ≤ s → tag ≡ 0 → is_in s (tag ∷ []) ≡ false
+  none_in s tag some zero = ap (λ (b : Bool). cond b true false) (ne_eqb s tag (λ (e : s ≡ tag). omega (arith, e, zero, some)))
 
-in_at : (xs : List Cover) (i : ℕ) (d : Cover) → i < length xs → In xs (get_or xs i d)
-in_at [] i d lt = absurd (omega arith)
-in_at (x ∷ xs) zero d lt = inl refl
-in_at (x ∷ xs) (suc i) d lt = inr (in_at xs i d (omega arith))
+  -- ---- all keys
+  at_both : (key : List ℕ) (a b : List Touch) → tags_at key (a ++ b) ≡ tags_at key a ++ tags_at key b
+  at_both key [] b = refl
+  at_both key (t ∷ a) b = by_test (is_same_key key t.0) (at_both key a b)
+    where
+      by_test : (x : Bool) → tags_at key (a ++ b) ≡ tags_at key a ++ tags_at key b →
+          cond x (t.1 ∷ tags_at key (a ++ b)) (tags_at key (a ++ b)) ≡ cond x (t.1 ∷ tags_at key a) (tags_at key a) ++ tags_at key b
+      by_test true more = ap (λ (l : List ℕ). t.1 ∷ l) more
+      by_test false more = more
 
-pub found_cover : (xs : List Cover) (i : ℕ) (d x c : Cover) → true ≡ ltb i (length xs) → x ≡ get_or xs i d →
-    eqb x.node.0 c.node.0 && (eqb x.epoch c.epoch && beq x.ready c.ready) ≡ true → In xs c
-found_cover xs i d x c inside is e = subst (λ (y : Cover). In xs y) (sym is ∙ same_cover x c e) (in_at xs i d (ltb-true i (length xs) (sym inside)))
+  pub are_same : (old new : Keys) → new ≡ old → AreCovered v c old new []
+  are_same old new same = record {
+    keys = ap keys_of same;
+    there = λ key. ap (λ (ks : Keys). is_some (find_key key ks)) same;
+    each = λ key there. covered_nothing (key_at key old) (key_at key new) [] (ap (key_at key) same) (λ s some. refl);
+  }
 
--- a cover behind the others
-pub cover_pushed : (old new : AtStamp) (c : Cover) → new.update ≡ old.update → new.looks ≡ old.looks → new.covers ≡ old.covers ++ c ∷ [] → HasCover old new c
-cover_pushed old new c update looks covers = record {
-  update = update;
-  looks = looks;
-  kept = λ d h. rw covers (in_left old.covers (c ∷ []) d h);
-  from = λ d h. ⊎_elim inl (λ (g : In (c ∷ []) d). ⊎_elim inr (λ (none : ⊥). absurd none) g) (in_either old.covers (c ∷ []) d (rw covers at h));
-  made = rw covers (in_right old.covers (c ∷ []) c (inl refl));
-}
+  pub are_joined : (old mid new : Keys) (a b : List Touch) → AreCovered v c old mid a → AreCovered v c mid new b → AreCovered v c old new (a ++ b)
+  are_joined old mid new a b first second = record {
+    keys = second.keys ∙ first.keys;
+    there = λ key. second.there key ∙ first.there key;
+    each = λ key there.
+        subst (IsCovered v c (key_at key old) (key_at key new)) (sym (at_both key a b))
+        (covered_joined (key_at key old) (key_at key mid) (key_at key new) (tags_at key a) (tags_at key b)
+        (first.each key there) (second.each key (first.there key ∙ there)));
+  }
 
--- the covers of one stamp
-pub covered_stamp : (old new : KeyState) (s : ℕ) (c : Cover) → 1 ≤ s → new.items ≡ old.items → IsCoveredAt old.stamps new.stamps s c →
-    IsCovered old new (mark_by c s ∷ [])
-covered_stamp old new s c some items at = record {
-  items = items;
-  update = λ t. by_stamp t (λ (a b : AtStamp). b.update ≡ a.update) at.here.update (λ a b e. ap (λ (x : AtStamp). x.update) e);
-  looks = λ t. by_stamp t (λ (a b : AtStamp). b.looks ≡ a.looks) at.here.looks (λ a b e. ap (λ (x : AtStamp). x.looks) e);
-  kept = λ t d. by_stamp t (λ (a b : AtStamp). In a.covers d → In b.covers d) (at.here.kept d) (λ a b e h. subst (λ (x : AtStamp). In x.covers d) (sym e) h);
-  from = λ t d. by_case t d (eqb t s) refl;
-  made = λ m h low. ⊎_elim
-      (λ (e : m ≡ mark_by c s). subst (λ (n : Mark). (d : Cover) × In (at_stamp n.stamp new).covers d × Says n n.stamp d) (sym e) (c, at.here.made, says_it))
-      (λ (none : ⊥). absurd none) h;
-}
+  -- one key that is kept, and one that is not
+  tags_same : (q key : List ℕ) (tag : ℕ) → q ≡ key → tags_at q ((key, tag) ∷ []) ≡ tag ∷ []
+  tags_same q key tag e = ap (λ (b : Bool). cond b (tag ∷ []) []) (same_of q key e)
+
+  tags_other : (q key : List ℕ) (tag : ℕ) → q ≢ key → tags_at q ((key, tag) ∷ []) ≡ []
+  tags_other q key tag ne = ap (λ (b : Bool). cond b (tag ∷ []) []) (same_not q key ne)
+
+  pub are_at : (old new : Keys) (key : List ℕ) (tag : ℕ) (k l : KeyState) → find_key key old ≡ Some k → keys_of new ≡ keys_of old →
+      IsPutAt old new key l → IsCovered v c k l (tag ∷ []) → AreCovered v c old new ((key, tag) ∷ [])
+  are_at old new key tag k l found keys put covered = record {
+    keys = keys;
+    there = put_stays old new key l put (ap is_some found);
+    each = λ q there. ⊎_elim
+        (λ (e : q ≡ key).
+        let at : IsCovered v c (key_at key old) (key_at key new) (tag ∷ []) =
+        subst (λ (x : KeyState). IsCovered v c x (key_at key new) (tag ∷ [])) (sym (found_at key old k found))
+        (subst (λ (x : KeyState). IsCovered v c k x (tag ∷ [])) (sym (put_here old new key l put)) covered) in
+        subst (IsCovered v c (key_at q old) (key_at q new)) (sym (tags_same q key tag e))
+        (subst (λ (j : List ℕ). IsCovered v c (key_at j old) (key_at j new) (tag ∷ [])) (sym e) at))
+        (λ (ne : q ≢ key). subst (IsCovered v c (key_at q old) (key_at q new)) (sym (tags_other q key tag ne))
+        (covered_nothing (key_at q old) (key_at q new) [] (put_others old new key l put q ne) (λ s some. refl))) (cases_key q key);
+  }
+
+  pub are_absent : (old new : Keys) (key : List ℕ) (tag : ℕ) → find_key key old ≡ None → new ≡ old → AreCovered v c old new ((key, tag) ∷ [])
+  are_absent old new key tag none same = record {
+    keys = ap keys_of same;
+    there = λ q. ap (λ (ks : Keys). is_some (find_key q ks)) same;
+    each = λ q there.
+        let ne : q ≢ key = λ e. not_there (find_key key old) none (subst (λ (j : List ℕ). is_some (find_key j old) ≡ true) e there) in
+        subst (IsCovered v c (key_at q old) (key_at q new)) (sym (tags_other q key tag ne))
+        (covered_nothing (key_at q old) (key_at q new) [] (ap (key_at q) same) (λ s some. refl));
+  }
+
+  -- the stamp of no update, of any key
+  pub are_none : (keys : Keys) (key : List ℕ) (tag : ℕ) → tag ≡ 0 → AreCovered v c keys keys ((key, tag) ∷ [])
+  are_none keys key tag zero = record {
+    keys = refl;
+    there = λ q. refl;
+    each = λ q there. covered_nothing (key_at q keys) (key_at q keys) (tags_at q ((key, tag) ∷ [])) refl
+        (λ s some. ⊎_elim
+        (λ (e : q ≡ key). ap (is_in s) (tags_same q key tag e) ∙ none_in s tag some zero)
+        (λ (ne : q ≢ key). ap (is_in s) (tags_other q key tag ne)) (cases_key q key));
+  }
+
+-- ---- one item more
+flat_more : {X Y : Type 0} (f : X → List Y) (xs : List X) (x : X) → flat_map f (xs ++ x ∷ []) ≡ flat_map f xs ++ f x
+flat_more f [] x = append-nil (f x)
+flat_more f (y ∷ xs) x = ap (λ (l : List _). f y ++ l) (flat_more f xs x) ∙ sym (append_assoc (f y) (flat_map f xs) (f x))
+
+pub covers_turn : {X : Type 0} (v : View) (c : Cover) (f : X → List Touch) (xs : List X) (i : ℕ) (x : X) (old mid new : Keys) → i < length xs →
+    x ≡ get_or xs i x → AreCovered v c old mid (flat_map f (take i xs)) → AreCovered v c mid new (f x) →
+    AreCovered v c old new (flat_map f (take (i + 1) xs))
+covers_turn v c f xs i x old mid new lt is first second =
+    subst (AreCovered v c old new) (sym (ap (flat_map f) (turn xs i x lt is) ∙ flat_more f (take i xs) x))
+    (are_joined v c old mid new (flat_map f (take i xs)) (f x) first second)
+
+pub covers_more : {X : Type 0} (v : View) (c : Cover) (f : X → List Touch) (xs : List X) (x : X) (old mid new : Keys) →
+    AreCovered v c old mid (flat_map f xs) → AreCovered v c mid new (f x) → AreCovered v c old new (flat_map f (xs ++ x ∷ []))
+covers_more v c f xs x old mid new first second =
+    subst (AreCovered v c old new) (sym (flat_more f xs x)) (are_joined v c old mid new (flat_map f xs) (f x) first second)
+
+-- ---- a row
+pub waits_within : (x : NodeState) (key : List ℕ) (row : Row) → IsNode x → find_row key x.rows ≡ Some row → IfSome row.pending (λ p. IsWithin p.stamp)
+waits_within x key row ok found = within row.pending (found_sound x key row ok found).update
   where
-    says_it : Says (mark_by c s) s c
-    says_it = record { who = refl; epoch = refl; stamp = refl; ready = refl }
+    within : (o : Option Waits) → IfSome o (IsUpdate x.id (members_of x)) → IfSome o (λ p. IsWithin p.stamp)
+    within None h = tt
+    within (Some p) h = h.within
 
-    by_stamp : (t : ℕ) (P : AtStamp → AtStamp → Type 0) → P (stamp_in s old.stamps) (stamp_in s new.stamps) → ((a b : AtStamp) → b ≡ a → P a b) →
-        P (stamp_in t old.stamps) (stamp_in t new.stamps)
-    by_stamp t P here stay = at_test (eqb t s) refl
-      where
-        at_test : (b : Bool) → eqb t s ≡ b → P (stamp_in t old.stamps) (stamp_in t new.stamps)
-        at_test true e = subst (λ (u : ℕ). P (stamp_in u old.stamps) (stamp_in u new.stamps)) (sym (eqb-true t s e)) here
-        at_test false e = stay (stamp_in t old.stamps) (stamp_in t new.stamps) (at.there t e)
+module _ (v : View) (c : Cover) (x : NodeState) (key : List ℕ) where
+  pub row_found : (row : Row) (tag : ℕ) (old mid new : Keys) → find_row key x.rows ≡ Some row → tag ≡ tag_of row.stamp → AreCovered v c old mid ((key, tag) ∷ []) →
+      AreCovered v c mid new (wait_touches key row.pending) → AreCovered v c old new (touches_now x key)
+  row_found row tag old mid new found is first second =
+      let same : row_at key x.rows ≡ row = row_of_found key x.rows (Some row) found in
+      subst (λ (r : Row). AreCovered v c old new (row_touches key r)) (sym same)
+      (are_joined v c old mid new ((key, tag_of row.stamp) ∷ []) (wait_touches key row.pending)
+      (subst (λ (t : ℕ). AreCovered v c old mid ((key, t) ∷ [])) is first) second)
 
-    by_case : (t : ℕ) (d : Cover) (b : Bool) → eqb t s ≡ b → In (at_stamp t new).covers d → In (at_stamp t old).covers d ⊎ IsMarked (mark_by c s ∷ []) t d
-    by_case t d true e h =
-        let same : t ≡ s = eqb-true t s e in
-        ⊎_elim
-        (λ (g : In (stamp_in s old.stamps).covers d). inl (subst (λ (u : ℕ). In (stamp_in u old.stamps).covers d) (sym same) g))
-        (λ (is : d ≡ c). inr (record {
-          some = subst (λ (u : ℕ). 1 ≤ u) (sym same) some;
-          mark = mark_by c s;
-          among = inl refl;
-          says = subst (λ (u : ℕ). Says (mark_by c s) u d) (sym same) (subst (λ (x : Cover). Says (mark_by c s) s x) (sym is) says_it);
-        }))
-        (at.here.from d (subst (λ (u : ℕ). In (stamp_in u new.stamps).covers d) same h))
-    by_case t d false e h = inl (subst (λ (x : AtStamp). In x.covers d) (at.there t e) h)
+  -- with no row the key has the stamp of no update
+  pub row_missing : (keys : Keys) → find_row key x.rows ≡ None → AreCovered v c keys keys (touches_now x key)
+  row_missing keys none = subst (λ (r : Row). AreCovered v c keys keys (row_touches key r)) (sym (row_of_found key x.rows None none)) (are_none v c keys key 0 refl)
 
--- the stamp of no update
-pub covered_none : (k : KeyState) (s : ℕ) (c : Cover) → s ≡ 0 → IsCovered k k (mark_by c s ∷ [])
-covered_none k s c none = covered_like k k [] (mark_by c s ∷ []) (record {
-  into = λ m h some. absurd h;
-  back = λ n h some. ⊎_elim (λ (e : n ≡ mark_by c s). absurd (let low : 1 ≤ s = subst (λ (m : Mark). 1 ≤ m.stamp) e some in omega arith))
-      (λ (f : ⊥). absurd f) h;
-}) (same_covered k k refl)
+pub former_found : (v : View) (c : Cover) (x : NodeState) (rose : Bool) (f : Former) (row : Row) (old mid new : Keys) → rose ≡ true → f.row ≡ Some row →
+    AreCovered v c old mid (touches_now x f.key) → AreCovered v c mid new (wait_touches f.key row.pending) → AreCovered v c old new (changed_touches x rose f)
+former_found v c x rose f row old mid new is found first second =
+    let waits : cond rose (former_waits f.key f.row) [] ≡ wait_touches f.key row.pending =
+    ap (λ (b : Bool). cond b (former_waits f.key f.row) []) is ∙ ap (former_waits f.key) found in
+    subst (λ (l : List Touch). AreCovered v c old new (touches_now x f.key ++ l)) (sym waits) (are_joined v c old mid new _ _ first second)
 
--- ---- all keys
-pub are_same : (keys : Keys) → AreCovered keys keys (λ key. [])
-are_same keys = record { keys = refl; there = λ key. refl; each = λ key there. same_covered (key_at key keys) (key_at key keys) refl }
+-- ---- the open rows
+closed : (a b : Bool) → (a && b) ≡ false → b ≡ true → a ≡ false
+closed true true e h = e
+closed true false e h = absurd (false≢true h)
+closed false b e h = refl
 
-pub are_joined : (old mid new : Keys) (ms ns : List ℕ → List Mark) → AreCovered old mid ms → AreCovered mid new ns →
-    AreCovered old new (λ key. ms key ++ ns key)
-are_joined old mid new ms ns a b = record {
-  keys = b.keys ∙ a.keys;
-  there = λ key. b.there key ∙ a.there key;
-  each = λ key there. covered_joined (key_at key old) (key_at key mid) (key_at key new) (ms key) (ns key) (a.each key there) (b.each key (a.there key ∙ there));
-}
+-- a key with no row is not open
+none_open : (after : Option (List ℕ)) (rows : Rows) → find (is_open_behind after) rows ≡ None → (q : List ℕ) → not (is_valid (row_at q rows).state) ≡ true →
+    is_behind after q ≡ false
+none_open after [] e q opened = absurd (false≢true opened)
+none_open after (r ∷ rows) e q opened = by_test (is_open_behind after r) refl e (none_open after rows)
+  where
+    by_test : (b : Bool) → is_open_behind after r ≡ b → cond b (Some r) (find (is_open_behind after) rows) ≡ None →
+        (find (is_open_behind after) rows ≡ None → (q : List ℕ) → not (is_valid (row_at q rows).state) ≡ true → is_behind after q ≡ false) → is_behind after q ≡ false
+    by_test true is e more = absurd (false≢true (sym (ap is_some e)))
+    by_test false is e more = ⊎_elim
+        (λ (same : q ≡ r.0).
+        let row : row_at q (r ∷ rows) ≡ r.1 = row_here q r rows same in
+        subst (λ (k : List ℕ). is_behind after k ≡ false) (sym same)
+        (closed (is_behind after r.0) (not (is_valid r.1.state)) is (subst (λ (w : Row). not (is_valid w.state) ≡ true) row opened)))
+        (λ (ne : q ≢ r.0). more e q (subst (λ (w : Row). not (is_valid w.state) ≡ true) (row_next q r rows ne) opened)) (cases_key q r.0)
 
-pub are_like : (old new : Keys) (ms ns : List ℕ → List Mark) → ((key : List ℕ) → is_some (find_key key old) ≡ true → AreLike (ms key) (ns key)) →
-    AreCovered old new ms → AreCovered old new ns
-are_like old new ms ns like a = record {
-  keys = a.keys;
-  there = a.there;
-  each = λ key there. covered_like (key_at key old) (key_at key new) (ms key) (ns key) (like key there) (a.each key there);
-}
+-- an open key stands among the keys
+all_open : (P : List ℕ → Type 0) (rows : Rows) → AllByRecursion P (keys_of rows) → (q : List ℕ) → not (is_valid (row_at q rows).state) ≡ true → P q
+all_open P [] all q opened = absurd (false≢true opened)
+all_open P (r ∷ rows) all q opened = ⊎_elim
+    (λ (same : q ≡ r.0). subst P (sym same) all.0)
+    (λ (ne : q ≢ r.0). all_open P rows all.1 q (subst (λ (w : Row). not (is_valid w.state) ≡ true) (row_next q r rows ne) opened)) (cases_key q r.0)
 
--- one key that is kept, and one that is not
-pub are_at : (old new : Keys) (key : List ℕ) (k l : KeyState) (ms : List Mark) → find_key key old ≡ Some k → keys_of new ≡ keys_of old →
-    IsPutAt old new key l → IsCovered k l ms → AreCovered old new (only_at key ms)
-are_at old new key k l ms found keys put covered = record {
-  keys = keys;
-  there = put_stays old new key l put (ap is_some found);
-  each = λ q there. ⊎_elim
-      (λ (e : q ≡ key).
-      let marks : only_at key ms q ≡ ms = ap (λ (b : Bool). cond b ms []) (same_of q key e) in
-      let at : IsCovered (key_at key old) (key_at key new) ms =
-      subst (λ (x : KeyState). IsCovered x (key_at key new) ms) (sym (found_at key old k found))
-      (subst (λ (x : KeyState). IsCovered k x ms) (sym (put_here old new key l put)) covered) in
-      subst (λ (js : List Mark). IsCovered (key_at q old) (key_at q new) js) (sym marks)
-      (subst (λ (j : List ℕ). IsCovered (key_at j old) (key_at j new) ms) (sym e) at))
-      (λ (ne : q ≢ key).
-      let marks : only_at key ms q ≡ [] = ap (λ (b : Bool). cond b ms []) (same_not q key ne) in
-      subst (λ (js : List Mark). IsCovered (key_at q old) (key_at q new) js) (sym marks)
-      (same_covered (key_at q old) (key_at q new) (put_others old new key l put q ne))) (cases_key q key);
-}
+least_open : (after : Option (List ℕ)) (rows : Rows) (key : List ℕ) → IsStrictlySortedBy key_cmp (keys_of rows) →
+    option_map (λ r. r.0) (find (is_open_behind after) rows) ≡ Some key → (q : List ℕ) → not (is_valid (row_at q rows).state) ≡ true → is_behind after q ≡ true →
+    (q ≡ key) ⊎ (is_behind (Some key) q ≡ true)
+least_open after [] key sorted e q opened behind = absurd (false≢true opened)
+least_open after (r ∷ rows) key sorted e q opened behind = by_test (is_open_behind after r) refl e
+    (λ e. least_open after rows key (sorted_tail key_cmp r.0 (keys_of rows) sorted) e q)
+  where
+    by_test : (b : Bool) → is_open_behind after r ≡ b → option_map (λ r. r.0) (cond b (Some r) (find (is_open_behind after) rows)) ≡ Some key →
+        (option_map (λ r. r.0) (find (is_open_behind after) rows) ≡ Some key → not (is_valid (row_at q rows).state) ≡ true → is_behind after q ≡ true →
+        (q ≡ key) ⊎ (is_behind (Some key) q ≡ true)) → (q ≡ key) ⊎ (is_behind (Some key) q ≡ true)
+    by_test true is e more =
+        let here : r.0 ≡ key = cc in
+        ⊎_elim (λ (same : q ≡ r.0). inl (same ∙ here))
+        (λ (ne : q ≢ r.0). inr (subst (λ (k : List ℕ). is_lt (key_cmp k q) ≡ true) here (test_of_below r.0 q
+        (all_open (λ (k : List ℕ). key_cmp r.0 k ≡ Less) rows (sorted_head key_cmp r.0 (keys_of rows) sorted) q
+        (subst (λ (w : Row). not (is_valid w.state) ≡ true) (row_next q r rows ne) opened))))) (cases_key q r.0)
+    by_test false is e more = ⊎_elim
+        (λ (same : q ≡ r.0).
+        let row : row_at q (r ∷ rows) ≡ r.1 = row_here q r rows same in
+        let passes : is_open_behind after r ≡ true =
+        and_from (is_behind after r.0) _ (subst (λ (k : List ℕ). is_behind after k ≡ true) same behind) (subst (λ (w : Row). not (is_valid w.state) ≡ true) row opened) in
+        absurd (false≢true (sym is ∙ passes)))
+        (λ (ne : q ≢ r.0). more e (subst (λ (w : Row). not (is_valid w.state) ≡ true) (row_next q r rows ne) opened) behind) (cases_key q r.0)
 
-pub are_absent : (keys : Keys) (key : List ℕ) (ms : List Mark) → find_key key keys ≡ None → AreCovered keys keys (only_at key ms)
-are_absent keys key ms none = record {
-  keys = refl;
-  there = λ q. refl;
-  each = λ q there.
-      let ne : q ≢ key = λ e. not_there (find_key key keys) none (subst (λ (j : List ℕ). is_some (find_key j keys) ≡ true) e there) in
-      let marks : only_at key ms q ≡ [] = ap (λ (b : Bool). cond b ms []) (same_not q key ne) in
-      subst (λ (js : List Mark). IsCovered (key_at q keys) (key_at q keys) js) (sym marks) (same_covered (key_at q keys) (key_at q keys) refl);
-}
+-- those up to this key, if there is one
+pub record AreSeen (v : View) (c : Cover) (old new : Keys) (x : NodeState) (after : Option (List ℕ)) : Type 0 where
+  pub seen : List (List ℕ)
+  pub covered : AreCovered v c old new (flat_map (touches_now x) seen)
+  pub all : (q : List ℕ) → is_open q x ≡ true → is_behind after q ≡ false → In seen q
+
+module _ (v : View) (c : Cover) where
+  pub nothing_seen : (keys : Keys) (x : NodeState) → AreSeen v c keys keys x None
+  nothing_seen keys x = record { seen = []; covered = are_same v c keys keys refl; all = λ q opened none. absurd (false≢true (sym none)) }
+
+  -- one key more, the next open one
+  pub one_seen : (old mid new : Keys) (x : NodeState) (after : Option (List ℕ)) (key : List ℕ) → IsNode x → AreSeen v c old mid x after →
+      Some key ≡ next_open after x.rows → AreCovered v c mid new (touches_now x key) → AreSeen v c old new x (Some key)
+  one_seen old mid new x after key ok was next covered = record {
+    seen = was.seen ++ key ∷ [];
+    covered = covers_more v c (touches_now x) was.seen key old mid new was.covered covered;
+    all = λ q opened not_behind. by_before q opened not_behind (is_behind after q) refl;
+  }
+    where
+      by_before : (q : List ℕ) → is_open q x ≡ true → is_behind (Some key) q ≡ false → (b : Bool) → is_behind after q ≡ b → In (was.seen ++ key ∷ []) q
+      by_before q opened not_behind false e = in_left was.seen (key ∷ []) q (was.all q opened e)
+      by_before q opened not_behind true e = ⊎_elim
+          (λ (is : q ≡ key). in_right was.seen (key ∷ []) q (inl is))
+          (λ (more : is_behind (Some key) q ≡ true). absurd (false≢true (sym not_behind ∙ more)))
+          (least_open after x.rows key ok.ordered (sym next) q opened e)
+
+  pub all_seen : (old new : Keys) (x : NodeState) (moved : Bool) (after : Option (List ℕ)) → AreSeen v c old new x after → None ≡ next_open after x.rows →
+      AreOpenCovered v c old new x moved
+  all_seen old new x moved after was none =
+      record { seen = was.seen; all = λ m q opened. was.all q opened (none_open after x.rows (by_found (find (is_open_behind after) x.rows) (sym none)) q opened); covered = was.covered }
+    where
+      by_found : (o : Option (List ℕ × Row)) → option_map (λ r. r.0) o ≡ None → o ≡ None
+      by_found None e = refl
+      by_found (Some r) e = cc

@@ -1,25 +1,33 @@
--- What is noted of a key at an event is what the event adds to the key's trace.
-use Rattle.std.proofs.Common.{◌≡◌, ◌⊎◌, ℕ, Bool, true, false, cond, ◌+◌, List, [], ◌∷◌, ◌++◌, ◌≤◌, ◌∙◌, sym, refl, ap, subst, ⊎_elim, Option, Some, None, Ok, eqb, append-nil}
-use Rattle.std.specs.List.{find}
+-- What is known of a stamp, and what is kept of a key, goes on with the trace.
+use Rattle.std.proofs.Common.{◌≡◌, ℕ, true, cond, List, [], ◌∷◌, ◌++◌, ◌≤◌, ◌∙◌, sym, refl, ap, subst, Option, Some, None, Ok, eqb, append-nil}
+use Rattle.std.specs.List.{find, list_all}
 use Rattle.std.specs.Option.{option_map, option_or}
 use Rattle.std.proofs.lemmas.List.Folds.{find-append}
-use Rattle.hk_base.specs.declared.stamp.NodeId.{NodeId}
 use Rattle.hk_base.specs.declared.call.CallNo.{CallNo}
 use Rattle.hk_history.specs.declared.event.Event.{Event as Line}
-use Rattle.hk_register.specs.Machine.{In, Weaker, Mark, Node, Letter, Update, Item}
+use Rattle.hk_register.specs.Machine.{In, Mark, Update, Item, State}
 use Rattle.hk_register.specs.Machine.Item.{Called, Answered, Dropped, Looked, Missed}
-use Rattle.hk_register.specs.Printed.{events_of, item_events}
-use Rattle.hk_register.proofs.Grow.{in_left, in_right, in_either}
+use Rattle.hk_register.specs.Facts.{Complete}
+use Rattle.hk_register.specs.Parts.{Parts}
+use Rattle.hk_register.specs.Printed.{is_mark, events_of, item_events}
+use Rattle.hk_register.proofs.Tests.{any_in, all_in}
 use Rattle.hk_world.specs.declared.event.Event.{Event}
 use Rattle.hk_world.specs.Steps.{Accepted, world_step}
-use Rattle.hk_effects.specs.View.{Trace, key_node, node_at, letters_of, step_marks, ack_marks, told_at, items_of, updates_of, added, traced, traced_by}
+use Rattle.hk_effects.specs.View.{Trace, view}
+use Rattle.hk_effects.specs.Own.{IsOwn, Agrees}
+use Rattle.hk_effects.specs.Orders.{family}
 use Rattle.hk_effects.specs.Runs.{IsKept}
 use Rattle.hk_effects.proofs.Frames.{itself}
+use Rattle.hk_effects.proofs.Legality.{family_agrees}
 use Rattle.hk_effects.proofs.Two.{append_three}
-use Rattle.hk_safety.specs.declared.key_run.Cover.{Cover}
-use Rattle.hk_safety.specs.Kept.{KeyState, IsKeyOf, at_stamp, call_of, update_at, looks_at, Tells, IsTold}
-use Rattle.hk_safety.specs.Noted.{touches, readied, begun_at, IsAdded, IsAddedBy, IsNoted}
-use Rattle.hk_safety.proofs.Untouched.{were_told}
+use Rattle.hk_effects.proofs.WorldKept.{next_kept}
+use Rattle.hk_safety.specs.declared.evidence.Evidence.{Evidence}
+use Rattle.hk_safety.specs.declared.evidence.Evidence.TheVariants.{Covers}
+use Rattle.hk_safety.specs.declared.evidence.Evidence.TheVariants as E
+use Rattle.hk_safety.specs.Kept.{covers_in, is_ready_mark, call_of, update_at, looks_at, IsKnown}
+use Rattle.hk_safety.specs.Grown.{CompleteBy, IsKnownBy}
+use Rattle.hk_safety.proofs.Noting.{begun_at}
+use Rattle.hk_safety.proofs.Touched.{named_by, ready_by, complete_by}
 
 -- ---- what stands newest first
 pub events_append : (xs ys : List Item) → events_of (xs ++ ys) ≡ events_of ys ++ events_of xs
@@ -44,74 +52,67 @@ update_append s us begun = ap (option_map call_of) (find-append (λ u. eqb u.sta
     by_found None = refl
     by_found (Some u) = refl
 
--- ---- an event
-module _ (key : List ℕ) (old new : KeyState) (t : Trace) (event : Event) (a : Accepted) (k : IsKeyOf old t) where
-  -- no node acts
-  pub noted_beside : new ≡ old → IsKeyOf new (traced_by key t event a None)
-  noted_beside same = subst (λ (n : KeyState). IsKeyOf n (traced_by key t event a None)) (sym same)
-      (record { items = k.items; update = k.update; looks = k.looks; true_covers = k.true_covers; all_covers = k.all_covers })
+-- ---- complete by the marks, and complete
+module _ (V : ℕ → List ℕ) (st : State) (parts : Parts V st) (s : ℕ) where
+  complete_in : CompleteBy V st.marks s → Complete V st s
+  complete_in (e, ready, all) =
+      let f = any_in (is_ready_mark e s) st.marks ready in
+      let m : Mark = f.0 in
+      let is = ready_by e s m f.2 in
+      let ok = parts.marks m (m, itself m, f.1) in (
+        e,
+        record {
+          some_epoch = subst (λ (k : ℕ). 1 ≤ k) is.1 ok.some_epoch;
+          all = λ n h.
+              let g = any_in (is_mark n e s) st.marks (all_in (λ n. covers_in st.marks s n e) (V e) all n h) in
+              let named = named_by n e s g.0 g.2 in
+              record { mark = g.0; marked = (g.0, itself g.0, g.1); who = named.who; epoch = named.epoch; stamp = named.stamp };
+          one = m.who;
+          one_member = subst (λ (k : ℕ). In (V k) m.who) is.1 ok.member;
+          one_ready = record { mark = m; marked = (m, itself m, f.1); who = refl; epoch = is.1; stamp = is.2; ready = is.0 };
+        },
+      )
 
-  module _ (id : ℕ) (was x : Node) where
-    abbrev ls : List Letter
-    ls = letters_of key a.shown.letters
+  pub known_by : (ev : Evidence) → IsKnown V st s ev → IsKnownBy V st.marks s ev
+  known_by E.Complete k = complete_by V st s k
+  known_by (Covers groups) k = (λ c. k.0 (complete_in c), k.1)
 
-    -- where the event does not touch the key, a mark of the step is an ACK's, or was told before
-    abbrev pub WasTold : Type 0
-    WasTold = touches key t.world (readied was x) event ≡ false → (m : Mark) → In (step_marks id was x ls) m →
-        In (ack_marks id x ls) m ⊎ (j : Mark) × Weaker m j × In t.marks j
+  pub known_of : (ev : Evidence) → IsKnownBy V st.marks s ev → IsKnown V st s ev
+  known_of E.Complete k = complete_in k
+  known_of (Covers groups) k = (λ c. k.0 (complete_by V st s c), k.1)
 
-    -- a node makes a step
-    module _ (made : IsAddedBy key old new t.world event a id was x) (untold : WasTold) where
-      abbrev items : List Item
-      items = items_of key event (t.world.calls + 1) was x (told_at key a.told)
+-- ---- more agreed views tell nothing of the epochs in which nodes were before
+module _ (U V : ℕ → List ℕ) (marks : List Mark) (same : (m : Mark) → In marks m → U m.epoch ≡ V m.epoch) (s : ℕ) where
+  pub complete_also : CompleteBy U marks s → CompleteBy V marks s
+  complete_also (e, ready, all) =
+      let f = any_in (is_ready_mark e s) marks ready in
+      let is = ready_by e s f.0 f.2 in
+      let equal : U e ≡ V e = subst (λ (k : ℕ). U k ≡ V k) is.1 (same f.0 f.1) in
+      (e, ready, subst (λ (ns : List ℕ). list_all (λ n. covers_in marks s n e) ns ≡ true) equal all)
 
-      abbrev us : List Update
-      us = updates_of id was items
+pub known_also : (U V : ℕ → List ℕ) (marks : List Mark) (same : (m : Mark) → In marks m → U m.epoch ≡ V m.epoch) (s : ℕ) (ev : Evidence) →
+    IsKnownBy U marks s ev → IsKnownBy V marks s ev
+known_also U V marks same s E.Complete k = complete_also U V marks same s k
+known_also U V marks same s (Covers groups) k = (λ c. k.0 (complete_also V U marks (λ m h. sym (same m h)) s c), k.1)
 
-      abbrev marks : List Mark
-      marks = step_marks id was x ls
+abbrev pub Before : Trace → ℕ → List ℕ
+Before t = family t.world.views
 
-      is : IsAdded old new items us (touches key t.world (readied was x) event) marks (ack_marks id x ls)
-      is = made
+abbrev pub After : Accepted → ℕ → List ℕ
+After a = family a.world.views
 
-      abbrev IsCovered : Mark → Type 0
-      IsCovered m = (c : Cover) × In (at_stamp m.stamp new).covers c × IsTold m c
+module _ (key : List ℕ) (t : Trace) (event : Event) (a : Accepted) (e : world_step t.world event ≡ Ok a) (kept : IsKept key t) (own : IsOwn a.world) where
+  pub agrees_before : Agrees t.world (After a)
+  agrees_before v h = family_agrees a.world own.sound.views v ((next_kept t.world event a e kept.own).grows v h)
 
-      old_covered : (m j : Mark) → Weaker m j → In t.marks j → 1 ≤ m.stamp → IsCovered m
-      old_covered m j w h some =
-          let c = k.all_covers j h (subst (λ (s : ℕ). 1 ≤ s) w.stamp some) in (
-            c.0,
-            is.kept m.stamp c.0 (subst (λ (s : ℕ). In (at_stamp s old).covers c.0) (sym w.stamp) c.1),
-            record { who = w.who ∙ c.2.who; epoch = w.epoch ∙ c.2.epoch; ready = λ r. c.2.ready (w.ready r) },
-          )
+  same_views : (m : Mark) → In t.marks m → Before t m.epoch ≡ After a m.epoch
+  same_views m h =
+      let parts : Parts (Before t) (view key t) = kept.parts (Before t) (family_agrees t.world kept.own.sound.views) in
+      let some : 1 ≤ m.epoch = (parts.marks m (m, itself m, h)).some_epoch in
+      let v = kept.own.views.each m.epoch some (kept.trace.guarded m h).upto in
+      subst (λ (k : ℕ). Before t k ≡ After a k) v.2 (sym (family_agrees t.world kept.own.sound.views v.0 v.1) ∙ agrees_before v.0 v.1)
 
-      new_covered : (m : Mark) → In marks m → 1 ≤ m.stamp → (b : Bool) → touches key t.world (readied was x) event ≡ b → IsCovered m
-      new_covered m h some true e = is.all_covers e m h some
-      new_covered m h some false e = ⊎_elim
-          (λ (ack : In (ack_marks id x ls) m). is.all_acks m ack some)
-          (λ (j : (j : Mark) × Weaker m j × In t.marks j). old_covered m j.0 j.1 j.2 some) (untold e m h)
-
-      pub noted_step : IsKeyOf new (added key t event a id was x)
-      noted_step = record {
-        items = is.items ∙ (ap (λ (l : List Line). l ++ events_of items) k.items ∙ sym (events_append items t.history));
-        update = λ s. is.update s ∙ (ap (begun_at s us) (k.update s) ∙ sym (update_append s us t.begun));
-        looks = λ s. is.looks s ∙ (ap (λ (l : List CallNo). l ++ looks_at s items) (k.looks s) ∙ sym (looks_append s items t.history));
-        true_covers = λ s c h. ⊎_elim
-            (λ (o : In (at_stamp s old).covers c). let m = k.true_covers s c o in (m.0, in_right marks t.marks m.0 m.1, m.2))
-            (λ (n : (m : Mark) × In marks m × Tells m s c). (n.0, in_left marks t.marks n.0 n.1, n.2)) (is.true_covers s c h);
-        all_covers = λ m h some. ⊎_elim
-            (λ (n : In marks m). new_covered m n some (touches key t.world (readied was x) event) refl)
-            (λ (o : In t.marks m). old_covered m m (itself m) o some) (in_either marks t.marks m h);
-      }
-
--- what is noted of a key is what the event adds to its trace
-pub noted_follows : (key : List ℕ) (old new : KeyState) (t : Trace) (event : Event) (a : Accepted) → IsKeyOf old t → IsKept key t →
-    world_step t.world event ≡ Ok a →
-    IsNoted key old new t.world event a a.acting → IsKeyOf new (traced key t event a)
-noted_follows key old new t event a k kept e noted = by_acting a.acting refl noted
-  where
-    by_acting : (acting : Option NodeId) → a.acting ≡ acting → IsNoted key old new t.world event a acting → IsKeyOf new (traced_by key t event a acting)
-    by_acting None acts noted = noted_beside key old new t event a k noted
-    by_acting (Some id) acts noted =
-        noted_step key old new t event a k id.0 (key_node key (node_at id.0 t.world.processes)) (key_node key (node_at id.0 a.world.processes)) noted
-        (were_told key t event a id kept e acts)
+  -- what is known before the event, by the views after it
+  pub known_before : (s : ℕ) (ev : Evidence) → IsKnown (Before t) (view key t) s ev → IsKnownBy (After a) t.marks s ev
+  known_before s ev k = known_also (Before t) (After a) t.marks same_views s ev
+      (known_by (Before t) (view key t) (kept.parts (Before t) (family_agrees t.world kept.own.sound.views)) s ev k)

@@ -16,7 +16,7 @@ use Rattle.hk_base.specs.declared.call.CallNo.{CallNo}
 use Rattle.hk_base.specs.declared.stamp.Kind.{Kind}
 use Rattle.hk_base.specs.declared.stamp.Kind.TheVariants.{Write as Plain, Rmw}
 use Rattle.hk_history.specs.declared.event.Entry.{Entry}
-use Rattle.hk_register.specs.Machine.{In, Mark, Update, Item, State}
+use Rattle.hk_register.specs.Machine.{In, Update, Item, State}
 use Rattle.hk_register.specs.Machine.Item.{Called, Answered, Dropped, Looked, Missed}
 use Rattle.hk_register.specs.Facts.{Complete}
 use Rattle.hk_register.specs.Parts.{Parts}
@@ -27,13 +27,14 @@ use Rattle.hk_effects.specs.View.{Trace, view}
 use Rattle.hk_effects.specs.Runs.{IsKept}
 use Rattle.hk_effects.specs.Orders.{family, order_of}
 use Rattle.hk_effects.proofs.Legality.{family_agrees}
-use Rattle.hk_safety.specs.declared.key_run.Cover.{Cover}
+use Rattle.hk_safety.specs.declared.evidence.Evidence.{Evidence}
+use Rattle.hk_safety.specs.declared.evidence.Evidence.TheVariants.{Covers}
+use Rattle.hk_safety.specs.declared.evidence.Evidence.TheVariants as E
 use Rattle.hk_safety.specs.declared.key_run.AtStamp.{AtStamp}
-use Rattle.hk_safety.specs.Kept.{KeyState, no_stamp, at_stamp, looks_at, call_of, Tells, IsTold, update_at, IsKeyOf}
-use Rattle.hk_safety.specs.Kept.{are_complete, update_entry, look_entry, entries_at, kept_order}
+use Rattle.hk_safety.specs.Kept.{KeyState, no_stamp, at_stamp, looks_at, call_of, update_at, IsKnown, IsKeyOf}
+use Rattle.hk_safety.specs.Kept.{is_complete, update_entry, look_entry, entries_at, kept_order}
 use Rattle.hk_safety.proofs.Slots.{look_at, look_of, look_slots_at, looks_have, has_stamp, slot_if, found_is, is_found}
 use Rattle.hk_safety.proofs.Slots.{Row, update_part, look_part, row_slots, slots_of, Rising, AreRows, rows_are_printed}
-use Rattle.hk_safety.proofs.Covered.{covered_is, covered_from}
 
 -- ---- what an ordered map has at a stamp
 abbrev Kept : Type 0
@@ -102,29 +103,28 @@ stands_or_nothing k s = by_option (lookup (is_at (nat_cmp s)) k.stamps) refl
     by_option (Some a) e = inl (stands_from s k.stamps a e)
 
 -- ---- the rows of the stamps
-abbrev row_of : (ℕ → List ℕ) → Kept → Row
-row_of V p = record { stamp = p.0; complete = are_complete V p.1.covers }
+abbrev row_of : Kept → Row
+row_of p = record { stamp = p.0; complete = is_complete p.1.evidence }
 
-abbrev rows_of : (ℕ → List ℕ) → List Kept → List Row
-rows_of V rows = map (row_of V) rows
+abbrev rows_of : List Kept → List Row
+rows_of rows = map row_of rows
 
-module _ (V : ℕ → List ℕ) where
-  row_from : (rows : List Kept) (r : Row) → In (rows_of V rows) r → (p : Kept) × In rows p × (r ≡ row_of V p)
-  row_from [] r h = absurd h
-  row_from (q ∷ rows) r (inl is) = (q, inl refl, is)
-  row_from (q ∷ rows) r (inr h) = let more = row_from rows r h in (more.0, inr more.1, more.2)
+row_from : (rows : List Kept) (r : Row) → In (rows_of rows) r → (p : Kept) × In rows p × (r ≡ row_of p)
+row_from [] r h = absurd h
+row_from (q ∷ rows) r (inl is) = (q, inl refl, is)
+row_from (q ∷ rows) r (inr h) = let more = row_from rows r h in (more.0, inr more.1, more.2)
 
-  row_in : (rows : List Kept) (p : Kept) → In rows p → In (rows_of V rows) (row_of V p)
-  row_in [] p h = absurd h
-  row_in (q ∷ rows) p (inl is) = inl (ap (row_of V) is)
-  row_in (q ∷ rows) p (inr h) = inr (row_in rows p h)
+row_in : (rows : List Kept) (p : Kept) → In rows p → In (rows_of rows) (row_of p)
+row_in [] p h = absurd h
+row_in (q ∷ rows) p (inl is) = inl (ap row_of is)
+row_in (q ∷ rows) p (inr h) = inr (row_in rows p h)
 
-  rows_rise : (rows : List Kept) → Ordered rows → Rising (rows_of V rows)
-  rows_rise [] ordered = tt
-  rows_rise (q ∷ rows) ordered = (above, rows_rise rows (ordered_rest q rows ordered))
-    where
-      above : (r : Row) → In (rows_of V rows) r → q.0 < r.stamp
-      above r h = let from = row_from rows r h in let less = above_head q rows ordered from.0 from.1 in omega (arith, less, ap (λ (r : Row). r.stamp) from.2)
+rows_rise : (rows : List Kept) → Ordered rows → Rising (rows_of rows)
+rows_rise [] ordered = tt
+rows_rise (q ∷ rows) ordered = (above, rows_rise rows (ordered_rest q rows ordered))
+  where
+    above : (r : Row) → In (rows_of rows) r → q.0 < r.stamp
+    above r h = let from = row_from rows r h in let less = above_head q rows ordered from.0 from.1 in omega (arith, less, ap (λ (r : Row). r.stamp) from.2)
 
 -- ---- their entries
 entries_both : (xs ys : List Slot) → entries (xs ++ ys) ≡ entries xs ++ entries ys
@@ -169,20 +169,20 @@ record Has (us : List Update) (items : List Item) (p : Kept) : Type 0 where
   update : p.1.update ≡ update_at p.0 us
   looks : p.1.looks ≡ looks_at p.0 items
 
-module _ (V : ℕ → List ℕ) (us : List Update) (items : List Item) where
-  row_entries : (p : Kept) → Has us items p → entries (row_slots us items (row_of V p)) ≡ entries_at V p
+module _ (us : List Update) (items : List Item) where
+  row_entries : (p : Kept) → Has us items p → entries (row_slots us items (row_of p)) ≡ entries_at p
   row_entries p has =
-      let complete : Bool = are_complete V p.1.covers in
+      let complete : Bool = is_complete p.1.evidence in
       let update = update_entries complete p.0 us ∙ ap (update_entry complete p.0) (sym has.update) in
       let looks = look_entries p.0 items ∙ ap (map look_entry) (sym has.looks) in
-      joined (update_part us (row_of V p)) (look_part items (row_of V p)) (update_entry complete p.0 p.1.update) (map look_entry p.1.looks) update looks
+      joined (update_part us (row_of p)) (look_part items (row_of p)) (update_entry complete p.0 p.1.update) (map look_entry p.1.looks) update looks
 
-  all_entries : (rows : List Kept) → ((p : Kept) → In rows p → Has us items p) → entries (slots_of us items (rows_of V rows)) ≡ flat_map (entries_at V) rows
+  all_entries : (rows : List Kept) → ((p : Kept) → In rows p → Has us items p) → entries (slots_of us items (rows_of rows)) ≡ flat_map (entries_at) rows
   all_entries [] has = refl
   all_entries (q ∷ rows) has =
       let first = row_entries q (has q (inl refl)) in
       let rest = all_entries rows (λ p h. has p (inr h)) in
-      joined (row_slots us items (row_of V q)) (slots_of us items (rows_of V rows)) (entries_at V q) (flat_map (entries_at V) rows) first rest
+      joined (row_slots us items (row_of q)) (slots_of us items (rows_of rows)) (entries_at q) (flat_map (entries_at) rows) first rest
 
 -- ---- the rows of a key's stamps are its rows
 some_stamp : (kind : Kind) (base n : ℕ) → 1 ≤ next_stamp kind base n
@@ -196,19 +196,22 @@ no_entry (s ∷ slots) x e h = clash (entry_of s) (entries slots) e
     clash : (a : Entry) (es : List Entry) → a ∷ es ≡ [] → ⊥
     clash a es e = cc
 
--- a cover of the stamp that is told by the mark
-abbrev CoverOf : KeyState → ℕ → Mark → Type 0
-CoverOf k s m = (c : Cover) × In (at_stamp s k).covers c × IsTold m c
-
 -- what is kept is what the state of the key has
-record IsOf (k : KeyState) (st : State) : Type 0 where
+record IsOf (V : ℕ → List ℕ) (k : KeyState) (st : State) : Type 0 where
   ordered : Ordered k.stamps
   update : (s : ℕ) → (at_stamp s k).update ≡ update_at s st.begun
   looks : (s : ℕ) → (at_stamp s k).looks ≡ looks_at s st.history
-  true_covers : (s : ℕ) (c : Cover) → In (at_stamp s k).covers c → (m : Mark) × In st.marks m × Tells m s c
-  all_covers : (m : Mark) → In st.marks m → 1 ≤ m.stamp → CoverOf k m.stamp m
+  known : (s : ℕ) → 1 ≤ s → IsKnown V st s (at_stamp s k).evidence
 
-module _ (V : ℕ → List ℕ) (st : State) (parts : Parts V st) (k : KeyState) (is : IsOf k st) where
+complete_of : (V : ℕ → List ℕ) (st : State) (s : ℕ) (ev : Evidence) → IsKnown V st s ev → is_complete ev ≡ true → Complete V st s
+complete_of V st s E.Complete k e = k
+complete_of V st s (Covers groups) k e = absurd (false≢true e)
+
+is_complete_by : (V : ℕ → List ℕ) (st : State) (s : ℕ) (ev : Evidence) → IsKnown V st s ev → Complete V st s → is_complete ev ≡ true
+is_complete_by V st s E.Complete k c = refl
+is_complete_by V st s (Covers groups) k c = absurd (k.0 c)
+
+module _ (V : ℕ → List ℕ) (st : State) (parts : Parts V st) (k : KeyState) (is : IsOf V k st) where
   here : (p : Kept) → In k.stamps p → at_stamp p.0 k ≡ p.1
   here p h = ap (λ (o : Option AtStamp). unwrap_or o no_stamp) (found_at k.stamps is.ordered p h)
 
@@ -217,63 +220,56 @@ module _ (V : ℕ → List ℕ) (st : State) (parts : Parts V st) (k : KeyState)
       let at = here p h in
       record { update = sym (ap (λ (a : AtStamp). a.update) at) ∙ is.update p.0; looks = sym (ap (λ (a : AtStamp). a.looks) at) ∙ is.looks p.0 }
 
+  some : (u : Update) → In st.begun u → 1 ≤ u.stamp
+  some u begun = subst (λ (s : ℕ). 1 ≤ s) (sym (parts.updates u begun).next) (some_stamp u.kind u.base u.who)
+
   -- what is kept as complete is
-  complete_is : (p : Kept) → In k.stamps p → are_complete V p.1.covers ≡ true → Complete V st p.0
-  complete_is p h e = covered_is V st p.0 p.1.covers (λ c g. is.true_covers p.0 c (subst (λ (a : AtStamp). In a.covers c) (sym (here p h)) g)) e
+  complete_is : (p : Kept) → In k.stamps p → is_complete p.1.evidence ≡ true → (u : Update) → In st.begun u → u.stamp ≡ p.0 → Complete V st u.stamp
+  complete_is p h e u begun at =
+      let ev : (at_stamp p.0 k).evidence ≡ p.1.evidence = ap (λ (a : AtStamp). a.evidence) (here p h) in
+      subst (Complete V st) (sym at) (complete_of V st p.0 (at_stamp p.0 k).evidence (is.known p.0 (subst (λ (s : ℕ). 1 ≤ s) at (some u begun)))
+      (ap is_complete ev ∙ e))
 
   -- and what is complete is kept so
-  is_complete_at : (u : Update) → In st.begun u → Complete V st u.stamp → are_complete V (at_stamp u.stamp k).covers ≡ true
-  is_complete_at u begun c = covered_from V st u.stamp (at_stamp u.stamp k).covers told c
-    where
-      some : 1 ≤ u.stamp
-      some = subst (λ (s : ℕ). 1 ≤ s) (sym (parts.updates u begun).next) (some_stamp u.kind u.base u.who)
+  is_complete_at : (u : Update) → In st.begun u → Complete V st u.stamp → is_complete (at_stamp u.stamp k).evidence ≡ true
+  is_complete_at u begun c = is_complete_by V st u.stamp (at_stamp u.stamp k).evidence (is.known u.stamp (some u begun)) c
 
-      told : (m : Mark) → In st.marks m → m.stamp ≡ u.stamp → CoverOf k u.stamp m
-      told m h e = subst (λ (s : ℕ). CoverOf k s m) e (is.all_covers m h (subst (λ (s : ℕ). 1 ≤ s) (sym e) some))
-
-  update_row : (u : Update) → In st.begun u → Complete V st u.stamp → In (rows_of V k.stamps) (record { stamp = u.stamp; complete = true })
+  update_row : (u : Update) → In st.begun u → Complete V st u.stamp → In (rows_of k.stamps) (record { stamp = u.stamp; complete = true })
   update_row u begun c = ⊎_elim
       (λ (h : In k.stamps (u.stamp, at_stamp u.stamp k)).
-      let row = row_in V k.stamps (u.stamp, at_stamp u.stamp k) h in
-      subst (λ (b : Bool). In (rows_of V k.stamps) (record { stamp = u.stamp; complete = b })) (is_complete_at u begun c) row)
+      let row = row_in k.stamps (u.stamp, at_stamp u.stamp k) h in
+      subst (λ (b : Bool). In (rows_of k.stamps) (record { stamp = u.stamp; complete = b })) (is_complete_at u begun c) row)
       (λ (e : at_stamp u.stamp k ≡ no_stamp).
       let found = is.update u.stamp ∙ ap (option_map call_of) (is_found st.begun u parts.once begun) in
       absurd (false≢true (ap is_some (sym (ap (λ (a : AtStamp). a.update) e) ∙ found))))
       (stands_or_nothing k u.stamp)
 
-  look_row : (x : Slot) → StandsAt st.history x.place (look_of x) → (b : Bool) × In (rows_of V k.stamps) (record { stamp = x.stamp; complete = b })
+  look_row : (x : Slot) → StandsAt st.history x.place (look_of x) → (b : Bool) × In (rows_of k.stamps) (record { stamp = x.stamp; complete = b })
   look_row x stands = ⊎_elim
-      (λ (h : In k.stamps (x.stamp, at_stamp x.stamp k)). (are_complete V (at_stamp x.stamp k).covers, row_in V k.stamps (x.stamp, at_stamp x.stamp k) h))
+      (λ (h : In k.stamps (x.stamp, at_stamp x.stamp k)). (is_complete (at_stamp x.stamp k).evidence, row_in k.stamps (x.stamp, at_stamp x.stamp k) h))
       (λ (e : at_stamp x.stamp k ≡ no_stamp).
       let none : looks_at x.stamp st.history ≡ [] = sym (is.looks x.stamp) ∙ ap (λ (a : AtStamp). a.looks) e in
       absurd (no_entry (look_slots_at x.stamp st.history) x (look_entries x.stamp st.history ∙ ap (map look_entry) none) (looks_have st.history x stands)))
       (stands_or_nothing k x.stamp)
 
-  are_rows : AreRows V st (rows_of V k.stamps)
+  are_rows : AreRows V st (rows_of k.stamps)
   are_rows = record {
-    rising = rows_rise V k.stamps is.ordered;
+    rising = rows_rise k.stamps is.ordered;
     complete = λ r h c u begun e.
-        let from = row_from V k.stamps r h in
+        let from = row_from k.stamps r h in
         let stamp : u.stamp ≡ from.0.0 = e ∙ ap (λ (r : Row). r.stamp) from.2 in
-        subst (Complete V st) (sym stamp) (complete_is from.0 from.1 (sym (ap (λ (r : Row). r.complete) from.2) ∙ c));
+        complete_is from.0 from.1 (sym (ap (λ (r : Row). r.complete) from.2) ∙ c) u begun stamp;
     updates = update_row;
     looks = look_row;
   }
 
-  order_is : kept_order V k ≡ entries (printed V st)
-  order_is = sym (all_entries V st.begun st.history k.stamps has) ∙ ap entries (rows_are_printed V st parts (rows_of V k.stamps) are_rows)
+  order_is : kept_order k ≡ entries (printed V st)
+  order_is = sym (all_entries st.begun st.history k.stamps has) ∙ ap entries (rows_are_printed V st parts (rows_of k.stamps) are_rows)
 
 -- what is kept of a key gives the order that is printed of it
-pub kept_is_printed : (key : List ℕ) (k : KeyState) (t : Trace) → IsKeyOf k t → IsStrictlySortedBy nat_cmp (keys_of k.stamps) → IsKept key t →
-    kept_order (family t.world.views) k ≡ order_of key t
+pub kept_is_printed : (key : List ℕ) (k : KeyState) (t : Trace) → IsKeyOf key k t → IsStrictlySortedBy nat_cmp (keys_of k.stamps) → IsKept key t →
+    kept_order k ≡ order_of key t
 kept_is_printed key k t is ordered kept =
     let V : ℕ → List ℕ = family t.world.views in
     let parts : Parts V (view key t) = kept.parts V (family_agrees t.world kept.own.sound.views) in
-    let all : IsOf k (view key t) = record {
-      ordered = ordered;
-      update = is.update;
-      looks = is.looks;
-      true_covers = is.true_covers;
-      all_covers = is.all_covers;
-    } in
-    order_is V (view key t) parts k all
+    order_is V (view key t) parts k (record { ordered = ordered; update = is.update; looks = is.looks; known = is.known })

@@ -1,60 +1,73 @@
 -- An event that is made, and what is kept of it.
-use Rattle.std.proofs.Common.{◌≡◌, ◌≢◌, ◌⊎◌, ℕ, zero, suc, ◌+◌, ◌<◌, List, [], ◌∷◌, ◌++◌, map, append-nil, Bool, true, false, cond, not, Option, Some, None, Result, Ok, Err, is_some, refl, sym, ap, subst, ◌∙◌, inl, inr, ⊎_elim, eqb, slice_get}
+use Rattle.std.proofs.Common.{◌≡◌, ◌≢◌, ℕ, ◌+◌, ◌≤◌, List, [], ◌∷◌, ◌++◌, map, append-nil, Bool, true, false, cond, not, Option, Some, None, IfSome, Ok, is_some, unwrap_or, refl, sym, ap, subst, ◌∙◌, inl, inr, ⊎_elim, eqb, find}
 use Rattle.std.specs.List.{AllByRecursion}
+use Rattle.std.specs.Option.{option_map}
 use Rattle.std.specs.Map.{keys_of}
+use Rattle.std.proofs.lemmas.Bool.{false≢true, eq-eqb}
 use Rattle.hk_base.specs.declared.stamp.NodeId.{NodeId}
 use Rattle.hk_base.specs.declared.call.CallNo.{CallNo}
 use Rattle.hk_base.specs.declared.call.Op.{Op}
 use Rattle.hk_base.specs.declared.call.Reply.{Reply}
 use Rattle.hk_base.specs.declared.letter.Letter.{Letter as Wire}
 use Rattle.hk_base.specs.declared.view.View.{View}
-use Rattle.hk_base.specs.Range.{IsLetter}
+use Rattle.hk_base.specs.Range.{IsLetter, IsWithin}
+use Rattle.hk_base.specs.Stamp.{tag_of}
 use Rattle.hk_history.specs.declared.event.Event.{Event as Line}
 use Rattle.hk_history.specs.declared.event.Event.TheVariants as L
-use Rattle.hk_register.specs.Machine.{In, Mark, Node, Item, Update}
-use Rattle.hk_node.specs.Node.{NodeState, epoch_of, epoch_in}
+use Rattle.hk_key.specs.declared.row.Row.{Row}
+use Rattle.hk_key.specs.Table.{first_row}
+use Rattle.hk_register.specs.Machine.{In, Node, Item}
+use Rattle.hk_register.specs.Parts.{Parts}
+use Rattle.hk_register.specs.Printed.{events_of}
+use Rattle.hk_node.specs.declared.report.Former.{Former}
+use Rattle.hk_node.specs.Rows.{find_row, row_at}
+use Rattle.hk_node.specs.Node.{NodeState, epoch_in}
 use Rattle.hk_node.specs.Sound.{IsNode}
+use Rattle.hk_node.specs.declared.event.NodeEvent.TheVariants as N
+use Rattle.hk_node.specs.Report.{report}
+use Rattle.hk_node.specs.Steps.{node_step}
+use Rattle.hk_node.proofs.Again.{found_sound}
 use Rattle.hk_node.specs.Stepped.{Stepped}
 use Rattle.hk_node.specs.Calls.{called}
 use Rattle.hk_node.specs.Laws.{IsAnsweredAlone}
 use Rattle.hk_node.proofs.KeepsMore.{step_keeps_node}
 use Rattle.hk_node.proofs.Ranged.{letters_in_range}
 use Rattle.hk_world.specs.declared.event.Event.{Event}
-use Rattle.hk_world.specs.declared.event.Event.TheVariants.{Call, Take, Tick, TickAll, Crash, Resend, Replay, Copy, Start, Agree, Install, Lease, AskLease, Propose, Activate}
+use Rattle.hk_world.specs.declared.event.Event.TheVariants.{Call}
+use Rattle.hk_world.specs.declared.shown.Acted.{Acted}
 use Rattle.hk_world.specs.declared.shown.Shown.{Shown}
-use Rattle.hk_world.specs.World.{WorldState, process_at, put_process, node_of, numbered}
-use Rattle.hk_world.specs.Steps.{Accepted, world_step, with_step, shown_of}
+use Rattle.hk_world.specs.World.{WorldState, node_of, numbered}
+use Rattle.hk_world.specs.Steps.{Accepted, acting_of, world_step}
 use Rattle.hk_world.specs.Sound.{IsWorld, IsEvent}
-use Rattle.hk_world.specs.Acting.{acted, receives_in, installs_in, stepped_at, next_call, call_in, counted_in}
 use Rattle.hk_world.proofs.Soundness.{step_sound}
-use Rattle.hk_effects.specs.View.{key_node, node_at, letters_of, told_at, pending_stamp, reply_item, items_of, call_items, updates_of, moment_marks, install_marks, ack_marks, step_marks}
+use Rattle.hk_effects.specs.View.{Trace, view, key_node, node_at, is_same_key, letters_of, told_at, pending_stamp, reply_item, items_of, call_items, updates_of, step_marks, added, traced, traced_by}
 use Rattle.hk_effects.specs.Own.{IsOwn}
+use Rattle.hk_effects.specs.Runs.{IsKept}
 use Rattle.hk_effects.proofs.Accepting.{alive}
-use Rattle.hk_effects.proofs.Order.{cases_key, same_not, same_itself}
+use Rattle.hk_effects.proofs.Legality.{family_agrees}
+use Rattle.hk_effects.proofs.Order.{cases_key, same_not, same_itself, same_of, same_true}
 use Rattle.hk_effects.proofs.Processes.{node-put_same}
 use Rattle.hk_effects.proofs.Rests.{node_holds}
-use Rattle.hk_safety.specs.declared.key_run.Cover.{Cover}
-use Rattle.hk_safety.specs.declared.before.Before.{Before}
-use Rattle.hk_safety.specs.declared.kept.Unmade.{Unmade}
-use Rattle.hk_safety.specs.declared.kept.Unmade.TheVariants as U
+use Rattle.hk_effects.proofs.Worlds.{the_some}
+use Rattle.hk_safety.specs.declared.evidence.Cover.{Cover}
 use Rattle.hk_safety.specs.Run.{with_named}
-use Rattle.hk_safety.specs.Kept.{KeyState, Keys, KeptState, at_stamp, find_key, key_at, called_from}
-use Rattle.hk_safety.specs.Noted.{touches, letter_touches, readied, IsAdded, IsAddedBy, IsNoted, MayMake, IsMade, IsMadeBy}
-use Rattle.hk_safety.specs.Grown.{AreCovered, AreTold, IsCovered, IsNamed, IsTurned, is_answer, with_lines, lines_at, reply_line, event_marks, became_ready, waited_marks, taker, actor_of, waits_of, IsBefore, turn_of, IsCallKept, IsKeptAfter, IsStepMade}
-use Rattle.hk_safety.proofs.Covering.{AreLike}
-use Rattle.hk_safety.proofs.Moments.{among_kept}
-use Rattle.hk_safety.proofs.Viewing.{call_view, resend_view, replay_view, copy_view, receive_view, install_rises}
-use Rattle.hk_safety.proofs.Acting.{IsActed, is_acted, IsLone, told_lone, BeginsQuietly, call_told}
-use Rattle.hk_safety.proofs.Marking.{installed_like, uninstalled_like, IsMarkedBy, marked_by}
-use Rattle.hk_safety.proofs.Noting.{lines_told, IsSaid, said_quiet, IsToldOf, said_call}
+use Rattle.hk_safety.specs.Kept.{KeyState, Keys, KeptState, at_stamp, find_key, key_at, called_from, looks_at, IsKnown, IsKeyOf}
+use Rattle.hk_safety.specs.Noted.{MayMake, IsMade}
+use Rattle.hk_safety.specs.Grown.{AreTold, IsNamed, IsTurned, is_answer, with_lines, former_tag, is_new_in, is_new, turn_of, IsCallKept, IsKeptAfter, IsKnownBy, AreCovered, AreTouched, AreTouchedIn, AreTouchedBy, AreTouchedAt, cover_by, IsFormer, AreFormer}
+use Rattle.hk_safety.specs.Shows.{lines_at, reply_line}
+use Rattle.hk_safety.proofs.Acting.{next_call, IsNoCall, IsStep, IsBeside, is_at, IsMadeBy as IsWay, is_made_by, IsLone, told_lone, changed_rows_are, BeginsQuietly, call_told}
+use Rattle.hk_safety.proofs.Covering.{are_joined, waits_within}
+use Rattle.hk_safety.proofs.Following.{events_append, looks_append, update_append, After, known_of, known_before, agrees_before}
+use Rattle.hk_safety.proofs.Noting.{begun_at, lines_told, IsSaid, said_quiet, IsToldOf, said_call}
+use Rattle.hk_safety.proofs.Touched.{AreChanges, changes_of, IsSeen, touches_of, seen_known, unseen_known}
 
 -- ---- what the code kept, part after part
-pub kept_after : (old new : KeptState) (named told : Keys) (calls : List (List ℕ)) (replies : List Reply) (id : ℕ) (event : Event) (before : Before)
-    (shown : Shown) → IsCallKept old.keys named old.world id event before shown →
+pub kept_after : (old new : KeptState) (named told : Keys) (calls : List (List ℕ)) (replies : List Reply) (event : Event)
+    (shown : Shown) → IsCallKept old.keys named old.world event shown →
     new.calls ≡ old.calls ++ called_from (event ∷ []) → calls ≡ new.calls → replies ≡ shown.replies → AreTold named told (λ key. lines_at key calls replies) →
-    AreCovered told new.keys (event_marks old.world id (node_at id old.world.processes) event before shown) →
-    IsKeptAfter old (record { world = old.world; keys = new.keys; calls = new.calls }) id event before shown
-kept_after old new named told calls replies id event before shown call more same given lines covers = record {
+    AreTouchedAt shown.acted told new.keys old.world shown.letters →
+    IsKeptAfter old (record { world = old.world; keys = new.keys; calls = new.calls }) event shown
+kept_after old new named told calls replies event shown call more same given lines covers = record {
   world = refl;
   calls = more;
   named = named;
@@ -65,67 +78,18 @@ kept_after old new named told calls replies id event before shown call more same
   covers = covers;
 }
 
--- ---- where no node acts
-no_call : (w : WorldState) (event : Event) → actor_of w event ≡ None → (called_from (event ∷ []) ≡ []) × ((keys : List (List ℕ)) → with_named event keys ≡ keys)
-no_call w (Call id key op) e = cc
-no_call w (Take number) e = (refl, λ keys. refl)
-no_call w (Tick actor to) e = (refl, λ keys. refl)
-no_call w (TickAll to) e = (refl, λ keys. refl)
-no_call w (Crash actor) e = (refl, λ keys. refl)
-no_call w (Resend id key) e = (refl, λ keys. refl)
-no_call w (Replay id key) e = (refl, λ keys. refl)
-no_call w (Copy id from room) e = (refl, λ keys. refl)
-no_call w (Start id) e = (refl, λ keys. refl)
-no_call w (Agree change) e = (refl, λ keys. refl)
-no_call w (Install id epoch) e = (refl, λ keys. refl)
-no_call w (Lease id end) e = (refl, λ keys. refl)
-no_call w (AskLease id manager) e = (refl, λ keys. refl)
-no_call w (Propose manager base change) e = (refl, λ keys. refl)
-no_call w (Activate manager) e = (refl, λ keys. refl)
-
 abbrev pub with_world : KeptState → WorldState → KeptState
 with_world k w = record { world = w; keys = k.keys; calls = k.calls }
 
-pub made_aside : (r : Result Shown Unmade) (old : KeptState) (w : WorldState) (event : Event) → MayMake old event → actor_of old.world event ≡ None →
-    IsStepMade r old.world w event → IsMadeBy r old (with_world old w) event
-made_aside (Ok shown) old w event may none step =
-    let out = no_call old.world event none in
-    let acting : step.0.acting ≡ None = subst (IsActed old.world event step.0) none (is_acted old.world step.0 event may.own step.1) in (
-      step.0,
-      step.2,
-      record {
-        made = step.1;
-        world = sym step.3;
-        calls = sym (append-nil old.calls) ∙ ap (λ (l : List (List ℕ)). old.calls ++ l) (sym out.0);
-        keys = sym (out.1 (keys_of old.keys));
-        noted = λ key there. subst (λ (o : Option NodeId). IsNoted key (key_at key old.keys) (key_at key old.keys) old.world event step.0 o) (sym acting) refl;
-      },
-    )
-made_aside (Err (U.Refused refused)) old w event may none step = (step.0, ap (with_world old) step.1)
-made_aside (Err U.Memory) old w event may none step = ap (with_world old) step
-made_aside (Err U.Lost) old w event may none step = absurd step
-
--- ---- the acting node's step
-pub record IsStep (w : WorldState) (event : Event) (a : Accepted) (id : NodeId) (x : NodeState) : Type 0 where
-  pub processes : a.world.processes ≡ put_process id (alive (stepped_at w event x).node) w.processes
-  pub letters : a.world.letters ≡ w.letters ++ (stepped_at w event x).letters
-  pub calls : a.world.calls ≡ counted_in w.calls (call_in (next_call w) event)
-  pub acting : a.acting ≡ Some id
-  pub told : a.told ≡ (stepped_at w event x).told
-  pub replies : a.shown.replies ≡ map (λ t. t.1) (stepped_at w event x).told
-  pub sent : a.shown.letters ≡ (stepped_at w event x).letters
-
-pub step_of : (w : WorldState) (event : Event) (a : Accepted) (id : NodeId) (x : NodeState) → acted w event id x ≡ Ok a → IsStep w event a id x
-step_of w event a id x e =
-    let b : Accepted = record {
-      world = record (with_step w id (stepped_at w event x)) { calls = counted_in w.calls (call_in (next_call w) event) };
-      acting = Some id;
-      told = (stepped_at w event x).told;
-      shown = shown_of w id (stepped_at w event x) (call_in (next_call w) event);
-    } in
-    let same : b ≡ a = cc in
-    subst (λ (c : Accepted). IsStep w event c id x) same
-    (record { processes = refl; letters = refl; calls = refl; acting = refl; told = refl; replies = refl; sent = refl })
+-- ---- what the world behind an event is
+-- former rows are those of a node
+formers_within : (x : NodeState) → IsNode x → (rows : List Former) → ((f : Former) → In rows f → f.row ≡ find_row f.key x.rows) → AllByRecursion IsFormer rows
+formers_within x ok [] each = tt
+formers_within x ok (f ∷ rows) each = (by_row f.row (each f (inl refl)), formers_within x ok rows (λ g h. each g (inr h)))
+  where
+    by_row : (o : Option Row) → o ≡ find_row f.key x.rows → IfSome o (λ row. IsWithin row.stamp × IfSome row.pending (λ p. IsWithin p.stamp))
+    by_row None e = tt
+    by_row (Some row) e = ((found_sound x f.key row ok (sym e)).within, waits_within x f.key row ok (sym e))
 
 behind : (xs ys : List Wire) → AllByRecursion IsLetter (xs ++ ys) → AllByRecursion IsLetter ys
 behind [] ys all = all
@@ -134,91 +98,78 @@ behind (x ∷ xs) ys all = behind xs ys all.1
 pub world_after : (w : WorldState) (event : Event) (a : Accepted) → IsOwn w → IsEvent event → world_step w event ≡ Ok a → IsWorld a.world
 world_after w event a own within made = step_sound (step_keeps_node, letters_in_range) w event a own.sound within made
 
-pub letters_after : (w : WorldState) (event : Event) (a : Accepted) (id : NodeId) → IsOwn w → IsEvent event → world_step w event ≡ Ok a →
-    actor_of w event ≡ Some id → AllByRecursion IsLetter a.shown.letters
-letters_after w event a id own within made acting =
-    let t = subst (IsActed w event a) acting (is_acted w a event own made) in
-    let s = step_of w event a id t.0 t.2 in
-    subst (AllByRecursion IsLetter) (sym s.sent) (behind w.letters (stepped_at w event t.0).letters
-    (subst (AllByRecursion IsLetter) s.letters (world_after w event a own within made).letters))
-
--- ---- what an event touches, by the letters so far and by more of them
-get_append : {X : Type 0} (xs ys : List X) (k : ℕ) (x : X) → slice_get xs k ≡ Some x → slice_get (xs ++ ys) k ≡ Some x
-get_append [] ys k x e = cc
-get_append (y ∷ xs) ys zero x e = e
-get_append (y ∷ xs) ys (suc k) x e = get_append xs ys k x e
-
-numbered_append : {X : Type 0} (n : ℕ) (xs ys : List X) (x : X) → numbered n xs ≡ Some x → numbered n (xs ++ ys) ≡ Some x
-numbered_append zero xs ys x e = cc
-numbered_append (suc k) xs ys x e = get_append xs ys k x e
-
-touches_same : (key : List ℕ) (w v : WorldState) (r : Bool) (event : Event) (id : NodeId) (more : List Wire) → actor_of w event ≡ Some id →
-    v.letters ≡ w.letters ++ more → touches key v r event ≡ touches key w r event
-touches_same key w v r (Take number) id more acting letters = by_letter (numbered number w.letters) refl acting
+-- whether the key's row had another tag
+found_former : (key : List ℕ) (rows : List Former) (f : Former) → find (λ f. is_same_key key f.key) rows ≡ Some f → In rows f × (key ≡ f.key)
+found_former key [] f e = absurd (false≢true (ap is_some e))
+found_former key (g ∷ rows) f e = by_test (is_same_key key g.key) refl e (found_former key rows f)
   where
-    by_letter : (o : Option Wire) → numbered number w.letters ≡ o → taker o ≡ Some id →
-        letter_touches key r (numbered number v.letters) ≡ letter_touches key r (numbered number w.letters)
-    by_letter None found e = cc
-    by_letter (Some l) found e = ap (letter_touches key r) (ap (numbered number) letters ∙ numbered_append number w.letters more l found ∙ sym found)
-touches_same key w v r (Call i k op) id more acting letters = refl
-touches_same key w v r (Tick actor to) id more acting letters = refl
-touches_same key w v r (TickAll to) id more acting letters = refl
-touches_same key w v r (Crash actor) id more acting letters = refl
-touches_same key w v r (Resend i k) id more acting letters = refl
-touches_same key w v r (Replay i k) id more acting letters = refl
-touches_same key w v r (Copy i from room) id more acting letters = refl
-touches_same key w v r (Start i) id more acting letters = refl
-touches_same key w v r (Agree change) id more acting letters = refl
-touches_same key w v r (Install i epoch) id more acting letters = refl
-touches_same key w v r (Lease i end) id more acting letters = refl
-touches_same key w v r (AskLease i manager) id more acting letters = refl
-touches_same key w v r (Propose manager base change) id more acting letters = refl
-touches_same key w v r (Activate manager) id more acting letters = refl
+    by_test : (b : Bool) → is_same_key key g.key ≡ b → cond b (Some g) (find (λ f. is_same_key key f.key) rows) ≡ Some f →
+        (find (λ f. is_same_key key f.key) rows ≡ Some f → In rows f × (key ≡ f.key)) → In (g ∷ rows) f × (key ≡ f.key)
+    by_test true is e more = let same : g ≡ f = cc in (inl (sym same), same_true key g.key is ∙ ap (λ (h : Former). h.key) same)
+    by_test false is e more = let rest = more e in (inr rest.0, rest.1)
 
--- ---- what waited
-module _ (w : WorldState) (id : NodeId) (x : NodeState) (ok : IsNode x) (found : node_at id.0 w.processes ≡ Some x) (keys named : Keys) (before : Before)
-    (shown : Shown) (key : List ℕ) (there : is_some (find_key key named) ≡ true) where
-  -- what was covered of what waited, and what the event has of it
-  abbrev WaitedLike : NodeState → Type 0
-  WaitedLike y = AreLike (waited_marks id.0 y before key) (install_marks id.0 (key_node key (Some x)) (key_node key (Some y)))
+not_found : (key : List ℕ) (rows : List Former) → find (λ f. is_same_key key f.key) rows ≡ None → (f : Former) → In rows f → f.key ≢ key
+not_found key [] e f h = absurd h
+not_found key (g ∷ rows) e f h = by_test (is_same_key key g.key) refl e h (λ none there. not_found key rows none f there)
+  where
+    by_test : (b : Bool) → is_same_key key g.key ≡ b → cond b (Some g) (find (λ f. is_same_key key f.key) rows) ≡ None → In (g ∷ rows) f →
+        (find (λ f. is_same_key key f.key) rows ≡ None → In rows f → f.key ≢ key) → f.key ≢ key
+    by_test true is e h more = absurd (false≢true (sym (ap is_some e)))
+    by_test false is e (inl same) more = λ at. false≢true (sym is ∙ same_of key g.key (sym at ∙ ap (λ (k : Former). k.key) same))
+    by_test false is e (inr h) more = more e h
 
-  stays_like : (o : Stepped) → before.epoch ≡ epoch_of x → o.node.view ≡ x.view → WaitedLike o.node
-  stays_like o epoch same = uninstalled_like id.0 x o.node key before epoch (ap epoch_in same)
+tag_before : (o : Option Row) → former_tag o ≡ tag_of (unwrap_or o first_row).stamp
+tag_before None = refl
+tag_before (Some r) = refl
 
-  took_like : (n : Option Wire) → before.epoch ≡ epoch_of x → WaitedLike (receives_in n x).node
-  took_like None epoch = stays_like (receives_in None x) epoch refl
-  took_like (Some l) epoch = stays_like (receives_in (Some l) x) epoch (receive_view x l)
+pub new_is : (r : Acted) (n x : NodeState) (key : List ℕ) → AreChanges r.report.rows n.rows x.rows →
+    is_new (Some r) key (key_node key (Some x)).stamp ≡ not (eqb (key_node key (Some x)).stamp (key_node key (Some n)).stamp)
+new_is r n x key rows = by_found (find (λ f. is_same_key key f.key) r.report.rows) refl
+  where
+    tag : ℕ
+    tag = tag_of (row_at key x.rows).stamp
 
-  rises_in : (n : Option View) → (epoch_of (installs_in n x).node ≡ epoch_of x) ⊎ (epoch_of x < epoch_of (installs_in n x).node)
-  rises_in None = inl refl
-  rises_in (Some v) = install_rises x v
+    by_found : (o : Option Former) → find (λ f. is_same_key key f.key) r.report.rows ≡ o → is_new_in o tag ≡ not (eqb tag (tag_of (row_at key n.rows).stamp))
+    by_found (Some f) e =
+        let at = found_former key r.report.rows f e in
+        let row : f.row ≡ find_row key n.rows = rows.each f at.0 ∙ ap (λ (k : List ℕ). find_row k n.rows) (sym at.1) in
+        ap (λ (t : ℕ). not (eqb tag t)) (ap former_tag row ∙ tag_before (find_row key n.rows))
+    by_found None e =
+        let same : row_at key x.rows ≡ row_at key n.rows = ap (λ (o : Option Row). unwrap_or o first_row) (rows.others key (not_found key r.report.rows e)) in
+        sym (ap not (eq-eqb tag (tag_of (row_at key n.rows).stamp) (ap (λ (r : Row). tag_of r.stamp) same)))
 
-  epoch_is : (event : Event) → IsBefore before w id.0 (keys_of keys) event → before.epoch ≡ epoch_of x
-  epoch_is event b = b.epoch ∙ ap (λ (o : Option NodeState). (key_node [] o).epoch) found
+-- ---- the acting node's step
+module _ (w : WorldState) (event : Event) (a : Accepted) (id : NodeId) (st : IsStep w event a id) where
+  abbrev pub after : Stepped
+  after = st.o
 
-  waited_like : (v : WorldState) (event : Event) → IsBefore before w id.0 (keys_of keys) event → IsCallKept keys named v id.0 event before shown →
-      WaitedLike (stepped_at w event x).node
-  waited_like v (Install i epoch) b call =
-      installed_like id.0 x (stepped_at w (Install i epoch) x).node key before (keys_of keys) ok (epoch_is (Install i epoch) b) (b.waiting
-      ∙ ap (λ (o : Option NodeState). waits_of o (keys_of keys)) found)
-      (among_kept keys key (sym (ap (λ (ks : Keys). is_some (find_key key ks)) call) ∙ there)) (rises_in (numbered epoch w.views))
-  waited_like v (Call i k op) b call = stays_like (stepped_at w (Call i k op) x) (epoch_is (Call i k op) b) (call_view x (next_call w) k op)
-  waited_like v (Take number) b call = took_like (numbered number w.letters) (epoch_is (Take number) b)
-  waited_like v (Tick actor to) b call = stays_like (stepped_at w (Tick actor to) x) (epoch_is (Tick actor to) b) refl
-  waited_like v (TickAll to) b call = stays_like (stepped_at w (TickAll to) x) (epoch_is (TickAll to) b) refl
-  waited_like v (Crash actor) b call = stays_like (stepped_at w (Crash actor) x) (epoch_is (Crash actor) b) refl
-  waited_like v (Resend i k) b call = stays_like (stepped_at w (Resend i k) x) (epoch_is (Resend i k) b) (resend_view x k)
-  waited_like v (Replay i k) b call = stays_like (stepped_at w (Replay i k) x) (epoch_is (Replay i k) b) (replay_view x k)
-  waited_like v (Copy i from room) b call = stays_like (stepped_at w (Copy i from room) x) (epoch_is (Copy i from room) b) (copy_view x from room)
-  waited_like v (Start i) b call = stays_like (stepped_at w (Start i) x) (epoch_is (Start i) b) refl
-  waited_like v (Agree change) b call = stays_like (stepped_at w (Agree change) x) (epoch_is (Agree change) b) refl
-  waited_like v (Lease i end) b call = stays_like (stepped_at w (Lease i end) x) (epoch_is (Lease i end) b) refl
-  waited_like v (AskLease i manager) b call = stays_like (stepped_at w (AskLease i manager) x) (epoch_is (AskLease i manager) b) refl
-  waited_like v (Propose manager base change) b call = stays_like (stepped_at w (Propose manager base change) x) (epoch_is (Propose manager base change) b) refl
-  waited_like v (Activate manager) b call = stays_like (stepped_at w (Activate manager) x) (epoch_is (Activate manager) b) refl
+  pub found : node_at id.0 w.processes ≡ Some st.x
+  found = ap node_of st.at
+
+  pub found_now : node_at id.0 a.world.processes ≡ Some st.o.node
+  found_now = ap (λ (b : Accepted). node_at id.0 b.world.processes) st.is ∙ node-put_same id (alive st.o.node) w.processes
+
+  pub acting_is : acting_of a ≡ Some id
+  acting_is = ap acting_of st.is
+
+  pub told_is : a.told ≡ st.o.told
+  told_is = ap (λ (b : Accepted). b.told) st.is
+
+  pub replies_are : a.shown.replies ≡ map (λ t. t.1) st.o.told
+  replies_are = ap (λ (b : Accepted). b.shown.replies) st.is
+
+  -- what it reports
+  abbrev pub acted_by : Acted
+  acted_by = record { node = id; report = report st.x st.o.node }
+
+  pub acted_is : a.shown.acted ≡ Some (record { node = id; report = report st.x st.o.node })
+  acted_is = ap (λ (b : Accepted). b.shown.acted) st.is
+
+  pub changes : IsOwn w → IsEvent event → IsNode st.x → AreChanges (report st.x st.o.node).rows st.x.rows st.o.node.rows
+  changes own within ok = changes_of _ st.x.rows st.o.node.rows (changed_rows_are w own st.x ok st.o event within st.how)
 
 -- ---- what is said
-call_at_most : (w : WorldState) (id : ℕ) (x : NodeState) (k : List ℕ) (op : Op) → IsOwn w → node_at id w.processes ≡ Some x → IsNode x →
+pub call_at_most : (w : WorldState) (id : ℕ) (x : NodeState) (k : List ℕ) (op : Op) → IsOwn w → node_at id w.processes ≡ Some x → IsNode x →
     IsToldOf (told_at k (called x (next_call w) k op).told) (next_call w) (key_node k (Some x)) (key_node k (Some (called x (next_call w) k op).node))
 call_at_most w id x k op own found ok = ⊎_elim
     (λ (alone : IsAnsweredAlone k (next_call w) (called x (next_call w) k op)).
@@ -236,7 +187,7 @@ call_only w id x k op own found ok = ⊎_elim
     (λ (quiet : BeginsQuietly x k (called x (next_call w) k op)). ap (map (λ t. t.1)) quiet.silent ∙ sym (ap (told_at k) quiet.silent))
     (call_told w id x k op own found ok)
 
-call_elsewhere : (w : WorldState) (id : ℕ) (x : NodeState) (key k : List ℕ) (op : Op) → IsOwn w → node_at id w.processes ≡ Some x → IsNode x → key ≢ k →
+pub call_elsewhere : (w : WorldState) (id : ℕ) (x : NodeState) (key k : List ℕ) (op : Op) → IsOwn w → node_at id w.processes ≡ Some x → IsNode x → key ≢ k →
     told_at key (called x (next_call w) k op).told ≡ []
 call_elsewhere w id x key k op own found ok ne = ⊎_elim
     (λ (alone : IsAnsweredAlone k (next_call w) (called x (next_call w) k op)).
@@ -248,20 +199,13 @@ abbrev numbered_call : ℕ → CallNo
 numbered_call n = record { 0 = n }
 
 module _ (w : WorldState) (own : IsOwn w) (a : Accepted) (id : NodeId) (x : NodeState) (ok : IsNode x) (found : node_at id.0 w.processes ≡ Some x)
-    (keys named : Keys) (before : Before) (key : List ℕ) where
-  -- what is said of the key of an event by this node
-  abbrev SaidAt : Event → Type 0
-  SaidAt event =
-      let rs : List Reply = told_at key (stepped_at w event x).told in
-      let said : List Item = items_of key event (w.calls + 1) (key_node key (Some x)) (key_node key (Some (stepped_at w event x).node)) rs in
+    (keys named : Keys) (key : List ℕ) where
+  -- what is said of the key of an event, of which this node made this
+  abbrev SaidBy : Event → Stepped → Type 0
+  SaidBy event o =
+      let rs : List Reply = told_at key o.told in
+      let said : List Item = items_of key event (w.calls + 1) (key_node key (Some x)) (key_node key (Some o.node)) rs in
       IsSaid (key_at key keys) (key_at key named) (map reply_line rs) said (updates_of id.0 (key_node key (Some x)) said)
-
-  quiet_said : (event : Event) → IsLone (told_at key (stepped_at w event x).told) → named ≡ keys →
-      IsSaid (key_at key keys) (key_at key named) (map reply_line (told_at key (stepped_at w event x).told))
-      (map (reply_item (pending_stamp (key_node key (Some x)).phase)) (told_at key (stepped_at w event x).told))
-      (updates_of id.0 (key_node key (Some x)) (map (reply_item (pending_stamp (key_node key (Some x)).phase)) (told_at key (stepped_at w event x).told)))
-  quiet_said event lone same = said_quiet (key_at key keys) (key_at key named) id.0 (key_node key (Some x)) (pending_stamp (key_node key (Some x)).phase)
-      (told_at key (stepped_at w event x).told) lone (ap (key_at key) same)
 
   abbrev SaidOf : NodeId → List ℕ → List ℕ → Op → Stepped → Type 0
   SaidOf i j k op o =
@@ -269,27 +213,43 @@ module _ (w : WorldState) (own : IsOwn w) (a : Accepted) (id : NodeId) (x : Node
       (items_of j (Call i k op) (w.calls + 1) (key_node j (Some x)) (key_node j (Some o.node)) (told_at j o.told))
       (updates_of id.0 (key_node j (Some x)) (items_of j (Call i k op) (w.calls + 1) (key_node j (Some x)) (key_node j (Some o.node)) (told_at j o.told)))
 
-  own_said : (i : NodeId) (k : List ℕ) (op : Op) → key ≡ k → IsStep w (Call i k op) a id x → IsBefore before w id.0 (keys_of keys) (Call i k op) →
-      IsNamed keys named k (turn_of a.world id.0 k before a.shown) op → SaidAt (Call i k op)
-  own_said i k op e s b call =
+  quiet_said : (o : Stepped) → IsLone (told_at key o.told) → named ≡ keys →
+      IsSaid (key_at key keys) (key_at key named) (map reply_line (told_at key o.told))
+      (map (reply_item (pending_stamp (key_node key (Some x)).phase)) (told_at key o.told))
+      (updates_of id.0 (key_node key (Some x)) (map (reply_item (pending_stamp (key_node key (Some x)).phase)) (told_at key o.told)))
+  quiet_said o lone same = said_quiet (key_at key keys) (key_at key named) id.0 (key_node key (Some x)) (pending_stamp (key_node key (Some x)).phase)
+      (told_at key o.told) lone (ap (key_at key) same)
+
+  -- what must be known of the step of a call
+  record IsCalled (k : List ℕ) (op : Op) (o : Stepped) (r : Acted) : Type 0 where
+    step : o ≡ called x (next_call w) k op
+    there : node_at id.0 a.world.processes ≡ Some o.node
+    counted : a.world.calls ≡ w.calls + 1
+    replies : a.shown.replies ≡ map (λ t. t.1) o.told
+    acted : a.shown.acted ≡ Some r
+    rows : AreChanges r.report.rows x.rows o.node.rows
+
+  own_said : (i : NodeId) (k : List ℕ) (op : Op) (r : Acted) → key ≡ k → IsCalled k op (called x (next_call w) k op) r →
+      IsNamed keys named k (turn_of a.world id k a.shown) op → SaidBy (Call i k op) (called x (next_call w) k op)
+  own_said i k op r e s call =
       let o : Stepped = called x (next_call w) k op in
       let was : Node = key_node k (Some x) in
       let now : Node = key_node k (Some o.node) in
       let rs : List Reply = told_at k o.told in
-      let at_new : node_at id.0 a.world.processes ≡ Some o.node = ap (node_at id.0) s.processes ∙ node-put_same id (alive o.node) w.processes in
-      let number : record { 0 = a.world.calls } ≡ next_call w = ap numbered_call s.calls in
-      let tag : (key_node k (node_at id.0 a.world.processes)).stamp ≡ now.stamp = ap (λ (n : Option NodeState). (key_node k n).stamp) at_new in
-      let was_tag : before.tag ≡ was.stamp = b.tag ∙ ap (λ (n : Option NodeState). (key_node k n).stamp) found in
+      let number : record { 0 = a.world.calls } ≡ next_call w = ap numbered_call s.counted in
+      let there : Node = key_node k (node_at id.0 a.world.processes) in
+      let tag : there.stamp ≡ now.stamp = ap (λ (n : Option NodeState). (key_node k n).stamp) s.there in
+      let began : is_new a.shown.acted k there.stamp ≡ not (eqb now.stamp was.stamp) =
+      ap (λ (t : ℕ). is_new a.shown.acted k t) tag ∙ ap (λ (b : Option Acted). is_new b k now.stamp) s.acted ∙ new_is r x o.node k s.rows in
       let answered : is_answer a.shown.replies ≡ is_answer rs = ap is_answer (s.replies ∙ call_only w id.0 x k op own found ok) in
       let items : (key_at k named).items ≡ (key_at k keys).items ++ L.Call (next_call w) op ∷ [] = call.here.items
       ∙ ap (λ (c : CallNo). (key_at k keys).items ++ L.Call c op ∷ []) number in
       let turned : IsTurned (not (eqb now.stamp was.stamp)) (is_answer rs) (key_at k keys).stamps (key_at k named).stamps now.stamp (next_call w) =
       subst (λ (c : CallNo). IsTurned (not (eqb now.stamp was.stamp)) (is_answer rs) (key_at k keys).stamps (key_at k named).stamps now.stamp c) number
-      (subst (λ (t : ℕ). IsTurned (not (eqb t was.stamp)) (is_answer rs) (key_at k keys).stamps (key_at k named).stamps t (record { 0 = a.world.calls })) tag
-      (subst (λ (t : ℕ). IsTurned (not (eqb (key_node k (node_at id.0 a.world.processes)).stamp t)) (is_answer rs) (key_at k keys).stamps
-      (key_at k named).stamps (key_node k (node_at id.0 a.world.processes)).stamp (record { 0 = a.world.calls })) was_tag
-      (subst (λ (c : Bool). IsTurned (not (eqb (key_node k (node_at id.0 a.world.processes)).stamp before.tag)) c (key_at k keys).stamps
-      (key_at k named).stamps (key_node k (node_at id.0 a.world.processes)).stamp (record { 0 = a.world.calls })) answered call.here.stamps))) in
+      (subst (λ (t : ℕ). IsTurned (not (eqb now.stamp was.stamp)) (is_answer rs) (key_at k keys).stamps (key_at k named).stamps t (record { 0 = a.world.calls })) tag
+      (subst (λ (b : Bool). IsTurned b (is_answer rs) (key_at k keys).stamps (key_at k named).stamps there.stamp (record { 0 = a.world.calls })) began
+      (subst (λ (c : Bool). IsTurned (is_new a.shown.acted k there.stamp) c (key_at k keys).stamps (key_at k named).stamps there.stamp (record { 0 = a.world.calls }))
+      answered call.here.stamps))) in
       let said : IsSaid (key_at k keys) (key_at k named) (map reply_line rs) (call_items (eqb now.stamp was.stamp) (w.calls + 1) op was now rs)
       (updates_of id.0 was (call_items (eqb now.stamp was.stamp) (w.calls + 1) op was now rs)) =
       said_call (key_at k keys) (key_at k named) id.0 was now (next_call w) op rs items turned (call_at_most w id.0 x k op own found ok) in
@@ -299,7 +259,8 @@ module _ (w : WorldState) (own : IsOwn w) (a : Accepted) (id : NodeId) (x : Node
       (updates_of id.0 was (cond c (call_items (eqb now.stamp was.stamp) (w.calls + 1) op was now rs) [])))
       (sym (same_itself k)) said)
 
-  other_said : (i : NodeId) (k : List ℕ) (op : Op) → key ≢ k → IsNamed keys named k (turn_of a.world id.0 k before a.shown) op → SaidAt (Call i k op)
+  other_said : (i : NodeId) (k : List ℕ) (op : Op) → key ≢ k → IsNamed keys named k (turn_of a.world id k a.shown) op →
+      SaidBy (Call i k op) (called x (next_call w) k op)
   other_said i k op ne call =
       let o : Stepped = called x (next_call w) k op in
       let none : told_at key o.told ≡ [] = call_elsewhere w id.0 x key k op own found ok ne in
@@ -312,122 +273,315 @@ module _ (w : WorldState) (own : IsOwn w) (a : Accepted) (id : NodeId) (x : Node
       (updates_of id.0 (key_node key (Some x)) is)) (sym items)
       (subst (λ (rs : List Reply). IsSaid (key_at key keys) (key_at key named) (map reply_line rs) [] []) (sym none) said)
 
-  said_at : (event : Event) → IsEvent event → IsStep w event a id x → IsBefore before w id.0 (keys_of keys) event →
-      IsCallKept keys named a.world id.0 event before a.shown → SaidAt event
-  said_at (Call i k op) within s b call = ⊎_elim (λ (e : key ≡ k). own_said i k op e s b call) (λ (ne : key ≢ k). other_said i k op ne call) (cases_key key k)
-  said_at (Take number) within s b call = quiet_said (Take number) (told_lone w own x ok (Take number) key within tt) call
-  said_at (Tick actor to) within s b call = quiet_said (Tick actor to) tt call
-  said_at (TickAll to) within s b call = quiet_said (TickAll to) tt call
-  said_at (Crash actor) within s b call = quiet_said (Crash actor) tt call
-  said_at (Resend i k) within s b call = quiet_said (Resend i k) (told_lone w own x ok (Resend i k) key within tt) call
-  said_at (Replay i k) within s b call = quiet_said (Replay i k) (told_lone w own x ok (Replay i k) key within tt) call
-  said_at (Copy i from room) within s b call = quiet_said (Copy i from room) (told_lone w own x ok (Copy i from room) key within tt) call
-  said_at (Start i) within s b call = quiet_said (Start i) tt call
-  said_at (Agree change) within s b call = quiet_said (Agree change) tt call
-  said_at (Install i epoch) within s b call = quiet_said (Install i epoch) (told_lone w own x ok (Install i epoch) key within tt) call
-  said_at (Lease i end) within s b call = quiet_said (Lease i end) tt call
-  said_at (AskLease i manager) within s b call = quiet_said (AskLease i manager) tt call
-  said_at (Propose manager base change) within s b call = quiet_said (Propose manager base change) tt call
-  said_at (Activate manager) within s b call = quiet_said (Activate manager) tt call
+  called_said : (i : NodeId) (k : List ℕ) (op : Op) (o : Stepped) (r : Acted) → IsCalled k op o r → IsNamed keys named k (turn_of a.world id k a.shown) op →
+      SaidBy (Call i k op) o
+  called_said i k op o r s call = subst (λ (p : Stepped). SaidBy (Call i k op) p) (sym s.step)
+      (⊎_elim (λ (e : key ≡ k). own_said i k op r e (subst (λ (p : Stepped). IsCalled k op p r) s.step s) call)
+      (λ (ne : key ≢ k). other_said i k op ne call) (cases_key key k))
+
+module _ (w : WorldState) (own : IsOwn w) (a : Accepted) (id : NodeId) (ok : (event : Event) (st : IsStep w event a id) → IsNode st.x)
+    (keys named : Keys) (key : List ℕ) where
+  pub said_at : (event : Event) → IsEvent event → (st : IsStep w event a id) → is_at event id → IsCallKept keys named a.world event a.shown →
+      SaidBy w own a id st.x (ok event st) (found w event a id st) keys named key event st.o
+  said_at (Call i k op) within st named_at call =
+      let e : N.Call (next_call w) k op ≡ st.how.0 = the_some _ _ st.how.1 in
+      let mine : IsNamed keys named k (turn_of a.world id k a.shown) op = subst (λ (j : NodeId). IsNamed keys named k (turn_of a.world j k a.shown) op) named_at call in
+      called_said w own a id st.x (ok (Call i k op) st) (found w (Call i k op) a id st) keys named key i k op st.o (acted_by w (Call i k op) a id st)
+      (record {
+        step = st.how.2 ∙ ap (node_step st.x) (sym e);
+        there = found_now w (Call i k op) a id st;
+        counted = ap (λ (b : Accepted). b.world.calls) st.is;
+        replies = replies_are w (Call i k op) a id st;
+        acted = acted_is w (Call i k op) a id st;
+        rows = changes w (Call i k op) a id st own within (ok (Call i k op) st);
+      }) mine
+  said_at event within st named_at call = quiet_said w own a id st.x (ok event st) (found w event a id st) keys named key st.o
+      (told_lone w own st.x (ok event st) st.o event within st.how key) call
 
 -- ---- all together
-call_keys : (m n : Keys) (w : WorldState) (id : ℕ) (event : Event) (before : Before) (shown : Shown) → IsCallKept m n w id event before shown →
-    keys_of n ≡ with_named event (keys_of m)
-call_keys m n w id (Call i k op) before shown h = h.keys
-call_keys m n w id (Take number) before shown h = ap keys_of h
-call_keys m n w id (Tick actor to) before shown h = ap keys_of h
-call_keys m n w id (TickAll to) before shown h = ap keys_of h
-call_keys m n w id (Crash actor) before shown h = ap keys_of h
-call_keys m n w id (Resend i k) before shown h = ap keys_of h
-call_keys m n w id (Replay i k) before shown h = ap keys_of h
-call_keys m n w id (Copy i from room) before shown h = ap keys_of h
-call_keys m n w id (Start i) before shown h = ap keys_of h
-call_keys m n w id (Agree change) before shown h = ap keys_of h
-call_keys m n w id (Install i epoch) before shown h = ap keys_of h
-call_keys m n w id (Lease i end) before shown h = ap keys_of h
-call_keys m n w id (AskLease i manager) before shown h = ap keys_of h
-call_keys m n w id (Propose manager base change) before shown h = ap keys_of h
-call_keys m n w id (Activate manager) before shown h = ap keys_of h
+uncalled : (m n : Keys) (w : WorldState) (event : Event) (shown : Shown) → IsNoCall event → IsCallKept m n w event shown → n ≡ m
+uncalled m n w (Call id key op) shown none h = absurd none
+uncalled m n w event shown none h = h
 
-is_added : (k0 k1 k2 k3 : KeyState) (lines : List Line) (said : List Item) (us : List Update) (touched : Bool) (marks acks all : List Mark) →
-    IsSaid k0 k1 lines said us → k2 ≡ with_lines k1 lines → IsCovered k2 k3 all → IsMarkedBy k2 k3 touched marks acks →
-    IsAdded k0 k3 said us touched marks acks
-is_added k0 k1 k2 k3 lines said us touched marks acks all s e covered marked = record {
-  items = covered.items ∙ ap (λ (k : KeyState). k.items) e ∙ s.items;
-  update = λ t. covered.update t ∙ ap (λ (k : KeyState). (at_stamp t k).update) e ∙ s.update t;
-  looks = λ t. covered.looks t ∙ ap (λ (k : KeyState). (at_stamp t k).looks) e ∙ s.looks t;
-  kept = λ t c h. marked.kept t c (subst (λ (l : List Cover). In l c) (sym (covers t)) h);
-  true_covers = λ t c h. ⊎_elim (λ (g : In (at_stamp t k2).covers c). inl (subst (λ (l : List Cover). In l c) (covers t) g)) inr (marked.true_covers t c h);
-  all_covers = marked.all_covers;
-  all_acks = marked.all_acks;
+call_keys : (m n : Keys) (w : WorldState) (event : Event) (shown : Shown) → IsCallKept m n w event shown → keys_of n ≡ with_named event (keys_of m)
+call_keys m n w (Call i k op) shown h = h.keys
+call_keys m n w event shown h = ap keys_of h
+
+-- ---- what the covers leave as it was
+pub record IsSameBut (old new : KeyState) : Type 0 where
+  pub items : new.items ≡ old.items
+  pub update : (s : ℕ) → (at_stamp s new).update ≡ (at_stamp s old).update
+  pub looks : (s : ℕ) → (at_stamp s new).looks ≡ (at_stamp s old).looks
+
+same_but : (old new : KeyState) → new ≡ old → IsSameBut old new
+same_but old new e = record {
+  items = ap (λ (k : KeyState). k.items) e;
+  update = λ s. ap (λ (k : KeyState). (at_stamp s k).update) e;
+  looks = λ s. ap (λ (k : KeyState). (at_stamp s k).looks) e;
 }
+
+module _ (key : List ℕ) (t : Trace) (event : Event) (a : Accepted) (id : NodeId) (was x : Node) (k0 k1 k2 k3 : KeyState) (lines : List Line)
+    (is : IsKeyOf key k0 t) where
+  abbrev said : List Item
+  said = items_of key event (t.world.calls + 1) was x (told_at key a.told)
+
+  -- items, updates and looks go on with the trace
+  followed_by : IsSaid k0 k1 lines said (updates_of id.0 was said) → k2 ≡ with_lines k1 lines → IsSameBut k2 k3 →
+      ((s : ℕ) → 1 ≤ s → IsKnown (After a) (view key (added key t event a id.0 was x)) s (at_stamp s k3).evidence) →
+      IsKeyOf key k3 (added key t event a id.0 was x)
+  followed_by s e same known = record {
+    items = same.items ∙ ap (λ (k : KeyState). k.items) e ∙ s.items ∙ ap (λ (l : List Line). l ++ events_of said) is.items ∙ sym (events_append said t.history);
+    update = λ u. same.update u ∙ ap (λ (k : KeyState). (at_stamp u k).update) e ∙ s.update u
+        ∙ ap (begun_at u (updates_of id.0 was said)) (is.update u) ∙ sym (update_append u (updates_of id.0 was said) t.begun);
+    looks = λ u. same.looks u ∙ ap (λ (k : KeyState). (at_stamp u k).looks) e ∙ s.looks u
+        ∙ ap (λ (l : List CallNo). l ++ looks_at u said) (is.looks u) ∙ sym (looks_append u said t.history);
+    known = known;
+  }
+
+-- the keys that are kept stay so
+touched_there : (by : Option Acted) (told new : Keys) (w : WorldState) (letters : List Wire) → AreTouchedAt by told new w letters → (key : List ℕ) →
+    is_some (find_key key new) ≡ is_some (find_key key told)
+touched_there None told new w letters h key = ap (λ (ks : Keys). is_some (find_key key ks)) h
+touched_there (Some r) told new w letters h key = by_node (node_at r.node.0 w.processes) h
   where
-    covers : (t : ℕ) → (at_stamp t k2).covers ≡ (at_stamp t k0).covers
-    covers t = ap (λ (k : KeyState). (at_stamp t k).covers) e ∙ s.covers t
+    by_view : (x : NodeState) (o : Option View) → AreTouchedIn o told new x r letters → is_some (find_key key new) ≡ is_some (find_key key told)
+    by_view x None h = ap (λ (ks : Keys). is_some (find_key key ks)) h
+    by_view x (Some v) h = h.of_acks.there key ∙ h.of_open.covered.there key ∙ h.of_changed.there key
 
-module _ (old : KeptState) (event : Event) (may : MayMake old event) (a : Accepted) (made : world_step old.world event ≡ Ok a) (id : NodeId)
-    (acting : actor_of old.world event ≡ Some id) (before : Before)
-    (b : IsBefore before old.world id.0 (keys_of old.keys) event) (new : KeptState)
-    (kept : IsKeptAfter (with_world old a.world) new id.0 event before a.shown) where
-  acts : IsActed old.world event a (Some id)
-  acts = subst (IsActed old.world event a) acting (is_acted old.world a event may.own made)
+    by_node : (o : Option NodeState) → AreTouchedBy o told new r letters → is_some (find_key key new) ≡ is_some (find_key key told)
+    by_node None h = ap (λ (ks : Keys). is_some (find_key key ks)) h
+    by_node (Some x) h = by_view x x.view h
 
-  added_by : (x : NodeState) → process_at id old.world.processes ≡ Some (alive x) → acted old.world event id x ≡ Ok a → (key : List ℕ) →
-      is_some (find_key key new.keys) ≡ true →
-      IsNoted key (key_at key old.keys) (key_at key new.keys) old.world event a a.acting
-  added_by x at is key there =
-      let w : WorldState = old.world in
-      let s : IsStep w event a id x = step_of w event a id x is in
-      let o : Stepped = stepped_at w event x in
-      let found : node_at id.0 w.processes ≡ Some x = ap node_of at in
-      let ok : IsNode x = (node_holds w may.own.sound id.0 x found).1 in
-      let at_new : node_at id.0 a.world.processes ≡ Some o.node = ap (node_at id.0) s.processes ∙ node-put_same id (alive o.node) w.processes in
-      let there2 : is_some (find_key key kept.told) ≡ true = sym (kept.covers.there key) ∙ there in
-      let there1 : is_some (find_key key kept.named) ≡ true = sym (kept.replies.there key) ∙ there2 in
-      let was : Node = key_node key (Some x) in
-      let now : Node = key_node key (Some o.node) in
-      let rs : List Reply = told_at key o.told in
-      let said : List Item = items_of key event (w.calls + 1) was now rs in
-      let calls : List (List ℕ) = old.calls ++ called_from (event ∷ []) in
-      let lines : lines_at key calls a.shown.replies ≡ map reply_line rs =
-      ap (lines_at key calls) s.replies ∙ lines_told key calls o.told
-      (λ k r h. may.told a made k r (subst (λ (l : List (List ℕ × Reply)). In l (k, r)) (sym s.told) h)) in
-      let told : key_at key kept.told ≡ with_lines (key_at key kept.named) (map reply_line rs) = kept.replies.each key there1
-      ∙ ap (with_lines (key_at key kept.named)) lines in
-      let ready : became_ready before o.node ≡ readied was now =
-      ap (λ (r : Bool). cond r false o.node.ready) (b.ready ∙ ap (λ (n : Option NodeState). (key_node [] n).ready) found) in
-      let touched : touches key a.world (became_ready before o.node) event ≡ touches key w (readied was now) event =
-      touches_same key w a.world (became_ready before o.node) event id o.letters acting s.letters ∙ ap (λ (r : Bool). touches key w r event) ready in
-      let acks : List Mark = ack_marks id.0 now (letters_of key a.shown.letters) in
-      let all : List Mark = cond (touches key w (readied was now) event) (moment_marks id.0 now) [] ++ (waited_marks id.0 o.node before key ++ acks) in
-      let covered : IsCovered (key_at key kept.told) (key_at key new.keys) all =
-      subst (λ (t : Bool). IsCovered (key_at key kept.told) (key_at key new.keys)
-      (cond t (moment_marks id.0 now) [] ++ (waited_marks id.0 o.node before key ++ acks))) touched
-      (subst (λ (n : Option NodeState). IsCovered (key_at key kept.told) (key_at key new.keys) (event_marks a.world id.0 n event before a.shown key)) at_new
-      (kept.covers.each key there2)) in
-      let like = waited_like w id x ok found old.keys kept.named before a.shown key there1 a.world event b kept.call in
-      let marked = marked_by (key_at key kept.told) (key_at key new.keys) (touches key w (readied was now) event) (moment_marks id.0 now)
-      (waited_marks id.0 o.node before key) (install_marks id.0 was now) acks like covered in
-      let given : IsSaid (key_at key old.keys) (key_at key kept.named) (map reply_line rs) said (updates_of id.0 was said) =
-      said_at w may.own a id x ok found old.keys kept.named before key event may.event s b kept.call in
-      let base : IsAdded (key_at key old.keys) (key_at key new.keys) said (updates_of id.0 was said) (touches key w (readied was now) event)
-      (step_marks id.0 was now (letters_of key a.shown.letters)) acks =
-      is_added (key_at key old.keys) (key_at key kept.named) (key_at key kept.told) (key_at key new.keys) (map reply_line rs) said
-      (updates_of id.0 was said) (touches key w (readied was now) event) _ acks all given told covered marked in
-      let by_told : IsAddedBy key (key_at key old.keys) (key_at key new.keys) w event a id.0 was now =
-      subst (λ (l : List (List ℕ × Reply)). IsAdded (key_at key old.keys) (key_at key new.keys) (items_of key event (w.calls + 1) was now (told_at key l))
-      (updates_of id.0 was (items_of key event (w.calls + 1) was now (told_at key l)))
-      (touches key w (readied was now) event) (step_marks id.0 was now (letters_of key a.shown.letters)) acks) (sym s.told) base in
-      subst (λ (n : Option NodeId). IsNoted key (key_at key old.keys) (key_at key new.keys) w event a n) (sym s.acting)
-      (subst (λ (n : Option NodeState). IsAddedBy key (key_at key old.keys) (key_at key new.keys) w event a id.0 (key_node key n)
-      (key_node key (node_at id.0 a.world.processes))) (sym found)
-      (subst (λ (n : Option NodeState). IsAddedBy key (key_at key old.keys) (key_at key new.keys) w event a id.0 was (key_node key n)) (sym at_new) by_told))
+touched_keys : (by : Option Acted) (told new : Keys) (w : WorldState) (letters : List Wire) → AreTouchedAt by told new w letters →
+    keys_of new ≡ keys_of told
+touched_keys None told new w letters h = ap keys_of h
+touched_keys (Some r) told new w letters h = by_node (node_at r.node.0 w.processes) h
+  where
+    by_view : (x : NodeState) (o : Option View) → AreTouchedIn o told new x r letters → keys_of new ≡ keys_of told
+    by_view x None h = ap keys_of h
+    by_view x (Some v) h = h.of_acks.keys ∙ h.of_open.covered.keys ∙ h.of_changed.keys
+
+    by_node : (o : Option NodeState) → AreTouchedBy o told new r letters → keys_of new ≡ keys_of told
+    by_node None h = ap keys_of h
+    by_node (Some x) h = by_view x x.view h
+
+-- ---- a node acts
+module _ (key : List ℕ) (t : Trace) (event : Event) (within : IsEvent event) (a : Accepted) (e : world_step t.world event ≡ Ok a) (id : NodeId)
+    (st : IsStep t.world event a id) (named_at : is_at event id) (kept : IsKept key t)
+    (kept_now : IsKept key (added key t event a id.0 (key_node key (node_at id.0 t.world.processes)) (key_node key (node_at id.0 a.world.processes)))) where
+  abbrev y : NodeState
+  y = st.o.node
+
+  abbrev r : Acted
+  r = acted_by t.world event a id st
+
+  ok_of : (event : Event) (st : IsStep t.world event a id) → IsNode st.x
+  ok_of event st = (node_holds t.world kept.own.sound id.0 st.x (found t.world event a id st)).1
+
+  ok_now : IsNode st.o.node
+  ok_now = (node_holds a.world kept_now.own.sound id.0 st.o.node (found_now t.world event a id st)).1
+
+  abbrev was : Node
+  was = key_node key (Some st.x)
+
+  abbrev now : Node
+  now = key_node key (Some st.o.node)
+
+  abbrev V : ℕ → List ℕ
+  V = After a
+
+  abbrev next : Trace
+  next = added key t event a id.0 was now
+
+  -- the key's parts of the node, before and after
+  next_is : added key t event a id.0 (key_node key (node_at id.0 t.world.processes)) (key_node key (node_at id.0 a.world.processes)) ≡ next
+  next_is = ap (λ (o : Option NodeState). added key t event a id.0 (key_node key o) (key_node key (node_at id.0 a.world.processes))) (found t.world event a id st)
+      ∙ ap (λ (o : Option NodeState). added key t event a id.0 was (key_node key o)) (found_now t.world event a id st)
+
+  kept_next : IsKept key next
+  kept_next = subst (IsKept key) next_is kept_now
+
+  parts : Parts V (view key t)
+  parts = kept.parts V (agrees_before key t event a e kept kept_next.own)
+
+  parts_next : Parts V (view key next)
+  parts_next = kept_next.parts V (family_agrees a.world kept_next.own.sound.views)
+
+  seen_as : (v : View) → st.o.node.view ≡ Some v →
+      IsSeen V key (view key t) (view key next) id.0 r st.x st.o.node v a.shown.letters
+  seen_as v view_is =
+      let agreed = (kept_next.own.node id.0 st.o.node (found_now t.world event a id st)).agreed v view_is in
+      record {
+        parts = parts;
+        parts_now = parts_next;
+        was = ap (key_node key) (found t.world event a id st);
+        now = ap (key_node key) (found_now t.world event a id st);
+        marks = refl;
+        ok_was = ok_of event st;
+        ok_now = ok_now;
+        view = view_is;
+        some = (kept_next.own.views.within v agreed).0;
+        epoch = refl;
+        readied = refl;
+        rows = changes t.world event a id st kept.own within (ok_of event st);
+        fits = family_agrees a.world kept_next.own.sound.views v agreed;
+      }
+
+  module _ (told new : Keys) (there : is_some (find_key key told) ≡ true) where
+    -- what is known once all is covered
+    abbrev KnownOn : Type 0
+    KnownOn = IsSameBut (key_at key told) (key_at key new) × ((u : ℕ) → 1 ≤ u → IsKnownBy V t.marks u (at_stamp u (key_at key told)).evidence →
+        IsKnownBy V (step_marks id.0 was now (letters_of key a.shown.letters) ++ t.marks) u (at_stamp u (key_at key new)).evidence)
+
+    viewed : (v : View) → st.o.node.view ≡ Some v → AreTouched told new st.o.node v r a.shown.letters → KnownOn
+    viewed v view_is touched =
+        let c : Cover = cover_by r st.o.node in
+        let seen = touched.of_open.seen in
+        let all : AreCovered v c told new (touches_of st.o.node v r seen a.shown.letters) =
+        are_joined v c told touched.opened new _ _ (are_joined v c told touched.changed touched.opened _ _ touched.of_changed touched.of_open.covered) touched.of_acks in
+        let at_key = all.each key there in (
+          record { items = at_key.items; update = at_key.update; looks = at_key.looks },
+          λ u some k. seen_known V key (view key t) (view key next) id.0 r st.x st.o.node v a.shown.letters seen (seen_as v view_is)
+              touched.of_open.all c refl refl u some (at_stamp u (key_at key new)).evidence (at_key.known V (seen_as v view_is).fits t.marks u some k),
+        )
+
+    unviewed : st.o.node.view ≡ None → new ≡ told → KnownOn
+    unviewed none same = (
+      same_but (key_at key told) (key_at key new) (ap (key_at key) same),
+      λ u some k. unseen_known V (view key next) id.0 was now (letters_of key a.shown.letters) t.marks parts_next refl (ap epoch_in none) u
+          (at_stamp u (key_at key new)).evidence (subst (λ (ks : Keys). IsKnownBy V t.marks u (at_stamp u (key_at key ks)).evidence) (sym same) k),
+    )
+
+    by_view : (o : Option View) → st.o.node.view ≡ o → AreTouchedIn o told new st.o.node r a.shown.letters → KnownOn
+    by_view None e h = unviewed e h
+    by_view (Some v) e h = viewed v e h
+
+    covered_on : AreTouchedAt a.shown.acted told new a.world a.shown.letters → KnownOn
+    covered_on h = by_view st.o.node.view refl
+        (subst (λ (o : Option NodeState). AreTouchedBy o told new r a.shown.letters) (found_now t.world event a id st)
+        (subst (λ (b : Option Acted). AreTouchedAt b told new a.world a.shown.letters) (acted_is t.world event a id st) h))
+
+  pub acted_follows : (keys named told new : Keys) (calls : List (List ℕ)) →
+      ((k : List ℕ) (q : Reply) → In a.told (k, q) → numbered q.call.0 calls ≡ Some k) → IsCallKept keys named a.world event a.shown →
+      AreTold named told (λ key. lines_at key calls a.shown.replies) → is_some (find_key key told) ≡ true → AreTouchedAt a.shown.acted told new a.world a.shown.letters →
+      IsKeyOf key (key_at key keys) t → IsKeyOf key (key_at key new) next
+  acted_follows keys named told new calls numbers call lines there2 covers is0 =
+      let rs : List Reply = told_at key a.told in
+      let same_told : a.told ≡ st.o.told = told_is t.world event a id st in
+      let there1 : is_some (find_key key named) ≡ true = sym (lines.there key) ∙ there2 in
+      let given0 = said_at t.world kept.own a id ok_of keys named key event within st named_at call in
+      let given : IsSaid (key_at key keys) (key_at key named) (map reply_line rs) (items_of key event (t.world.calls + 1) was now rs)
+      (updates_of id.0 was (items_of key event (t.world.calls + 1) was now rs)) =
+      subst (λ (l : List (List ℕ × Reply)). IsSaid (key_at key keys) (key_at key named) (map reply_line (told_at key l))
+      (items_of key event (t.world.calls + 1) was now (told_at key l)) (updates_of id.0 was (items_of key event (t.world.calls + 1) was now (told_at key l))))
+      (sym same_told) given0 in
+      let replied : lines_at key calls a.shown.replies ≡ map reply_line rs =
+      ap (lines_at key calls) (replies_are t.world event a id st ∙ ap (map (λ t. t.1)) (sym same_told)) ∙ lines_told key calls a.told numbers in
+      let told_with : key_at key told ≡ with_lines (key_at key named) (map reply_line rs) =
+      lines.each key there1 ∙ ap (with_lines (key_at key named)) replied in
+      let on = covered_on told new there2 covers in
+      followed_by key t event a id was now (key_at key keys) (key_at key named) (key_at key told) (key_at key new) (map reply_line rs) is0 given told_with on.0
+      (λ u some.
+      let ev_same : (at_stamp u (key_at key told)).evidence ≡ (at_stamp u (key_at key keys)).evidence =
+      ap (λ (k : KeyState). (at_stamp u k).evidence) told_with ∙ given.evidence u in
+      let known : IsKnownBy V t.marks u (at_stamp u (key_at key keys)).evidence =
+      known_before key t event a e kept kept_next.own u (at_stamp u (key_at key keys)).evidence (is0.known u some) in
+      known_of V (view key next) parts_next u (at_stamp u (key_at key new)).evidence
+      (on.1 u some (subst (IsKnownBy V t.marks u) (sym ev_same) known)))
+
+-- ---- no node acts
+with_none : (k : KeyState) → with_lines k [] ≡ k
+with_none k = ap (λ (l : List Line). record { items = l; stamps = k.stamps }) (append-nil k.items)
+
+beside_follows : (key : List ℕ) (t : Trace) (event : Event) (a : Accepted) (e : world_step t.world event ≡ Ok a) (kept : IsKept key t)
+    (kept_now : IsKept key (traced_by key t event a None)) (old new : KeyState) → new ≡ old → IsKeyOf key old t → IsKeyOf key new (traced_by key t event a None)
+beside_follows key t event a e kept kept_now old new same is =
+    subst (λ (k : KeyState). IsKeyOf key k (traced_by key t event a None)) (sym same) (record {
+      items = is.items;
+      update = is.update;
+      looks = is.looks;
+      known = λ s some. known_of (After a) (view key (traced_by key t event a None))
+          (kept_now.parts (After a) (family_agrees a.world kept_now.own.sound.views)) s (at_stamp s old).evidence
+          (known_before key t event a e kept kept_now.own s (at_stamp s old).evidence (is.known s some));
+    })
+
+-- ---- an event
+module _ (old : KeptState) (event : Event) (may : MayMake old event) (a : Accepted) (made : world_step old.world event ≡ Ok a) (new : KeptState)
+    (kept : IsKeptAfter (with_world old a.world) new event a.shown) where
+  abbrev calls : List (List ℕ)
+  calls = old.calls ++ called_from (event ∷ [])
+
+  module _ (key : List ℕ) (there : is_some (find_key key new.keys) ≡ true) (t : Trace) (world : t.world ≡ old.world) (kept_t : IsKept key t)
+      (is : IsKeyOf key (key_at key old.keys) t) where
+    made_t : world_step t.world event ≡ Ok a
+    made_t = ap (λ (w : WorldState). world_step w event) world ∙ made
+
+    there2 : is_some (find_key key kept.told) ≡ true
+    there2 = sym (touched_there a.shown.acted kept.told new.keys a.world a.shown.letters kept.covers key) ∙ there
+
+    acted_case : (id : NodeId) → IsStep t.world event a id → is_at event id → IsKept key (traced key t event a) →
+        IsKeyOf key (key_at key new.keys) (traced key t event a)
+    acted_case id st named_at kept_now =
+        let next = added key t event a id.0 (key_node key (node_at id.0 t.world.processes)) (key_node key (node_at id.0 a.world.processes)) in
+        let next_at : traced key t event a ≡ next = ap (traced_by key t event a) (acting_is t.world event a id st) in
+        let kept_next : IsKept key next = subst (IsKept key) next_at kept_now in
+        let result = acted_follows key t event may.event a made_t id st named_at kept_t kept_next old.keys kept.named kept.told new.keys calls
+        (λ k q h. may.told a made k q h) kept.call kept.replies there2 kept.covers is in
+        subst (IsKeyOf key (key_at key new.keys)) (sym next_at) (subst (IsKeyOf key (key_at key new.keys))
+        (sym (next_is key t event may.event a made_t id st named_at kept_t kept_next)) result)
+
+    none_case : IsBeside t.world event a → IsKept key (traced key t event a) → IsKeyOf key (key_at key new.keys) (traced key t event a)
+    none_case b kept_now =
+        let unacted : a.shown.acted ≡ None = by_option a.shown.acted b.acting in
+        let there1 : is_some (find_key key kept.named) ≡ true = sym (kept.replies.there key) ∙ there2 in
+        let named : kept.named ≡ old.keys = uncalled old.keys kept.named a.world event a.shown b.no_call kept.call in
+        let told : key_at key kept.told ≡ key_at key kept.named =
+        kept.replies.each key there1 ∙ ap (λ (rs : List Reply). with_lines (key_at key kept.named) (lines_at key calls rs)) b.replies ∙ with_none (key_at key kept.named) in
+        let covers : new.keys ≡ kept.told = subst (λ (o : Option Acted). AreTouchedAt o kept.told new.keys a.world a.shown.letters) unacted kept.covers in
+        let same : key_at key new.keys ≡ key_at key old.keys = ap (key_at key) covers ∙ told ∙ ap (key_at key) named in
+        let next_at : traced key t event a ≡ traced_by key t event a None = ap (traced_by key t event a) b.acting in
+        subst (IsKeyOf key (key_at key new.keys)) (sym next_at)
+        (beside_follows key t event a made_t kept_t (subst (IsKept key) next_at kept_now) (key_at key old.keys) (key_at key new.keys) same is)
+      where
+        by_option : (o : Option Acted) → option_map (λ r. r.node) o ≡ None → o ≡ None
+        by_option None e = refl
+        by_option (Some r) e = cc
+
+    followed : IsKept key (traced key t event a) → IsKeyOf key (key_at key new.keys) (traced key t event a)
+    followed kept_now = by_way (is_made_by t.world a event made_t)
+      where
+        by_way : IsWay t.world event a → IsKeyOf key (key_at key new.keys) (traced key t event a)
+        by_way (inl s) = acted_case s.0 s.1 s.2 kept_now
+        by_way (inr b) = none_case b kept_now
 
   pub is_made : IsMade old new event a
   is_made = record {
     made = made;
     world = kept.world;
     calls = kept.calls;
-    keys = kept.covers.keys ∙ kept.replies.keys ∙ call_keys old.keys kept.named a.world id.0 event before a.shown kept.call;
-    noted = added_by acts.0 acts.1 acts.2;
+    keys = touched_keys a.shown.acted kept.told new.keys a.world a.shown.letters kept.covers ∙ kept.replies.keys ∙ call_keys old.keys kept.named a.world event a.shown kept.call;
+    followed = λ key there t world kept_t kept_now is. followed key there t world kept_t is kept_now;
   }
+
+-- ---- what is known of what an event shows
+-- the letters of a step are in range, and the former rows are a node's
+pub shown_within : (w : WorldState) (event : Event) (a : Accepted) → IsOwn w → IsEvent event → world_step w event ≡ Ok a →
+    AllByRecursion IsLetter a.shown.letters × AreFormer a.shown.acted
+shown_within w event a own within made = by_way (is_made_by w a event made)
+  where
+    by_option : (o : Option Acted) → option_map (λ r. r.node) o ≡ None → AreFormer o
+    by_option None e = tt
+    by_option (Some r) e = cc
+
+    by_way : IsWay w event a → AllByRecursion IsLetter a.shown.letters × AreFormer a.shown.acted
+    by_way (inl s) =
+        let st = s.1 in
+        let ok : IsNode st.x = (node_holds w own.sound s.0.0 st.x (found w event a s.0 st)).1 in
+        let letters : a.shown.letters ≡ st.o.letters = ap (λ (b : Accepted). b.shown.letters) st.is in
+        let all : a.world.letters ≡ w.letters ++ st.o.letters = ap (λ (b : Accepted). b.world.letters) st.is in
+        let rows = changes w event a s.0 st own within ok in (
+          subst (AllByRecursion IsLetter) (sym letters) (behind w.letters st.o.letters
+              (subst (AllByRecursion IsLetter) all (world_after w event a own within made).letters)),
+          subst AreFormer (sym (acted_is w event a s.0 st)) (formers_within st.x ok (report st.x st.o.node).rows rows.each),
+        )
+    by_way (inr b) = (subst (AllByRecursion IsLetter) (sym b.letters) tt, by_option a.shown.acted b.acting)

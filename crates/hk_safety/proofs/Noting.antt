@@ -19,9 +19,9 @@ use Rattle.hk_effects.specs.View.{is_same_key, told_at, reply_item, look_item, c
 use Rattle.hk_effects.proofs.Replies.{replies_begin_none}
 use Rattle.hk_register.specs.Machine.{In}
 use Rattle.hk_safety.specs.declared.key_run.AtStamp.{AtStamp}
-use Rattle.hk_safety.specs.Kept.{KeyState, at_stamp, looks_at, call_of}
-use Rattle.hk_safety.specs.Noted.{begun_at}
-use Rattle.hk_safety.specs.Grown.{Stamps, stamp_in, IsBegunAt, IsLookedAt, IsTurned, is_answer, reply_line, line_at, lines_at}
+use Rattle.hk_safety.specs.Kept.{KeyState, at_stamp, looks_at, call_of, update_at}
+use Rattle.hk_safety.specs.Grown.{Stamps, stamp_in, IsBegunAt, IsLookedAt, IsTurned, is_answer}
+use Rattle.hk_safety.specs.Shows.{reply_line, line_at, lines_at}
 use Rattle.hk_safety.proofs.Acting.{IsLone}
 
 -- ---- replies
@@ -44,7 +44,7 @@ replies_found_none t s [] items = refl
 replies_found_none t s (r ∷ rs) items = reply_found_none t s r (map (reply_item s) rs ++ items) ∙ replies_found_none t s rs items
 
 -- one reply at most, behind what came before
-said_behind : (s : ℕ) (rs : List Reply) (items : List Item) → IsLone rs → events_of (map (reply_item s) rs ++ items) ≡ events_of items ++ map reply_line rs
+pub said_behind : (s : ℕ) (rs : List Reply) (items : List Item) → IsLone rs → events_of (map (reply_item s) rs ++ items) ≡ events_of items ++ map reply_line rs
 said_behind s [] items lone = sym (append-nil (events_of items))
 said_behind s (r ∷ []) items lone = ap (λ (l : List Line). events_of items ++ l) (reply_said s r)
 said_behind s (r ∷ q ∷ rs) items lone = absurd lone
@@ -64,11 +64,15 @@ lines_told key calls (t ∷ told) named =
     by_test false more = more
 
 -- ---- what is said at a key
+-- the call of an update, among the new ones or before
+abbrev pub begun_at : ℕ → List Update → Option CallNo → Option CallNo
+begun_at s us old = elim (update_at s us) [ None ↦ old | Some call ↦ Some call ]
+
 pub record IsSaid (old new : KeyState) (lines : List Line) (said : List Item) (us : List Update) : Type 0 where
   pub items : new.items ++ lines ≡ old.items ++ events_of said
   pub update : (s : ℕ) → (at_stamp s new).update ≡ begun_at s us (at_stamp s old).update
   pub looks : (s : ℕ) → (at_stamp s new).looks ≡ (at_stamp s old).looks ++ looks_at s said
-  pub covers : (s : ℕ) → (at_stamp s new).covers ≡ (at_stamp s old).covers
+  pub evidence : (s : ℕ) → (at_stamp s new).evidence ≡ (at_stamp s old).evidence
 
 -- replies alone
 pub said_quiet : (old new : KeyState) (id : ℕ) (z : Node) (s : ℕ) (rs : List Reply) → IsLone rs → new ≡ old →
@@ -79,7 +83,7 @@ said_quiet old new id z s rs lone same = record {
   update = λ t. ap (λ (k : KeyState). (at_stamp t k).update) same ∙ ap (λ (us : List Update). begun_at t us (at_stamp t old).update) (sym none);
   looks = λ t. ap (λ (k : KeyState). (at_stamp t k).looks) same ∙ sym (append-nil (at_stamp t old).looks)
       ∙ ap (λ (l : List CallNo). (at_stamp t old).looks ++ l) (sym (ap (looks_at t) (sym (append-nil (map (reply_item s) rs))) ∙ replies_found_none t s rs []));
-  covers = λ t. ap (λ (k : KeyState). (at_stamp t k).covers) same;
+  evidence = λ t. ap (λ (k : KeyState). (at_stamp t k).evidence) same;
 }
   where
     none : updates_of id z (map (reply_item s) rs) ≡ []
@@ -112,7 +116,7 @@ said_begun old new id z s call op rs lone items begun = record {
       (sym (replies_begin_none id z s rs (Called call.0 s op ∷ [])));
   looks = λ t. by_looks t (eqb t s) refl ∙ sym (append-nil (at_stamp t old).looks)
       ∙ ap (λ (l : List CallNo). (at_stamp t old).looks ++ l) (sym (replies_found_none t s rs (Called call.0 s op ∷ [])));
-  covers = λ t. by_covers t (eqb t s) refl;
+  evidence = λ t. by_evidence t (eqb t s) refl;
 }
   where
     other : (t : ℕ) → eqb s t ≡ false → eqb t s ≡ false
@@ -131,9 +135,9 @@ said_begun old new id z s call op rs lone items begun = record {
     by_looks t true e = subst (λ (u : ℕ). (at_stamp u new).looks ≡ (at_stamp u old).looks) (sym (eqb-true t s e)) (ap (λ (a : AtStamp). a.looks) begun.here)
     by_looks t false e = ap (λ (a : AtStamp). a.looks) (begun.there t e)
 
-    by_covers : (t : ℕ) (b : Bool) → eqb t s ≡ b → (at_stamp t new).covers ≡ (at_stamp t old).covers
-    by_covers t true e = subst (λ (u : ℕ). (at_stamp u new).covers ≡ (at_stamp u old).covers) (sym (eqb-true t s e)) (ap (λ (a : AtStamp). a.covers) begun.here)
-    by_covers t false e = ap (λ (a : AtStamp). a.covers) (begun.there t e)
+    by_evidence : (t : ℕ) (b : Bool) → eqb t s ≡ b → (at_stamp t new).evidence ≡ (at_stamp t old).evidence
+    by_evidence t true e = subst (λ (u : ℕ). (at_stamp u new).evidence ≡ (at_stamp u old).evidence) (sym (eqb-true t s e)) (ap (λ (a : AtStamp). a.evidence) begun.here)
+    by_evidence t false e = ap (λ (a : AtStamp). a.evidence) (begun.there t e)
 
 -- a call that was answered at once, and one that was refused
 module _ (old new : KeyState) (id : ℕ) (z was : Node) (call : CallNo) (op : Op) (r : Reply) (own : r.call ≡ call)
@@ -148,7 +152,7 @@ module _ (old new : KeyState) (id : ℕ) (z was : Node) (call : CallNo) (op : Op
     items = said_item (Missed call.0 op r.answer) refl;
     update = λ t. ap (λ (l : Stamps). (stamp_in t l).update) same;
     looks = λ t. ap (λ (l : Stamps). (stamp_in t l).looks) same ∙ sym (append-nil (at_stamp t old).looks);
-    covers = λ t. ap (λ (l : Stamps). (stamp_in t l).covers) same;
+    evidence = λ t. ap (λ (l : Stamps). (stamp_in t l).evidence) same;
   }
 
   said_looked : IsLookedAt old.stamps new.stamps was.stamp call → IsSaid old new (reply_line r ∷ []) (Looked call.0 was.stamp op was.content r.answer ∷ []) []
@@ -156,7 +160,7 @@ module _ (old new : KeyState) (id : ℕ) (z was : Node) (call : CallNo) (op : Op
     items = said_item (Looked call.0 was.stamp op was.content r.answer) refl;
     update = λ t. by_update t (eqb t was.stamp) refl;
     looks = λ t. by_looks t (eqb was.stamp t) refl;
-    covers = λ t. by_covers t (eqb t was.stamp) refl;
+    evidence = λ t. by_evidence t (eqb t was.stamp) refl;
   }
     where
       by_update : (t : ℕ) (b : Bool) → eqb t was.stamp ≡ b → (at_stamp t new).update ≡ (at_stamp t old).update
@@ -164,10 +168,10 @@ module _ (old new : KeyState) (id : ℕ) (z was : Node) (call : CallNo) (op : Op
           (ap (λ (a : AtStamp). a.update) looked.here)
       by_update t false e = ap (λ (a : AtStamp). a.update) (looked.there t e)
 
-      by_covers : (t : ℕ) (b : Bool) → eqb t was.stamp ≡ b → (at_stamp t new).covers ≡ (at_stamp t old).covers
-      by_covers t true e = subst (λ (u : ℕ). (at_stamp u new).covers ≡ (at_stamp u old).covers) (sym (eqb-true t was.stamp e))
-          (ap (λ (a : AtStamp). a.covers) looked.here)
-      by_covers t false e = ap (λ (a : AtStamp). a.covers) (looked.there t e)
+      by_evidence : (t : ℕ) (b : Bool) → eqb t was.stamp ≡ b → (at_stamp t new).evidence ≡ (at_stamp t old).evidence
+      by_evidence t true e = subst (λ (u : ℕ). (at_stamp u new).evidence ≡ (at_stamp u old).evidence) (sym (eqb-true t was.stamp e))
+          (ap (λ (a : AtStamp). a.evidence) looked.here)
+      by_evidence t false e = ap (λ (a : AtStamp). a.evidence) (looked.there t e)
 
       by_looks : (t : ℕ) (b : Bool) → eqb was.stamp t ≡ b → (at_stamp t new).looks ≡ (at_stamp t old).looks ++ ([] ++ cond b (call ∷ []) [])
       by_looks t true e = subst (λ (u : ℕ). (at_stamp u new).looks ≡ (at_stamp u old).looks ++ call ∷ []) (eqb-true was.stamp t e)

@@ -1,12 +1,11 @@
 -- What is kept goes on with a run.
-use Rattle.std.proofs.Common.{◌≡◌, ℕ, Bool, true, false, List, [], ◌∷◌, ◌++◌, ◌∙◌, sym, refl, ap, subst, inl, inr, Option, Some, None, Ok, Err, unwrap_or}
+use Rattle.std.proofs.Common.{◌≡◌, ℕ, Bool, true, false, List, [], ◌∷◌, ◌++◌, ◌∙◌, sym, refl, ap, subst, inl, inr, Option, Some, None, Ok, unwrap_or}
 use Rattle.std.specs.Prelude.{IsSome, is_some}
 use Rattle.std.specs.Map.{keys_of}
 use Rattle.std.proofs.lemmas.Bool.{false≢true}
 use Rattle.hk_register.specs.Machine.{In}
 use Rattle.hk_world.specs.declared.event.Event.{Event}
 use Rattle.hk_world.specs.declared.event.Event.TheVariants.{Call}
-use Rattle.hk_world.specs.declared.refused.Refused.{Refused}
 use Rattle.hk_world.specs.declared.shown.Shown.{Shown}
 use Rattle.hk_world.specs.World.{WorldState}
 use Rattle.hk_world.specs.Steps.{Accepted, world_step}
@@ -15,11 +14,10 @@ use Rattle.hk_effects.specs.View.{Trace, traced}
 use Rattle.hk_effects.specs.Runs.{IsKept, RunsKeepParts}
 use Rattle.hk_safety.specs.Run.{RunState, world_of, IsRun, trace_of, with_named}
 use Rattle.hk_safety.specs.Kept.{KeyState, Keys, KeptState, IsKeyOf, IsKeptOf, first_key, find_key, key_at, called_from}
-use Rattle.hk_safety.specs.Noted.{IsNoted, IsMade, IsMadeBy}
+use Rattle.hk_safety.specs.Noted.{IsMade, IsMadeBy}
 use Rattle.hk_safety.specs.Push.{with_event}
-use Rattle.hk_safety.proofs.Following.{noted_follows}
 use Rattle.hk_safety.proofs.Named.{called_then, named_then, named_stays, key_there, found_of, of_found}
-use Rattle.hk_safety.proofs.Traces.{world_then, trace_then, trace_of_world, step_at, run_kept, run_then}
+use Rattle.hk_safety.proofs.Traces.{world_then, trace_then, trace_of_world, run_kept, run_then}
 use Rattle.hk_safety.proofs.Unnamed.{unnamed_stays}
 
 -- the event's key is named afterwards
@@ -49,32 +47,29 @@ module _ (runs : RunsKeepParts) (old new : KeptState) (run : RunState) (event : 
   run_pushed = run_then run event a ok event_ok accepts
 
   -- ---- its keys: one that is kept
-  found_key : (key : List ℕ) → IsSome (find_key key new.keys) → IsKeyOf (key_at key new.keys) (traced key (trace_of key run) event a)
-  found_key key found =
-      let world : old.world ≡ (trace_of key run).world = was.world ∙ sym (trace_of_world key run) in
-      noted_follows key (key_at key old.keys) (key_at key new.keys) (trace_of key run) event a (was.each key) (run_kept runs key run ok)
-      (step_at key run event a accepts)
-      (subst (λ (w : WorldState). IsNoted key (key_at key old.keys) (key_at key new.keys) w event a a.acting) world (made.noted key found))
+  kept_at : (key : List ℕ) → IsKept key (traced key (trace_of key run) event a)
+  kept_at key = subst (IsKept key) (trace_then key run event a accepts) (run_kept runs key (with_event run event) run_pushed)
+
+  found_key : (key : List ℕ) → IsSome (find_key key new.keys) → IsKeyOf key (key_at key new.keys) (traced key (trace_of key run) event a)
+  found_key key found = made.followed key found (trace_of key run) (trace_of_world key run ∙ sym was.world) (run_kept runs key run ok) (kept_at key) (was.each key)
 
   -- and one that is not
-  unfound_key : (key : List ℕ) → is_some (find_key key new.keys) ≡ false → IsKeyOf (key_at key new.keys) (traced key (trace_of key run) event a)
+  unfound_key : (key : List ℕ) → is_some (find_key key new.keys) ≡ false → IsKeyOf key (key_at key new.keys) (traced key (trace_of key run) event a)
   unfound_key key none =
       let unnamed : In (with_named event (keys_of old.keys)) key → ⊥ =
       λ h. false≢true (sym none ∙ found_of new.keys key (subst (λ (l : List (List ℕ)). In l key) (sym made.keys) h)) in
       let before : is_some (find_key key old.keys) ≡ false =
       not_found (find_key key old.keys) (λ found. unnamed (named_stays event (keys_of old.keys) key (of_found old.keys key found))) in
-      let nothing : IsKeyOf first_key (trace_of key run) =
-      subst (λ (k : KeyState). IsKeyOf k (trace_of key run)) (none_at key old.keys before) (was.each key) in
-      let kept : IsKept key (traced key (trace_of key run) event a) =
-      subst (IsKept key) (trace_then key run event a accepts) (run_kept runs key (with_event run event) run_pushed) in
-      subst (λ (k : KeyState). IsKeyOf k (traced key (trace_of key run) event a)) (sym (none_at key new.keys none))
-      (unnamed_stays key (trace_of key run) event a nothing kept (λ h. unnamed (call_named event (keys_of old.keys) key h)))
+      let nothing : IsKeyOf key first_key (trace_of key run) =
+      subst (λ (k : KeyState). IsKeyOf key k (trace_of key run)) (none_at key old.keys before) (was.each key) in
+      subst (λ (k : KeyState). IsKeyOf key k (traced key (trace_of key run) event a)) (sym (none_at key new.keys none))
+      (unnamed_stays key (trace_of key run) event a nothing (kept_at key) (λ h. unnamed (call_named event (keys_of old.keys) key h)))
 
-  each_key : (key : List ℕ) → IsKeyOf (key_at key new.keys) (trace_of key (with_event run event))
-  each_key key = subst (λ (t : Trace). IsKeyOf (key_at key new.keys) t) (sym (trace_then key run event a accepts))
+  each_key : (key : List ℕ) → IsKeyOf key (key_at key new.keys) (trace_of key (with_event run event))
+  each_key key = subst (λ (t : Trace). IsKeyOf key (key_at key new.keys) t) (sym (trace_then key run event a accepts))
       (by_found (is_some (find_key key new.keys)) refl)
     where
-      by_found : (b : Bool) → is_some (find_key key new.keys) ≡ b → IsKeyOf (key_at key new.keys) (traced key (trace_of key run) event a)
+      by_found : (b : Bool) → is_some (find_key key new.keys) ≡ b → IsKeyOf key (key_at key new.keys) (traced key (trace_of key run) event a)
       by_found true e = found_key key e
       by_found false e = unfound_key key e
 
@@ -95,7 +90,3 @@ made_pushed runs old new run event shown was ok event_ok made = (
   run_pushed runs old new run event made.0 was ok event_ok made.2,
   kept_pushed runs old new run event made.0 was ok event_ok made.2,
 )
-
-pub refused_by : (old : KeptState) (run : RunState) (event : Event) (refused : Refused) → IsKeptOf old run → world_step old.world event ≡ Err refused →
-    world_step (world_of run) event ≡ Err refused
-refused_by old run event refused was e = subst (λ (w : WorldState). world_step w event ≡ Err refused) was.world e

@@ -1,13 +1,12 @@
 -- What is kept of stamps and of keys, after one of them is put.
-use Rattle.std.proofs.Common.{◌≡◌, ◌≢◌, ℕ, ◌+◌, ◌<◌, ◌≤◌, arith, List, [], ◌∷◌, ◌++◌, take, length, get_or, Bool, true, false, cond, Option, Some, None, unwrap_or, is_some, refl, sym, ap, subst, ◌∙◌, ⊎_elim, Result, Ok, Err, eqb, Ordering, Less, Equal, Greater}
-use Rattle.std.specs.Ordering.{nat_cmp, is_eq, match_ordering}
+use Rattle.std.proofs.Common.{◌≡◌, ◌≢◌, ℕ, ◌+◌, ◌<◌, List, [], ◌∷◌, ◌++◌, take, length, get_or, Bool, true, cond, Option, Some, None, unwrap_or, is_some, refl, sym, ap, subst, ◌∙◌, ⊎_elim, Result, Ok, Err, Ordering, Less, Equal, Greater}
+use Rattle.std.specs.Ordering.{is_eq, match_ordering}
 use Rattle.std.specs.Result.{OnOk}
 use Rattle.std.specs.BTreeMap.{BTreeMap, UpdatesBy, insert_entry, is_at}
 use Rattle.std.specs.Map.{keys_of, lookup}
 use Rattle.std.specs.List.Sorted.{IsStrictlySortedBy}
-use Rattle.std.proofs.lemmas.Bool.{false≢true, eq-eqb}
-use Rattle.std.proofs.lemmas.Cmp.{ranked, nat_list_cmp_total}
-use Rattle.std.proofs.Math.Seq.{take-length}
+use Rattle.std.proofs.lemmas.Bool.{false≢true}
+use Rattle.std.proofs.lemmas.Cmp.{nat_list_cmp_total}
 use Rattle.std.proofs.lemmas.List.{take_more}
 use Rattle.std.proofs.lemmas.Map.{lookup-none}
 use Rattle.std.proofs.lemmas.Map.Entries.{none_below_head}
@@ -15,10 +14,8 @@ use Rattle.std.proofs.lemmas.Map.Keys.{sorted_tail}
 use Rattle.hk_copy.specs.Batches.{key_cmp}
 use Rattle.hk_effects.specs.View.{is_same_key}
 use Rattle.hk_effects.proofs.Order.{cases_key, same_of, same_not}
-use Rattle.hk_safety.specs.declared.key_run.AtStamp.{AtStamp}
 use Rattle.hk_safety.specs.Run.{with_key}
-use Rattle.hk_safety.specs.Kept.{KeyState, Keys, no_stamp, first_key, find_key, key_at}
-use Rattle.hk_safety.specs.Grown.{stamp_in, OthersStay}
+use Rattle.hk_safety.specs.Kept.{KeyState, Keys, first_key, find_key, key_at}
 
 -- a fact on what was done follows from another
 pub on_ok : {T E P Q : Type 0} (r : Result T E) → (P → Q) → OnOk r P → OnOk r Q
@@ -29,35 +26,12 @@ on_ok (Err e) f h = h
 pub turn : {X : Type 0} (xs : List X) (i : ℕ) (x : X) → i < length xs → x ≡ get_or xs i x → take (i + 1) xs ≡ take i xs ++ x ∷ []
 turn xs i x lt is = take_more xs i x lt ∙ ap (λ (y : _). take i xs ++ y ∷ []) (sym is)
 
--- all items
-pub whole : {X : Type 0} (xs : List X) (i : ℕ) → length xs ≤ i → i ≤ length xs → take i xs ≡ xs
-whole xs i low high = let e : i ≡ length xs = omega arith in ap (λ (n : ℕ). take n xs) e ∙ take-length xs
-
--- ---- stamps
-pub apart_at : (s t : ℕ) → eqb t s ≡ false → is_at (nat_cmp s) t ≡ false
-apart_at s t ne = by_order (nat_cmp s t) refl
-  where
-    by_order : (o : Ordering) → nat_cmp s t ≡ o → is_eq o ≡ false
-    by_order Less e = refl
-    by_order Equal e = absurd (false≢true (sym ne ∙ eq-eqb t s (sym (ranked s t Equal (sym e)))))
-    by_order Greater e = refl
-
-module _ (m n : BTreeMap ℕ AtStamp) (s : ℕ) (at : AtStamp) (put : UpdatesBy nat_cmp (nat_cmp s) m n (Some at)) where
-  pub stamp_here : stamp_in s n.entries ≡ at
-  stamp_here = ap (λ (o : Option AtStamp). unwrap_or o no_stamp) put.1
-
-  pub stamps_there : OthersStay s m.entries n.entries
-  stamps_there t ne = ap (λ (o : Option AtStamp). unwrap_or o no_stamp) (put.2 t (apart_at s t ne))
-
 -- ---- keys
 pub found_at : (key : List ℕ) (keys : Keys) (k : KeyState) → find_key key keys ≡ Some k → key_at key keys ≡ k
 found_at key keys k e = ap (λ (o : Option KeyState). unwrap_or o first_key) e
 
 pub absent_at : (key : List ℕ) (keys : Keys) → find_key key keys ≡ None → key_at key keys ≡ first_key
 absent_at key keys e = ap (λ (o : Option KeyState). unwrap_or o first_key) e
-
-pub there_of : (o : Option KeyState) (k : KeyState) → o ≡ Some k → is_some o ≡ true
-there_of o k e = ap is_some e
 
 pub not_there : (o : Option KeyState) → o ≡ None → is_some o ≡ true → ⊥
 not_there o e there = false≢true (sym (ap is_some e) ∙ there)

@@ -1,5 +1,5 @@
 -- What is kept of a run of no event.
-use Rattle.std.proofs.Common.{◌≡◌, List, [], ◌∷◌, map, refl, ap, ⊎_elim}
+use Rattle.std.proofs.Common.{◌≡◌, ℕ, List, [], ◌∷◌, map, refl, ap, ⊎_elim}
 use Rattle.hk_base.specs.declared.stamp.NodeId.{NodeId}
 use Rattle.hk_register.specs.Machine.{In, Mark}
 use Rattle.hk_register.specs.Effects.{row_mark}
@@ -17,8 +17,8 @@ start_stamp [] m h = absurd h
 start_stamp (id ∷ ids) m h = ⊎_elim (λ (e : m ≡ row_mark id.0 founder). ap (λ (k : Mark). k.stamp) e)
     (λ (t : In (map (λ id. row_mark id.0 founder) ids) m). start_stamp ids m t) h
 
-pub starts_empty : (h : Header) → IsKeyOf first_key (start_trace h)
-starts_empty h = key_of_empty (start_trace h) (record { history = refl; begun = refl; marks = start_stamp (counted 0 h.nodes) })
+pub starts_empty : (key : List ℕ) (h : Header) → IsKeyOf key first_key (start_trace h)
+starts_empty key h = key_of_empty key (start_trace h) (record { history = refl; begun = refl; marks = start_stamp (counted 0 h.nodes) })
 
 abbrev pub no_events : Header → RunState
 no_events h = record { header = h; events = [] }
@@ -30,4 +30,4 @@ pub run_starts : (h : Header) → IsHeader h → IsRun (no_events h)
 run_starts h is = record { header = is; accepted = tt }
 
 pub kept_starts : (h : Header) → IsKeptOf (first_kept h) (no_events h)
-kept_starts h = record { world = refl; calls = refl; keys = refl; each = λ key. starts_empty h }
+kept_starts h = record { world = refl; calls = refl; keys = refl; each = λ key. starts_empty key h }

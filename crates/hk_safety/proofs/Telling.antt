@@ -7,6 +7,9 @@ use Rattle.hk_base.specs.declared.call.Reply.{Reply}
 use Rattle.hk_register.specs.Machine.{In, Node, Update, Item}
 use Rattle.hk_register.specs.Machine.Item.{Called}
 use Rattle.hk_register.proofs.Grow.{in_left, in_either}
+use Rattle.hk_node.specs.declared.event.NodeEvent.TheVariants as N
+use Rattle.hk_node.specs.Node.{NodeState}
+use Rattle.hk_node.specs.Steps.{node_step}
 use Rattle.hk_node.specs.Stepped.{Stepped}
 use Rattle.hk_node.specs.Calls.{called}
 use Rattle.hk_node.specs.Laws.{IsAnsweredAlone, HasBegun}
@@ -14,7 +17,7 @@ use Rattle.hk_node.proofs.Waits.{calls_are_taken}
 use Rattle.hk_world.specs.declared.event.Event.{Event}
 use Rattle.hk_world.specs.declared.event.Event.TheVariants.{Call}
 use Rattle.hk_world.specs.World.{WorldState, node_of, numbered}
-use Rattle.hk_world.specs.Steps.{Accepted, world_step}
+use Rattle.hk_world.specs.Steps.{Accepted, acting_of, world_step}
 use Rattle.hk_world.specs.Sound.{IsEvent}
 use Rattle.hk_effects.specs.View.{Trace, view, key_node, node_at, is_same_key, told_at, pending_stamp, reply_item, call_items, items_of, updates_of, added, traced, traced_by}
 use Rattle.hk_effects.specs.Own.{IsOwn}
@@ -23,15 +26,16 @@ use Rattle.hk_effects.proofs.Order.{same_true, same_itself}
 use Rattle.hk_effects.proofs.Replies.{looks_begin_none, replies_begin_none}
 use Rattle.hk_effects.proofs.Rests.{node_holds}
 use Rattle.hk_effects.proofs.Two.{append_three}
+use Rattle.hk_effects.proofs.Worlds.{the_some}
 use Rattle.hk_effects.proofs.WorldKept.{calls_after}
 use Rattle.hk_safety.specs.Run.{RunState, world_of, AreAccepted, IsRun, trace_with, trace_from, trace_of}
 use Rattle.hk_safety.specs.Kept.{KeptState, IsKeptOf, called_from}
 use Rattle.hk_safety.specs.Noted.{MayMake}
 use Rattle.hk_safety.specs.Push.{with_event}
-use Rattle.hk_safety.proofs.Cases.{Stepping, Beside, event_case}
+use Rattle.hk_safety.proofs.Acting.{next_call, IsNoCall, IsMadeBy, is_made_by}
 use Rattle.hk_safety.proofs.Named.{called_append, called_named, found_of, numbered_append, numbered_last}
 use Rattle.hk_safety.proofs.Traces.{world_is, trace_of_world, trace_then, run_kept, run_then}
-use Rattle.hk_safety.proofs.Unnamed.{IsNoCall, replies_said, replies_begin, replied_update, in_map}
+use Rattle.hk_safety.proofs.Unnamed.{replies_said, replies_begin, replied_update, in_map}
 
 -- ---- the call of each update that was begun is one of the calls on the key
 pub record IsCounted (key : List ℕ) (t : Trace) (calls : List (List ℕ)) : Type 0 where
@@ -74,18 +78,18 @@ new_update key id was x n rs calls (Call node k op) is u h = by_key (is_same_key
 new_update key id was x n rs calls event is u h = let none : In [] u = rw (replies_begin id was (pending_stamp was.phase) rs) at h in absurd none
 
 counted_calls : (w : WorldState) (event : Event) (a : Accepted) → world_step w event ≡ Ok a → a.world.calls ≡ calls_after event w.calls
-counted_calls w event a e = by_case (event_case w event a e)
+counted_calls w event a e = by_way (is_made_by w a event e)
   where
-    by_case : Stepping w event a ⊎ Beside w event a → a.world.calls ≡ calls_after event w.calls
-    by_case (inl k) = ap (λ (b : Accepted). b.world.calls) k.is ∙ k.counted
-    by_case (inr b) = b.counted
+    by_way : IsMadeBy w event a → a.world.calls ≡ calls_after event w.calls
+    by_way (inl s) = ap (λ (b : Accepted). b.world.calls) s.1.is
+    by_way (inr b) = b.calls
 
 pub counted_then : (key : List ℕ) (t : Trace) (event : Event) (a : Accepted) (calls : List (List ℕ)) → world_step t.world event ≡ Ok a → IsCounted key t calls →
     IsCounted key (traced key t event a) (calls ++ called_from (event ∷ []))
 counted_then key t event a calls e k = record {
-  count = ap (λ (w : WorldState). w.calls) (world_is key t event a a.acting) ∙
+  count = ap (λ (w : WorldState). w.calls) (world_is key t event a (acting_of a)) ∙
       count_then event calls t.world.calls a.world.calls k.count (counted_calls t.world event a e);
-  begun = by_acting a.acting;
+  begun = by_acting (acting_of a);
 }
   where
     old : (u : Update) → In t.begun u → numbered u.call (calls ++ called_from (event ∷ [])) ≡ Some key
@@ -108,7 +112,7 @@ counted_from key [] calls t k h = subst (λ (l : List (List ℕ)). IsCounted key
 counted_from key (x ∷ xs) calls t k h =
     let a : Accepted = h.1 in
     let next : IsCounted key (traced key t x a) (calls ++ called_from (x ∷ [])) = counted_then key t x a calls h.2 k in
-    let rest : AreAccepted (traced key t x a).world xs = subst (λ (w : WorldState). AreAccepted w xs) (sym (world_is key t x a a.acting)) h.3 in
+    let rest : AreAccepted (traced key t x a).world xs = subst (λ (w : WorldState). AreAccepted w xs) (sym (world_is key t x a (acting_of a))) h.3 in
     let all = counted_from key xs (calls ++ called_from (x ∷ [])) (traced key t x a) next rest in
     let list : (calls ++ called_from (x ∷ [])) ++ called_from xs ≡ calls ++ called_from (x ∷ xs) =
     append_three calls (called_from (x ∷ [])) (called_from xs) ∙ ap (λ (l : List (List ℕ)). calls ++ l) (sym (called_append (x ∷ []) xs)) in
@@ -139,9 +143,9 @@ module _ (key : List ℕ) (t : Trace) (event : Event) (a : Accepted) (calls : Li
   -- an event other than a call answers calls that began updates
   replied_before : IsNoCall event → IsKept key (traced key t event a) → IsCounted key (traced key t event a) (calls ++ called_from (event ∷ [])) →
       numbered r.call.0 (calls ++ called_from (event ∷ [])) ≡ Some key
-  replied_before no_call kept now = by_case (event_case t.world event a e)
+  replied_before no_call kept now = by_way (is_made_by t.world a event e)
     where
-      at_node : (id : NodeId) → a.acting ≡ Some id → numbered r.call.0 (calls ++ called_from (event ∷ [])) ≡ Some key
+      at_node : (id : NodeId) → acting_of a ≡ Some id → numbered r.call.0 (calls ++ called_from (event ∷ [])) ≡ Some key
       at_node id acts =
           let was : Node = key_node key (node_at id.0 t.world.processes) in
           let x : Node = key_node key (node_at id.0 a.world.processes) in
@@ -156,15 +160,15 @@ module _ (key : List ℕ) (t : Trace) (event : Event) (a : Accepted) (calls : Li
           let u = replied_update (view key (traced key t event a)) s r (kept.calls.items (reply_item s r) stands) in
           subst (λ (n : ℕ). numbered n (calls ++ called_from (event ∷ [])) ≡ Some key) u.2 (now.begun u.0 u.1)
 
-      by_case : Stepping t.world event a ⊎ Beside t.world event a → numbered r.call.0 (calls ++ called_from (event ∷ [])) ≡ Some key
-      by_case (inl k) = at_node k.id (ap (λ (b : Accepted). b.acting) k.is)
-      by_case (inr b) = let none : In {X = List ℕ × Reply} [] (key, r) = rw b.told at told in absurd none
+      by_way : IsMadeBy t.world event a → numbered r.call.0 (calls ++ called_from (event ∷ [])) ≡ Some key
+      by_way (inl s) = at_node s.0 (ap acting_of s.1.is)
+      by_way (inr b) = let none : In {X = List ℕ × Reply} [] (key, r) = rw b.told at told in absurd none
 
 -- a call is answered alone
 replied_call : (key : List ℕ) (w : WorldState) (own : IsOwn w) (id : NodeId) (k : List ℕ) (op : Op) (a : Accepted) (calls : List (List ℕ)) (r : Reply) →
     world_step w (Call id k op) ≡ Ok a → w.calls ≡ length calls →
     In a.told (key, r) → numbered r.call.0 (calls ++ k ∷ []) ≡ Some key
-replied_call key w own id k op a calls r e count told = by_case (event_case w (Call id k op) a e)
+replied_call key w own id k op a calls r e count told = by_made (is_made_by w a (Call id k op) e)
   where
     number : CallNo
     number = record { 0 = w.calls + 1 }
@@ -183,13 +187,15 @@ replied_call key w own id k op a calls r e count told = by_case (event_case w (C
         one (inr none) = absurd none
     by_way s told (inr begun) = let none : In {X = List ℕ × Reply} [] (key, r) = rw begun.silent at told in absurd none
 
-    by_case : Stepping w (Call id k op) a ⊎ Beside w (Call id k op) a → numbered r.call.0 (calls ++ k ∷ []) ≡ Some key
-    by_case (inl st) =
-        let mine : In (called st.x (record { 0 = w.calls + 1 }) k op).told (key, r) =
-        subst (λ (s : Stepped). In s.told (key, r)) st.how (subst (λ (b : Accepted). In b.told (key, r)) st.is told) in
-        by_way (called st.x (record { 0 = w.calls + 1 }) k op) mine
-        (calls_are_taken st.x (record { 0 = w.calls + 1 }) k op (node_holds w own.sound st.id.0 st.x (ap node_of st.there)).1)
-    by_case (inr b) = let none : In {X = List ℕ × Reply} [] (key, r) = rw b.told at told in absurd none
+    by_made : IsMadeBy w (Call id k op) a → numbered r.call.0 (calls ++ k ∷ []) ≡ Some key
+    by_made (inl s) =
+        let x : NodeState = s.1.x in
+        let ev : N.Call (next_call w) k op ≡ s.1.how.0 = the_some _ _ s.1.how.1 in
+        let mine : In (called x (record { 0 = w.calls + 1 }) k op).told (key, r) =
+        subst (λ (o : Stepped). In o.told (key, r)) (s.1.how.2 ∙ ap (node_step x) (sym ev)) (subst (λ (b : Accepted). In b.told (key, r)) s.1.is told) in
+        by_way (called x (record { 0 = w.calls + 1 }) k op) mine
+        (calls_are_taken x (record { 0 = w.calls + 1 }) k op (node_holds w own.sound s.0.0 x (ap node_of s.1.at)).1)
+    by_made (inr b) = let none : In {X = List ℕ × Reply} [] (key, r) = rw b.told at told in absurd none
 
 -- ---- what must be known before an event is made
 pub told_numbered : RunsKeepParts → (run : RunState) → IsRun run → (event : Event) → IsEvent event → (a : Accepted) → world_step (world_of run) event ≡ Ok a →

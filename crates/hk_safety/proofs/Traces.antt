@@ -5,7 +5,7 @@ use Rattle.hk_world.specs.declared.event.Event.{Event}
 use Rattle.hk_world.specs.declared.refused.Refused.{Refused}
 use Rattle.hk_world.specs.World.{WorldState}
 use Rattle.hk_world.specs.Start.{start}
-use Rattle.hk_world.specs.Steps.{Accepted, world_step}
+use Rattle.hk_world.specs.Steps.{Accepted, acting_of, world_step}
 use Rattle.hk_world.specs.Sound.{IsEvent}
 use Rattle.hk_effects.specs.View.{Trace, traced, traced_by}
 use Rattle.hk_effects.specs.Runs.{start_trace, Follows, IsKept, RunsKeepParts}
@@ -40,7 +40,7 @@ trace_world key (x ∷ xs) t = trace_world key xs (trace_with key t x (world_ste
     ap (λ (w : WorldState). world_from w xs) (by_result (world_step t.world x))
   where
     by_result : (r : Result Accepted Refused) → (trace_with key t x r).world ≡ world_with t.world r
-    by_result (Ok a) = world_is key t x a a.acting
+    by_result (Ok a) = world_is key t x a (acting_of a)
     by_result (Err refused) = refl
 
 -- the trace of a key has the run's world
@@ -52,7 +52,7 @@ follows_of key [] t h = refl
 follows_of key (x ∷ xs) t h =
     let a : Accepted = h.1 in
     let is : trace_with key t x (world_step t.world x) ≡ traced key t x a = ap (trace_with key t x) h.2 in
-    let rest : AreAccepted (traced key t x a).world xs = subst (λ (w : WorldState). AreAccepted w xs) (sym (world_is key t x a a.acting)) h.3 in
+    let rest : AreAccepted (traced key t x a).world xs = subst (λ (w : WorldState). AreAccepted w xs) (sym (world_is key t x a (acting_of a))) h.3 in
     (a, h.2, h.0, subst (λ (z : Trace). Follows key (traced key t x a) xs (trace_from key z xs)) (sym is) (follows_of key xs (traced key t x a) rest))
 
 -- ---- runs

@@ -10,7 +10,7 @@ use Rattle.hk_register.specs.Calls.{CallItem}
 use Rattle.hk_register.proofs.Grow.{in_left}
 use Rattle.hk_world.specs.declared.event.Event.{Event}
 use Rattle.hk_world.specs.declared.event.Event.TheVariants.{Call}
-use Rattle.hk_world.specs.Steps.{Accepted}
+use Rattle.hk_world.specs.Steps.{Accepted, acting_of}
 use Rattle.hk_effects.specs.View.{Trace, view, key_node, node_at, told_at, pending_stamp, reply_item, call_items, items_of, updates_of, added, traced, traced_by}
 use Rattle.hk_effects.specs.Orders.{family}
 use Rattle.hk_effects.specs.Runs.{IsKept}
@@ -19,11 +19,8 @@ use Rattle.hk_effects.proofs.Legality.{family_agrees}
 use Rattle.hk_effects.proofs.Order.{same_not}
 use Rattle.hk_effects.proofs.Replies.{replies_begin_none}
 use Rattle.hk_safety.specs.Kept.{IsKeyOf, first_key, called_from}
+use Rattle.hk_safety.proofs.Acting.{IsNoCall}
 use Rattle.hk_safety.proofs.Empty.{IsEmpty, key_of_empty, no_items, no_updates}
-
-abbrev pub IsNoCall : Event → Type 0
-IsNoCall (Call id key op) = ⊥
-IsNoCall event = Unit {0}
 
 -- what an event other than a call says are replies
 pub replies_said : (key : List ℕ) (event : Event) (call : ℕ) (was x : Node) (rs : List Reply) → IsNoCall event →
@@ -67,7 +64,7 @@ module _ (key : List ℕ) (t : Trace) (event : Event) (a : Accepted) (kept : IsK
       (λ (b : MarkBegun V St m). let h : In [] b.update = subst (λ (us : List Update). In us b.update) none b.begun in absurd h)
       (parts.marks m (m, itself m, h)).begun
 
-  module _ (id : NodeId) (acts : a.acting ≡ Some id) where
+  module _ (id : NodeId) (acts : acting_of a ≡ Some id) where
     abbrev was : Node
     was = key_node key (node_at id.0 t.world.processes)
 
@@ -111,9 +108,9 @@ module _ (key : List ℕ) (t : Trace) (event : Event) (a : Accepted) (kept : IsK
     acts_empty = record { history = history_now; begun = begun_now; marks = marks_of_none begun_now }
 
   stays_empty : IsEmpty (traced key t event a)
-  stays_empty = by_acting a.acting refl
+  stays_empty = by_acting (acting_of a) refl
     where
-      by_acting : (acting : Option NodeId) → a.acting ≡ acting → IsEmpty (traced key t event a)
+      by_acting : (acting : Option NodeId) → acting_of a ≡ acting → IsEmpty (traced key t event a)
       by_acting (Some id) acts = acts_empty id acts
       by_acting None acts =
           let is : traced key t event a ≡ traced_by key t event a None = ap (traced_by key t event a) acts in
@@ -121,7 +118,7 @@ module _ (key : List ℕ) (t : Trace) (event : Event) (a : Accepted) (kept : IsK
           record { history = ap (λ (z : Trace). z.history) is ∙ history; begun = none; marks = marks_of_none none }
 
 -- a key that no call has named has nothing after the event either
-pub unnamed_stays : (key : List ℕ) (t : Trace) (event : Event) (a : Accepted) → IsKeyOf first_key t → IsKept key (traced key t event a) →
-    (In (called_from (event ∷ [])) key → ⊥) → IsKeyOf first_key (traced key t event a)
+pub unnamed_stays : (key : List ℕ) (t : Trace) (event : Event) (a : Accepted) → IsKeyOf key first_key t → IsKept key (traced key t event a) →
+    (In (called_from (event ∷ [])) key → ⊥) → IsKeyOf key first_key (traced key t event a)
 unnamed_stays key t event a k kept other =
-    key_of_empty (traced key t event a) (stays_empty key t event a kept (no_items t.history k.items) (no_updates t.begun k.update) other)
+    key_of_empty key (traced key t event a) (stays_empty key t event a kept (no_items t.history k.items) (no_updates t.begun k.update) other)

@@ -1,7 +1,7 @@
 -- What each part of the code adds to what is kept.
-use Rattle.std.specs.Prelude.{◌≡◌, ◌⊎◌, ℕ, ◌≤◌, List, [], ◌∷◌, ◌++◌, true, false, Bool, not, ◌==◌, if◌then◌else◌}
-use Rattle.std.specs.Prelude.{Option, None, Some, unwrap_or, is_some, Result, Ok, Err}
-use Rattle.std.specs.List.{flat_map}
+use Rattle.std.specs.Prelude.{◌≡◌, ℕ, ◌≤◌, List, [], ◌∷◌, ◌++◌, true, false, Bool, not, ◌==◌, ◌&&◌, ◌||◌, nat_lt, if◌then◌else◌}
+use Rattle.std.specs.Prelude.{Option, None, Some, unwrap_or, is_some, IfSome, Result, Ok, Err}
+use Rattle.std.specs.List.{find, flat_map, list_all, AllByRecursion}
 use Rattle.std.specs.Ordering.{nat_cmp}
 use Rattle.std.specs.BTreeMap.{is_at}
 use Rattle.std.specs.Map.{lookup, keys_of}
@@ -9,33 +9,83 @@ use Rattle.hk_base.specs.declared.stamp.NodeId.{NodeId}
 use Rattle.hk_base.specs.declared.call.CallNo.{CallNo}
 use Rattle.hk_base.specs.declared.call.Op.{Op}
 use Rattle.hk_base.specs.declared.call.Reply.{Reply}
-use Rattle.hk_base.specs.declared.letter.Actor.{Actor}
-use Rattle.hk_base.specs.declared.letter.Actor.TheVariants as A
+use Rattle.hk_base.specs.declared.letter.Body.{Body}
+use Rattle.hk_base.specs.declared.letter.Body.TheVariants.{Ack as AckBody}
 use Rattle.hk_base.specs.declared.letter.Letter.{Letter as Wire}
+use Rattle.hk_base.specs.declared.view.View.{View}
+use Rattle.hk_base.specs.Range.{IsWithin}
 use Rattle.hk_base.specs.Stamp.{tag_of}
+use Rattle.hk_base.specs.View.{member_numbers}
 use Rattle.hk_history.specs.declared.event.Event.{Event as Line}
 use Rattle.hk_history.specs.declared.event.Event.TheVariants as L
 use Rattle.hk_history.specs.History.{is_void}
 use Rattle.hk_key.specs.declared.row.Pending.{Pending}
+use Rattle.hk_key.specs.declared.row.Row.{Row}
 use Rattle.hk_register.specs.Machine.{In, Mark}
+use Rattle.hk_register.specs.Runs.{is_in}
+use Rattle.hk_node.specs.declared.report.Former.{Former}
 use Rattle.hk_node.specs.Rows.{row_at}
-use Rattle.hk_node.specs.Node.{NodeState, epoch_of}
+use Rattle.hk_node.specs.Copies.{is_valid}
+use Rattle.hk_node.specs.Node.{NodeState}
 use Rattle.hk_world.specs.declared.event.Event.{Event}
-use Rattle.hk_world.specs.declared.event.Event.TheVariants.{Call, Take, Tick, TickAll, Crash, Resend, Replay, Copy, Start, Agree, Install, Lease, AskLease, Propose, Activate}
-use Rattle.hk_world.specs.World.{WorldState, numbered}
+use Rattle.hk_world.specs.declared.event.Event.TheVariants.{Call}
+use Rattle.hk_world.specs.World.{WorldState}
 use Rattle.hk_world.specs.declared.shown.Shown.{Shown}
+use Rattle.hk_world.specs.declared.shown.Acted.{Acted}
 use Rattle.hk_world.specs.Steps.{Accepted, world_step}
-use Rattle.hk_effects.specs.View.{key_node, node_at, is_same_key, letters_of, moment_marks, ack_marks}
-use Rattle.hk_safety.specs.declared.key_run.Cover.{Cover}
+use Rattle.hk_effects.specs.View.{key_node, node_at, is_same_key}
+use Rattle.hk_safety.specs.declared.evidence.Cover.{Cover}
+use Rattle.hk_safety.specs.declared.evidence.Group.{Group}
+use Rattle.hk_safety.specs.declared.evidence.Evidence.{Evidence}
+use Rattle.hk_safety.specs.declared.evidence.Evidence.TheVariants.{Covers}
+use Rattle.hk_safety.specs.declared.evidence.Evidence.TheVariants as E
 use Rattle.hk_safety.specs.declared.key_run.AtStamp.{AtStamp}
 use Rattle.hk_safety.specs.declared.key_run.Turn.{Turn}
 use Rattle.hk_safety.specs.declared.kept.Unmade.{Unmade}
 use Rattle.hk_safety.specs.declared.kept.Unmade.TheVariants.{Memory, Refused, Lost}
-use Rattle.hk_safety.specs.declared.before.Before.{Before}
-use Rattle.hk_safety.specs.declared.before.Waiting.{Waiting}
 use Rattle.hk_safety.specs.Run.{with_key}
-use Rattle.hk_safety.specs.Kept.{KeyState, Keys, KeptState, at_stamp, no_stamp, find_key, key_at, called_from}
-use Rattle.hk_safety.specs.Noted.{touches, letter_touches}
+use Rattle.hk_safety.specs.Shows.{lines_at}
+use Rattle.hk_safety.specs.Kept.{KeyState, Keys, KeptState, Groups, group_at, is_among, covers_in, ready_in, AreToldBy, at_stamp, no_stamp, find_key, key_at, called_from}
+
+-- ---- evidence
+-- a node more
+pub record IsNodeAdded (old new : Group) (c : Cover) : Type 0 where
+  pub nodes : (n : ℕ) → is_among n new.nodes ≡ (n == c.node.0) || is_among n old.nodes
+  pub ready : new.ready ≡ old.ready || c.ready
+
+-- each of these covered the stamp, and one node was ready
+abbrev pub is_whole : Group → List NodeId → Bool
+is_whole group members = group.ready && list_all (λ m. is_among m.0 group.nodes) members
+
+-- in the group of one epoch
+pub record IsGroupPut (old new : Groups) (e : ℕ) (c : Cover) : Type 0 where
+  pub here : IsNodeAdded (group_at e old) (group_at e new) c
+  pub there : (f : ℕ) → (f == e) ≡ false → group_at f new ≡ group_at f old
+
+-- all members of the view covered the stamp in its epoch, one of them when it was ready
+abbrev pub completes : Groups → View → Bool
+completes groups v = is_whole (group_at v.epoch groups) v.members
+
+-- what is known once a node has covered the stamp in the view's epoch
+abbrev pub IsShown : Evidence → Evidence → View → Cover → Type 0
+IsShown E.Complete new v c = new ≡ E.Complete
+IsShown (Covers old) E.Complete v c = (put : Groups) × IsGroupPut old put v.epoch c × (completes put v ≡ true)
+IsShown (Covers old) (Covers new) v c = IsGroupPut old new v.epoch c × (completes new v ≡ false)
+
+-- ---- what evidence tells of some marks
+-- by these marks all members of a view covered the stamp, one of them when it was ready
+abbrev pub CompleteBy : (ℕ → List ℕ) → List Mark → ℕ → Type 0
+CompleteBy V marks s = (e : ℕ) × (ready_in marks s e ≡ true) × (list_all (λ n. covers_in marks s n e) (V e) ≡ true)
+
+abbrev pub IsKnownBy : (ℕ → List ℕ) → List Mark → ℕ → Evidence → Type 0
+IsKnownBy V marks s E.Complete = CompleteBy V marks s
+IsKnownBy V marks s (Covers groups) = (CompleteBy V marks s → ⊥) × AreToldBy marks s groups
+
+abbrev pub mark_by : Cover → View → ℕ → Mark
+mark_by c v s = record { who = c.node.0; epoch = v.epoch; stamp = s; exact = false; ready = c.ready }
+
+abbrev pub with_mark : Bool → Mark → List Mark → List Mark
+with_mark b m marks = if b then m ∷ marks else marks
 
 -- ---- stamps
 abbrev pub Stamps : Type 0
@@ -49,15 +99,10 @@ abbrev pub OthersStay : ℕ → Stamps → Stamps → Type 0
 OthersStay s old new = (t : ℕ) → (t == s) ≡ false → stamp_in t new ≡ stamp_in t old
 
 -- a cover more at one stamp
-pub record HasCover (old new : AtStamp) (c : Cover) : Type 0 where
-  pub update : new.update ≡ old.update
-  pub looks : new.looks ≡ old.looks
-  pub kept : (d : Cover) → In old.covers d → In new.covers d
-  pub from : (d : Cover) → In new.covers d → In old.covers d ⊎ (d ≡ c)
-  pub made : In new.covers c
-
-pub record IsCoveredAt (old new : Stamps) (s : ℕ) (c : Cover) : Type 0 where
-  pub here : HasCover (stamp_in s old) (stamp_in s new) c
+pub record IsCoveredAt (old new : Stamps) (s : ℕ) (v : View) (c : Cover) : Type 0 where
+  pub update : (stamp_in s new).update ≡ (stamp_in s old).update
+  pub looks : (stamp_in s new).looks ≡ (stamp_in s old).looks
+  pub shown : IsShown (stamp_in s old).evidence (stamp_in s new).evidence v c
   pub there : OthersStay s old new
 
 -- the call that began the update of the stamp
@@ -71,134 +116,99 @@ pub record IsLookedAt (old new : Stamps) (s : ℕ) (call : CallNo) : Type 0 wher
   pub there : OthersStay s old new
 
 -- ---- a key's covers
--- the mark says of the stamp what the cover says
-pub record Says (m : Mark) (s : ℕ) (c : Cover) : Type 0 where
-  pub who : m.who ≡ c.node.0
-  pub epoch : m.epoch ≡ c.epoch
-  pub stamp : m.stamp ≡ s
-  pub ready : m.ready ≡ c.ready
-
--- one of the marks says it, of the stamp of an update
-pub record IsMarked (marks : List Mark) (s : ℕ) (c : Cover) : Type 0 where
-  pub some : 1 ≤ s
-  pub mark : Mark
-  pub among : In marks mark
-  pub says : Says mark s c
-
--- covers are added, and nothing else: those that the marks say, where they are of the stamp of an update
-pub record IsCovered (old new : KeyState) (marks : List Mark) : Type 0 where
+-- The node covers the stamps of these tags, but 0, in the view's epoch: whatever marks told what was known, these and its own tell what is
+-- known now.
+pub record IsCovered (v : View) (c : Cover) (old new : KeyState) (tags : List ℕ) : Type 0 where
   pub items : new.items ≡ old.items
   pub update : (s : ℕ) → (at_stamp s new).update ≡ (at_stamp s old).update
   pub looks : (s : ℕ) → (at_stamp s new).looks ≡ (at_stamp s old).looks
-  pub kept : (s : ℕ) (c : Cover) → In (at_stamp s old).covers c → In (at_stamp s new).covers c
-  pub from : (s : ℕ) (c : Cover) → In (at_stamp s new).covers c → In (at_stamp s old).covers c ⊎ IsMarked marks s c
-  pub made : (m : Mark) → In marks m → 1 ≤ m.stamp → (c : Cover) × In (at_stamp m.stamp new).covers c × Says m m.stamp c
+  pub known : (V : ℕ → List ℕ) → member_numbers v.members ≡ V v.epoch → (marks : List Mark) (s : ℕ) → 1 ≤ s →
+      IsKnownBy V marks s (at_stamp s old).evidence → IsKnownBy V (with_mark (is_in s tags) (mark_by c v s) marks) s (at_stamp s new).evidence
 
-abbrev pub mark_by : Cover → ℕ → Mark
-mark_by c s = record { who = c.node.0; epoch = c.epoch; stamp = s; exact = false; ready = c.ready }
+-- ---- the covers of all keys: a touch is a key and the tag of a stamp
+abbrev pub Touch : Type 0
+Touch = List ℕ × ℕ
 
--- the covers of all keys
-pub record AreCovered (old new : Keys) (marks : List ℕ → List Mark) : Type 0 where
+abbrev pub tags_at : List ℕ → List Touch → List ℕ
+tags_at key [] = []
+tags_at key (t ∷ touches) = if is_same_key key t.0 then t.1 ∷ tags_at key touches else tags_at key touches
+
+pub record AreCovered (v : View) (c : Cover) (old new : Keys) (touches : List Touch) : Type 0 where
   pub keys : keys_of new ≡ keys_of old
   pub there : (key : List ℕ) → is_some (find_key key new) ≡ is_some (find_key key old)
-  pub each : (key : List ℕ) → is_some (find_key key old) ≡ true → IsCovered (key_at key old) (key_at key new) (marks key)
+  pub each : (key : List ℕ) → is_some (find_key key old) ≡ true → IsCovered v c (key_at key old) (key_at key new) (tags_at key touches)
 
--- marks of one key
-abbrev pub only_at : List ℕ → List Mark → List ℕ → List Mark
-only_at k marks key = if is_same_key key k then marks else []
+-- what waits, and what a row has and what waits there
+abbrev pub wait_touches : List ℕ → Option Pending → List Touch
+wait_touches key None = []
+wait_touches key (Some p) = (key, tag_of p.stamp) ∷ []
 
--- the marks of the moment, of the keys that pass the test
-abbrev pub moments_if : (List ℕ → Bool) → ℕ → NodeState → List ℕ → List Mark
-moments_if test id x key = if test key then moment_marks id (key_node key (Some x)) else []
+abbrev pub row_touches : List ℕ → Row → List Touch
+row_touches key row = (key, tag_of row.stamp) ∷ wait_touches key row.pending
 
--- of the keys that a letter touches
-abbrev pub letter_moments : Bool → Option Wire → ℕ → NodeState → List ℕ → List Mark
-letter_moments readied letter id x = moments_if (λ k. letter_touches k readied letter) id x
+abbrev pub touches_now : NodeState → List ℕ → List Touch
+touches_now x key = row_touches key (row_at key x.rows)
 
-abbrev pub is_among : List (List ℕ) → List ℕ → Bool
-is_among [] key = false
-is_among (k ∷ ks) key = if is_same_key key k then true else is_among ks key
+abbrev pub former_waits : List ℕ → Option Row → List Touch
+former_waits key None = []
+former_waits key (Some row) = wait_touches key row.pending
 
--- the cover that a node gives now
-abbrev pub cover_of : ℕ → NodeState → ℕ → Mark
-cover_of id x s = record { who = id; epoch = epoch_of x; stamp = s; exact = false; ready = x.ready }
+-- of a changed row: where the epoch rose, what waited in the former row counts in the new epoch too
+abbrev pub changed_touches : NodeState → Bool → Former → List Touch
+changed_touches x rose f = touches_now x f.key ++ (if rose then former_waits f.key f.row else [])
 
-abbrev pub waiting_marks : ℕ → NodeState → List Waiting → List ℕ → List Mark
-waiting_marks id x [] key = []
-waiting_marks id x (w ∷ waiting) key = only_at w.key (cover_of id x w.tag ∷ []) key ++ waiting_marks id x waiting key
+abbrev pub ack_touches : Body → List Touch
+ack_touches (AckBody key s top) = (key, tag_of s) ∷ []
+ack_touches body = []
 
-abbrev pub acked_marks : ℕ → NodeState → List Wire → List ℕ → List Mark
-acked_marks id x letters key = ack_marks id (key_node key (Some x)) (letters_of key letters)
+abbrev pub letter_touches : Wire → List Touch
+letter_touches letter = ack_touches letter.body
 
--- those that waited are covered where the node is in a later epoch now
-abbrev pub waited_marks : ℕ → NodeState → Before → List ℕ → List Mark
-waited_marks id x before key = if epoch_of x == before.epoch then [] else waiting_marks id x before.waiting.items key
+abbrev pub has_risen : Acted → View → Bool
+has_risen acted v = nat_lt acted.report.epoch v.epoch
 
--- all that an event covers
-abbrev pub became_ready : Before → NodeState → Bool
-became_ready before x = if before.ready then false else x.ready
+-- Where a node installed a view or became ready, its open rows are looked at too.
+abbrev pub has_moved : Acted → View → Bool
+has_moved acted v = has_risen acted v || acted.report.readied
 
-abbrev pub event_marks : WorldState → ℕ → Option NodeState → Event → Before → Shown → List ℕ → List Mark
-event_marks w id None event before shown key = []
-event_marks w id (Some x) event before shown key =
-    moments_if (λ k. touches k w (became_ready before x) event) id x key ++ (waited_marks id x before key ++ acked_marks id x shown.letters key)
+-- a row that is not Valid is open
+abbrev pub is_open : List ℕ → NodeState → Bool
+is_open key x = not (is_valid (row_at key x.rows).state)
 
--- the same, by the world behind the event
-abbrev pub marks_after : WorldState → ℕ → Event → Before → Shown → List ℕ → List Mark
-marks_after w id event before shown = event_marks w id (node_at id w.processes) event before shown
+pub record AreOpenCovered (v : View) (c : Cover) (old new : Keys) (x : NodeState) (moved : Bool) : Type 0 where
+  pub seen : List (List ℕ)
+  pub all : moved ≡ true → (key : List ℕ) → is_open key x ≡ true → In seen key
+  pub covered : AreCovered v c old new (flat_map (touches_now x) seen)
 
--- ---- before the step
--- the node that an event lets act, if one
-abbrev pub actor_node : Actor → Option NodeId
-actor_node (A.Node id) = Some id
-actor_node (A.Manager m) = None
+abbrev pub cover_by : Acted → NodeState → Cover
+cover_by acted x = record { node = acted.node; ready = x.ready }
 
-abbrev pub taker : Option Wire → Option NodeId
-taker None = None
-taker (Some letter) = actor_node letter.to
+-- all that an event covers, one after the other
+pub record AreTouched (old new : Keys) (x : NodeState) (v : View) (acted : Acted) (letters : List Wire) : Type 0 where
+  pub changed : Keys
+  pub opened : Keys
+  pub of_changed : AreCovered v (cover_by acted x) old changed (flat_map (changed_touches x (has_risen acted v)) acted.report.rows)
+  pub of_open : AreOpenCovered v (cover_by acted x) changed opened x (has_moved acted v)
+  pub of_acks : AreCovered v (cover_by acted x) opened new (flat_map letter_touches letters)
 
-abbrev pub actor_of : WorldState → Event → Option NodeId
-actor_of w (Call id key op) = Some id
-actor_of w (Take number) = taker (numbered number w.letters)
-actor_of w (Tick actor to) = actor_node actor
-actor_of w (Resend id key) = Some id
-actor_of w (Replay id key) = Some id
-actor_of w (Copy id from room) = Some id
-actor_of w (Install id epoch) = Some id
-actor_of w (Lease id end) = Some id
-actor_of w (AskLease id manager) = Some id
-actor_of w (TickAll to) = None
-actor_of w (Crash actor) = None
-actor_of w (Start id) = None
-actor_of w (Agree change) = None
-actor_of w (Propose manager base change) = None
-actor_of w (Activate manager) = None
+abbrev pub AreTouchedIn : Option View → Keys → Keys → NodeState → Acted → List Wire → Type 0
+AreTouchedIn None old new x acted letters = new ≡ old
+AreTouchedIn (Some v) old new x acted letters = AreTouched old new x v acted letters
 
-abbrev pub wait_of : List ℕ → Option Pending → List Waiting
-wait_of key None = []
-wait_of key (Some p) = record { key = key; tag = tag_of p.stamp } ∷ []
+abbrev pub AreTouchedBy : Option NodeState → Keys → Keys → Acted → List Wire → Type 0
+AreTouchedBy None old new acted letters = new ≡ old
+AreTouchedBy (Some x) old new acted letters = AreTouchedIn x.view old new x acted letters
 
-abbrev pub wait_at : NodeState → List ℕ → List Waiting
-wait_at x key = wait_of key (row_at key x.rows).pending
+abbrev pub AreTouchedAt : Option Acted → Keys → Keys → WorldState → List Wire → Type 0
+AreTouchedAt None old new w letters = new ≡ old
+AreTouchedAt (Some acted) old new w letters = AreTouchedBy (node_at acted.node.0 w.processes) old new acted letters
 
-abbrev pub waits_of : Option NodeState → List (List ℕ) → List Waiting
-waits_of None keys = []
-waits_of (Some x) keys = flat_map (wait_at x) keys
+-- the stamps of what waited in the former rows are within the limit
+abbrev pub IsFormer : Former → Type 0
+IsFormer f = IfSome f.row (λ row. IsWithin row.stamp × IfSome row.pending (λ p. IsWithin p.stamp))
 
--- the tag of the row that a call names, and the updates that wait where a view is installed
-abbrev pub tag_before : WorldState → ℕ → Event → ℕ
-tag_before w id (Call i key op) = (key_node key (node_at id w.processes)).stamp
-tag_before w id event = 0
-
-abbrev pub waiting_before : WorldState → ℕ → List (List ℕ) → Event → List Waiting
-waiting_before w id keys (Install i epoch) = waits_of (node_at id w.processes) keys
-waiting_before w id keys event = []
-
-pub record IsBefore (before : Before) (w : WorldState) (id : ℕ) (keys : List (List ℕ)) (event : Event) : Type 0 where
-  pub tag : before.tag ≡ tag_before w id event
-  pub ready : before.ready ≡ (key_node [] (node_at id w.processes)).ready
-  pub epoch : before.epoch ≡ (key_node [] (node_at id w.processes)).epoch
-  pub waiting : before.waiting.items ≡ waiting_before w id keys event
+abbrev pub AreFormer : Option Acted → Type 0
+AreFormer acted = IfSome acted (λ a. AllByRecursion IsFormer a.report.rows)
 
 -- ---- items
 -- by whether the call begins an update, and whether it is answered
@@ -209,7 +219,7 @@ IsTurned false false old new s call = new ≡ old
 
 pub record IsTaken (old new : KeyState) (turn : Turn) (op : Op) : Type 0 where
   pub items : new.items ≡ old.items ++ L.Call turn.call op ∷ []
-  pub stamps : IsTurned (not (turn.tag == turn.was)) turn.answered old.stamps new.stamps turn.tag turn.call
+  pub stamps : IsTurned turn.began turn.answered old.stamps new.stamps turn.tag turn.call
 
 -- the call stands in the items of its key, which is kept from then on
 pub record IsNamed (old new : Keys) (key : List ℕ) (turn : Turn) (op : Op) : Type 0 where
@@ -223,18 +233,6 @@ abbrev pub is_answer : List Reply → Bool
 is_answer [] = false
 is_answer (r ∷ replies) = not (is_void (Some r.answer))
 
-abbrev pub reply_line : Reply → Line
-reply_line r = L.Reply r.call r.answer
-
--- a reply of a call on the key
-abbrev pub line_at : List ℕ → Option (List ℕ) → Reply → List Line
-line_at key None r = []
-line_at key (Some k) r = if is_same_key key k then reply_line r ∷ [] else []
-
-abbrev pub lines_at : List ℕ → List (List ℕ) → List Reply → List Line
-lines_at key calls [] = []
-lines_at key calls (r ∷ replies) = line_at key (numbered r.call.0 calls) r ++ lines_at key calls replies
-
 abbrev pub with_lines : KeyState → List Line → KeyState
 with_lines k lines = record { items = k.items ++ lines; stamps = k.stamps }
 
@@ -245,28 +243,40 @@ pub record AreTold (old new : Keys) (lines : List ℕ → List Line) : Type 0 wh
   pub each : (key : List ℕ) → is_some (find_key key old) ≡ true → key_at key new ≡ with_lines (key_at key old) (lines key)
 
 -- ---- all that is kept of an accepted event
-abbrev pub turn_of : WorldState → ℕ → List ℕ → Before → Shown → Turn
-turn_of w id key before shown = record {
+-- the row of the key was another one before, with another stamp
+abbrev pub former_tag : Option Row → ℕ
+former_tag None = 0
+former_tag (Some row) = tag_of row.stamp
+
+abbrev pub is_new_in : Option Former → ℕ → Bool
+is_new_in None tag = false
+is_new_in (Some f) tag = not (tag == former_tag f.row)
+
+abbrev pub is_new : Option Acted → List ℕ → ℕ → Bool
+is_new None key tag = false
+is_new (Some acted) key tag = is_new_in (find (λ f. is_same_key key f.key) acted.report.rows) tag
+
+abbrev pub turn_of : WorldState → NodeId → List ℕ → Shown → Turn
+turn_of w id key shown = record {
   call = record { 0 = w.calls };
-  was = before.tag;
-  tag = (key_node key (node_at id w.processes)).stamp;
-  answered =
-      is_answer shown.replies;
+  began = is_new shown.acted key (key_node key (node_at id.0 w.processes)).stamp;
+  tag = (key_node key (node_at id.0 w.processes)).stamp;
+  answered = is_answer shown.replies;
 }
 
-abbrev pub IsCallKept : Keys → Keys → WorldState → ℕ → Event → Before → Shown → Type 0
-IsCallKept old new w id (Call i key op) before shown = IsNamed old new key (turn_of w id key before shown) op
-IsCallKept old new w id event before shown = new ≡ old
+abbrev pub IsCallKept : Keys → Keys → WorldState → Event → Shown → Type 0
+IsCallKept old new w (Call id key op) shown = IsNamed old new key (turn_of w id key shown) op
+IsCallKept old new w event shown = new ≡ old
 
 -- its call, then its replies, then its covers
-pub record IsKeptAfter (old new : KeptState) (id : ℕ) (event : Event) (before : Before) (shown : Shown) : Type 0 where
+pub record IsKeptAfter (old new : KeptState) (event : Event) (shown : Shown) : Type 0 where
   pub world : new.world ≡ old.world
   pub calls : new.calls ≡ old.calls ++ called_from (event ∷ [])
   pub named : Keys
   pub told : Keys
-  pub call : IsCallKept old.keys named old.world id event before shown
+  pub call : IsCallKept old.keys named old.world event shown
   pub replies : AreTold named told (λ key. lines_at key (old.calls ++ called_from (event ∷ [])) shown.replies)
-  pub covers : AreCovered told new.keys (marks_after old.world id event before shown)
+  pub covers : AreTouchedAt shown.acted told new.keys old.world shown.letters
 
 -- what the world makes of an event
 abbrev pub IsStepMade : Result Shown Unmade → WorldState → WorldState → Event → Type 0

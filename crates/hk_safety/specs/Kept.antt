@@ -1,24 +1,29 @@
--- What a run keeps beside its events: the present world, and for each key its history and, by stamp, its update, who covered it and
--- the calls that found it. So nothing is searched in the events again.
-use Rattle.std.specs.Prelude.{◌≡◌, ℕ, ◌≤◌, List, [], ◌∷◌, ◌++◌, map, true, Bool, Option, None, Some, unwrap_or, ◌==◌, ◌&&◌, nat_le, if◌then◌else◌}
-use Rattle.std.specs.List.{find, flat_map, list_any, list_all}
+-- What a run keeps beside its events: the present world, and for each key its history and, by stamp, its update, whether that is
+-- complete or who covered it so far, and the calls that found it. So nothing is searched in the events again.
+use Rattle.std.specs.Prelude.{◌≡◌, ℕ, ◌≤◌, List, [], ◌∷◌, ◌++◌, map, true, false, Bool, Option, None, Some, unwrap_or, ◌==◌, ◌&&◌, if◌then◌else◌}
+use Rattle.std.specs.List.{find, flat_map, list_any}
 use Rattle.std.specs.Option.{option_map}
 use Rattle.std.specs.Ordering.{nat_cmp}
 use Rattle.std.specs.BTreeMap.{is_at}
 use Rattle.std.specs.Map.{lookup, keys_of}
+use Rattle.hk_base.specs.declared.stamp.NodeId.{NodeId}
 use Rattle.hk_base.specs.declared.call.CallNo.{CallNo}
 use Rattle.hk_copy.specs.Batches.{key_cmp}
 use Rattle.hk_history.specs.declared.event.Event.{Event as Line}
 use Rattle.hk_history.specs.declared.event.Entry.{Entry}
-use Rattle.hk_register.specs.Machine.{In, Mark, Update, Item}
+use Rattle.hk_register.specs.Machine.{Mark, Update, Item, State}
 use Rattle.hk_register.specs.Machine.Item.{Called, Answered, Dropped, Looked, Missed}
-use Rattle.hk_register.specs.Runs.{is_in}
+use Rattle.hk_register.specs.Facts.{Complete}
+use Rattle.hk_register.specs.Printed.{is_mark}
 use Rattle.hk_world.specs.World.{WorldState}
 use Rattle.hk_world.specs.declared.event.Event.{Event}
 use Rattle.hk_world.specs.declared.event.Event.TheVariants.{Call}
-use Rattle.hk_effects.specs.View.{Trace}
-use Rattle.hk_effects.specs.Orders.{history_of}
-use Rattle.hk_safety.specs.declared.key_run.Cover.{Cover}
+use Rattle.hk_effects.specs.View.{Trace, view}
+use Rattle.hk_effects.specs.Orders.{family, history_of}
+use Rattle.hk_safety.specs.declared.evidence.Group.{Group}
+use Rattle.hk_safety.specs.declared.evidence.Evidence.{Evidence}
+use Rattle.hk_safety.specs.declared.evidence.Evidence.TheVariants.{Covers}
+use Rattle.hk_safety.specs.declared.evidence.Evidence.TheVariants as E
 use Rattle.hk_safety.specs.declared.key_run.AtStamp.{AtStamp}
 use Rattle.hk_safety.specs.Run.{RunState, world_of, trace_of, named}
 
@@ -28,8 +33,24 @@ pub record KeyState : Type 0 where
   pub items : List Line
   pub stamps : List (ℕ × AtStamp)
 
+-- who covered a stamp, by epoch
+abbrev pub Groups : Type 0
+Groups = List (ℕ × Group)
+
+abbrev pub no_group : Group
+no_group = record { nodes = []; ready = false }
+
+abbrev pub group_at : ℕ → Groups → Group
+group_at e groups = unwrap_or (lookup (is_at (nat_cmp e)) groups) no_group
+
+abbrev pub is_among : ℕ → List NodeId → Bool
+is_among n nodes = list_any (λ m. n == m.0) nodes
+
+abbrev pub nobody : Evidence
+nobody = Covers []
+
 abbrev pub no_stamp : AtStamp
-no_stamp = record { update = None; covers = []; looks = [] }
+no_stamp = record { update = None; evidence = nobody; looks = [] }
 
 abbrev pub at_stamp : ℕ → KeyState → AtStamp
 at_stamp s k = unwrap_or (lookup (is_at (nat_cmp s)) k.stamps) no_stamp
@@ -50,26 +71,33 @@ call_of u = record { 0 = u.call }
 abbrev pub update_at : ℕ → List Update → Option CallNo
 update_at s begun = option_map call_of (find (λ u. u.stamp == s) begun)
 
--- the cover says no more than the mark, or the mark no more than the cover
-pub record Tells (m : Mark) (s : ℕ) (c : Cover) : Type 0 where
-  pub who : m.who ≡ c.node.0
-  pub epoch : m.epoch ≡ c.epoch
-  pub stamp : m.stamp ≡ s
-  pub ready : c.ready ≡ true → m.ready ≡ true
+-- a mark says that the node covered the stamp in the epoch; that a node did so when it was ready
+abbrev pub covers_in : List Mark → ℕ → ℕ → ℕ → Bool
+covers_in marks s n e = list_any (is_mark n e s) marks
 
-pub record IsTold (m : Mark) (c : Cover) : Type 0 where
-  pub who : m.who ≡ c.node.0
-  pub epoch : m.epoch ≡ c.epoch
-  pub ready : m.ready ≡ true → c.ready ≡ true
+abbrev pub is_ready_mark : ℕ → ℕ → Mark → Bool
+is_ready_mark e s k = k.ready && ((k.epoch == e) && (k.stamp == s))
+
+abbrev pub ready_in : List Mark → ℕ → ℕ → Bool
+ready_in marks s e = list_any (is_ready_mark e s) marks
+
+-- the groups of a stamp are just those that the marks tell
+pub record AreToldBy (marks : List Mark) (s : ℕ) (groups : Groups) : Type 0 where
+  pub nodes : (n e : ℕ) → is_among n (group_at e groups).nodes ≡ covers_in marks s n e
+  pub ready : (e : ℕ) → (group_at e groups).ready ≡ ready_in marks s e
+
+-- An update is kept as complete just where it is; until then there is who covered it.
+abbrev pub IsKnown : (ℕ → List ℕ) → State → ℕ → Evidence → Type 0
+IsKnown V st s E.Complete = Complete V st s
+IsKnown V st s (Covers groups) = (Complete V st s → ⊥) × AreToldBy st.marks s groups
 
 -- What is kept is what the trace of the key has. Whether a cover was exact is not kept: no order asks it. Nor is who covered the stamp of no
 -- update.
-pub record IsKeyOf (k : KeyState) (t : Trace) : Type 0 where
+pub record IsKeyOf (key : List ℕ) (k : KeyState) (t : Trace) : Type 0 where
   pub items : k.items ≡ history_of t
   pub update : (s : ℕ) → (at_stamp s k).update ≡ update_at s t.begun
   pub looks : (s : ℕ) → (at_stamp s k).looks ≡ looks_at s t.history
-  pub true_covers : (s : ℕ) (c : Cover) → In (at_stamp s k).covers c → (m : Mark) × In t.marks m × Tells m s c
-  pub all_covers : (m : Mark) → In t.marks m → 1 ≤ m.stamp → (c : Cover) × In (at_stamp m.stamp k).covers c × IsTold m c
+  pub known : (s : ℕ) → 1 ≤ s → IsKnown (family t.world.views) (view key t) s (at_stamp s k).evidence
 
 -- ---- all keys
 abbrev pub Keys : Type 0
@@ -100,22 +128,12 @@ pub record IsKeptOf (k : KeptState) (run : RunState) : Type 0 where
   pub world : k.world ≡ world_of run
   pub calls : k.calls ≡ called_from run.events
   pub keys : keys_of k.keys ≡ named run
-  pub each : (key : List ℕ) → IsKeyOf (key_at key k.keys) (trace_of key run)
+  pub each : (key : List ℕ) → IsKeyOf key (key_at key k.keys) (trace_of key run)
 
 -- ---- the order, by what is kept
--- the members of the epoch's view all covered the stamp, by these covers
-abbrev pub is_cover : ℕ → ℕ → Cover → Bool
-is_cover n e c = (c.node.0 == n) && (c.epoch == e)
-
-abbrev pub are_all : List Cover → List ℕ → ℕ → Bool
-are_all covers members e = list_all (λ n. list_any (is_cover n e) covers) members
-
--- complete, as this ready member's cover shows
-abbrev pub shows_complete : (ℕ → List ℕ) → List Cover → Cover → Bool
-shows_complete V covers c = c.ready && (nat_le 1 c.epoch && (is_in c.node.0 (V c.epoch) && are_all covers (V c.epoch) c.epoch))
-
-abbrev pub are_complete : (ℕ → List ℕ) → List Cover → Bool
-are_complete V covers = list_any (shows_complete V covers) covers
+abbrev pub is_complete : Evidence → Bool
+is_complete E.Complete = true
+is_complete (Covers groups) = false
 
 abbrev pub update_entry : Bool → ℕ → Option CallNo → List Entry
 update_entry complete s None = []
@@ -125,8 +143,8 @@ abbrev pub look_entry : CallNo → Entry
 look_entry call = record { call = call; tag = None }
 
 -- the update of a stamp, if it is complete, and the calls that found it
-abbrev pub entries_at : (ℕ → List ℕ) → ℕ × AtStamp → List Entry
-entries_at V p = update_entry (are_complete V p.1.covers) p.0 p.1.update ++ map look_entry p.1.looks
+abbrev pub entries_at : ℕ × AtStamp → List Entry
+entries_at p = update_entry (is_complete p.1.evidence) p.0 p.1.update ++ map look_entry p.1.looks
 
-abbrev pub kept_order : (ℕ → List ℕ) → KeyState → List Entry
-kept_order V k = flat_map (entries_at V) k.stamps
+abbrev pub kept_order : KeyState → List Entry
+kept_order k = flat_map entries_at k.stamps

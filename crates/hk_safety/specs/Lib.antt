@@ -1,6 +1,6 @@
 pub mod Run
 pub mod Push
 pub mod Kept
+pub mod Shows
 pub mod Noted
 pub mod Grown
-pub mod Groups

@@ -2,18 +2,23 @@
 
 ghost use Rattle.std.specs.Prelude.{◌≡◌, ◌++◌, ◌∷◌, [], OnOk};
 ghost use Rattle.std.specs.Option.{option_copied};
-ghost use Rattle.std.specs.List.{AllByRecursion};
+ghost use Rattle.std.specs.List.{find, AllByRecursion};
 ghost use Rattle.hk_base.specs.Range.{IsLetter};
+ghost use Rattle.hk_base.specs.Stamp.{tag_of};
+ghost use Rattle.hk_node.specs.Rows.{row_at};
+ghost use Rattle.hk_node.specs.Sound.{IsNode};
 ghost use Rattle.hk_world.specs.World.{numbered};
 ghost use Rattle.hk_world.specs.Sound.{IsEvent, IsWorld};
 ghost use Rattle.hk_safety.specs.Kept.{called_from};
-ghost use Rattle.hk_safety.specs.Grown.{IsStepMade, is_answer, IsNamed, AreTold, lines_at, IsCallKept, IsKeptAfter};
+ghost use Rattle.hk_effects.specs.View.{key_node, node_at, is_same_key};
+ghost use Rattle.hk_safety.specs.Grown.{IsStepMade, is_answer, IsNamed, AreTold, IsFormer, AreFormer, former_tag, is_new, IsCallKept, IsKeptAfter};
+ghost use Rattle.hk_safety.specs.Shows.{lines_at};
 
-use crate::before::{Before, actor_of, note_before, tag_at};
 use crate::cover::cover_event;
 use crate::key_run::{KeyRun, Turn};
 use hk_base::{Answer, CallNo, Key, Memory, NodeId, Op, Reply};
-use hk_world::{Event, Refused, Shown, World, WorldFault};
+use hk_node::{Former, Node};
+use hk_world::{Acted, Event, Refused, Shown, World, WorldFault};
 use std::alloc::Global;
 use std::collections::BTreeMap;
 use std::marker::Model;
@@ -76,6 +81,57 @@ fn is_answer(replies: &[Reply]) -> bool
     }
 }
 
+// The tag of the key's row at the node, 0 where there is none.
+fn row_tag(node: &Node, key: &Key) -> u64
+    requires { IsNode node.now }
+    ensures { result ≡ tag_of (row_at key.now node.now.rows).stamp }
+{
+    match node.row(key) {
+        Some(row) => row.stamp.tag(),
+        None => 0,
+    }
+}
+
+fn tag_at(world: &World, id: NodeId, key: &Key) -> u64
+    requires { IsWorld world.now }
+    ensures { result ≡ (key_node key.now (node_at id.0 world.now.processes)).stamp }
+{
+    match world.node(id) {
+        Some(node) => row_tag(node, key),
+        None => 0,
+    }
+}
+
+fn former_tag(former: &Former) -> u64
+    requires { IsFormer former.now }
+    ensures { result ≡ former_tag former.now.row }
+{
+    match &former.row {
+        Some(row) => row.stamp.tag(),
+        None => 0,
+    }
+}
+
+fn find_former<'a>(rows: &'a [Former], key: &Key) -> Option<&'a Former>
+    ensures { option_copied result ≡ find (λ f. is_same_key key.now f.key) rows.now }
+{
+    rows.iter().find(|former| key.cmp(&former.key).is_eq())
+}
+
+// Whether the row of the key had another tag before the event.
+fn is_new(acted: &Option<Acted>, key: &Key, tag: u64) -> bool
+    requires { AreFormer acted.now }
+    ensures { result ≡ is_new acted.now key.now tag }
+{
+    let Some(acted) = acted else {
+        return false;
+    };
+    match find_former(acted.report.rows.as_slice(), key) {
+        Some(former) => tag != former_tag(former),
+        None => false,
+    }
+}
+
 // The call stands in the items of its key, which is kept from then on.
 fn put_call(
     keys: &mut BTreeMap<Key, KeyRun>,
@@ -128,22 +184,22 @@ fn put_event(
     calls: &mut Vec<Key>,
     alloc: Global,
     world: &World,
-    id: NodeId,
     event: &Event,
-    before: &Before,
     shown: &Shown,
 ) -> Result<(), Memory>
-    requires { IsWorld world.now }
-    ensures call { OnOk result (IsCallKept keys.old.entries keys.new.entries world.now id.0 event.now before.now shown.now) }
+    requires sound { IsWorld world.now }
+    requires rows { AreFormer shown.now.acted }
+    ensures call { OnOk result (IsCallKept keys.old.entries keys.new.entries world.now event.now shown.now) }
     ensures calls { OnOk result (calls.new.items ≡ calls.old.items ++ called_from (event.now ∷ [])) }
 {
-    let Event::Call { key, op, .. } = event else {
+    let Event::Call { node, key, op } = event else {
         return Ok(());
     };
+    let tag = tag_at(world, *node, key);
     let turn = Turn {
         call: CallNo(world.calls()),
-        was: before.tag,
-        tag: tag_at(world, id, key),
+        began: is_new(&shown.acted, key, tag),
+        tag,
         answered: is_answer(shown.replies.as_slice()),
     };
     put_call(keys, alloc, key, turn, op)?;
@@ -156,30 +212,22 @@ impl Kept {
     ghost use Rattle.hk_safety.specs.Noted.{MayMake, IsMadeBy};
 
     // What an accepted event showed, by the world behind it.
-    fn keep(
-        &mut self,
-        alloc: Global,
-        id: NodeId,
-        event: &Event,
-        before: &Before,
-        shown: &Shown,
-    ) -> Result<(), Memory>
+    fn keep(&mut self, alloc: Global, event: &Event, shown: &Shown) -> Result<(), Memory>
         requires sound { IsWorld self.old.world }
+        requires rows { AreFormer shown.now.acted }
         requires letters { AllByRecursion IsLetter shown.now.letters }
-        ensures { OnOk result (IsKeptAfter self.old self.new id.0 event.now before.now shown.now) }
+        ensures { OnOk result (IsKeptAfter self.old self.new event.now shown.now) }
     {
         put_event(
             &mut self.keys,
             &mut self.calls,
             alloc,
             &self.world,
-            id,
             event,
-            before,
             shown,
         )?;
         put_replies(&mut self.keys, &self.calls, shown.replies.as_slice())?;
-        cover_event(&mut self.keys, alloc, &self.world, id, event, before, shown)
+        cover_event(&mut self.keys, alloc, &self.world, shown)
     }
 
     /// Makes an event, and keeps what it showed.
@@ -187,17 +235,11 @@ impl Kept {
         requires { MayMake self.old event.now }
         ensures { IsMadeBy result self.old self.new event.now }
     {
-        let Some(id) = actor_of(&self.world, event) else {
-            return step(&mut self.world, alloc, event);
-        };
-        let Ok(before) = note_before(alloc, &self.world, id, &self.keys, event) else {
-            return Err(Unmade::Memory);
-        };
         let shown = match step(&mut self.world, alloc, event) {
             Ok(shown) => shown,
             Err(unmade) => return Err(unmade),
         };
-        match self.keep(alloc, id, event, &before, &shown) {
+        match self.keep(alloc, event, &shown) {
             Ok(()) => Ok(shown),
             Err(Memory) => Err(Unmade::Lost),
         }

@@ -1,26 +1,15 @@
 //! What a run keeps of one key.
 
-ghost use Rattle.std.specs.Prelude.{◌≡◌, ◌∷◌, [], OnOk, true, not, ◌==◌};
-ghost use Rattle.hk_register.specs.Machine.{In};
+ghost use Rattle.std.specs.Prelude.{◌≡◌, ◌∷◌, [], OnOk};
 ghost use Rattle.hk_safety.specs.Kept.{first_key, no_stamp};
 ghost use Rattle.hk_safety.specs.Grown.{IsCoveredAt, IsBegunAt, IsLookedAt, IsTurned};
 
-use hk_base::{CallNo, Memory, NodeId, Op, Reply, Sequence};
+use crate::evidence::{Cover, Evidence};
+use hk_base::{CallNo, Memory, Op, Reply, Sequence, View};
 use hk_history::{Event, Items};
 use std::alloc::Global;
 use std::collections::BTreeMap;
 use std::marker::Model;
-
-/// That a node covered a stamp in an epoch, and whether it was ready then.
-#[derive(Clone, Copy, Debug, PartialEq, Eq)]
-pub struct Cover {
-    pub node: NodeId,
-    pub epoch: u64,
-    pub ready: bool,
-}
-
-/// Covers, each of them once.
-pub type Covers = Sequence<Cover>;
 
 /// Calls by their numbers, the first one first.
 pub type Calls = Sequence<CallNo>;
@@ -30,17 +19,17 @@ pub type Calls = Sequence<CallNo>;
 pub struct AtStamp {
     /// The call that began the update of this stamp.
     pub update: Option<CallNo>,
-    /// Who covered the stamp.
-    pub covers: Covers,
+    /// Whether that update is complete, or who covered the stamp so far.
+    pub evidence: Evidence,
     /// The calls that found the stamp and changed nothing, in the order of their replies.
     pub looks: Calls,
 }
 
-/// What a call made of the row of its key: the row's tags before and after it, and whether it was answered, and not refused.
+/// What a call made of the row of its key: whether it began an update, the row's tag after it, and whether it was answered, and not refused.
 #[derive(Clone, Copy, Debug, PartialEq, Eq)]
 pub struct Turn {
     pub call: CallNo,
-    pub was: u64,
+    pub began: bool,
     pub tag: u64,
     pub answered: bool,
 }
@@ -60,67 +49,33 @@ impl Model for KeyRun {
     ghost view = { λ k. record { items = k.items; stamps = k.stamps.entries } };
 }
 
-fn stands_at(covers: &[Cover], index: usize, cover: Cover) -> bool
-    ensures { result ≡ true → In covers.now cover }
-{
-    match covers.get(index) {
-        Some(other) => *other == cover,
-        None => false,
-    }
-}
-
-// Whether the last cover of this node is this one. A node's epoch never falls, and it is ready for good: an earlier cover never comes again.
-fn has_cover(covers: &[Cover], cover: Cover) -> bool
-    ensures { result ≡ true → In covers.now cover }
-{
-    for back in 0..covers.len() {
-        let index = covers.len() - 1 - back;
-        if covers[index].node == cover.node {
-            return stands_at(covers, index, cover);
-        }
-    }
-    false
-}
-
 impl AtStamp {
-    ghost use Rattle.hk_safety.specs.Grown.{HasCover};
-
     fn new(alloc: Global) -> AtStamp
         ensures { result ≡ no_stamp }
     {
         AtStamp {
             update: None,
-            covers: Covers::new(alloc),
+            evidence: Evidence::new(alloc),
             looks: Calls::new(alloc),
         }
     }
-
-    // Adds a cover, unless it is there.
-    fn cover(&mut self, cover: Cover) -> Result<(), Memory>
-        ensures { OnOk result (HasCover self.old self.new cover) }
-    {
-        if has_cover(self.covers.as_slice(), cover) {
-            return Ok(());
-        }
-        self.covers.push(cover)?;
-        Ok(())
-    }
 }
 
-// A cover at one stamp, which is kept from then on.
+// A cover of one stamp, which is kept from then on.
 fn cover_stamp(
     stamps: &mut BTreeMap<u64, AtStamp>,
     alloc: Global,
     tag: u64,
+    view: &View,
     cover: Cover,
 ) -> Result<(), Memory>
-    ensures { OnOk result (IsCoveredAt stamps.old.entries stamps.new.entries tag cover) }
+    ensures { OnOk result (IsCoveredAt stamps.old.entries stamps.new.entries tag view.now cover) }
 {
     if let Some(at) = stamps.get_mut(&tag) {
-        return at.cover(cover);
+        return at.evidence.add(alloc, view, cover);
     }
     let mut at = AtStamp::new(alloc);
-    at.cover(cover)?;
+    at.evidence.add(alloc, view, cover)?;
     stamps.insert(tag, at)?;
     Ok(())
 }
@@ -164,9 +119,9 @@ fn look_stamp(
 
 // What a call made of the stamps: it began an update, or looked, or was refused.
 fn turn_stamps(stamps: &mut BTreeMap<u64, AtStamp>, alloc: Global, turn: Turn) -> Result<(), Memory>
-    ensures { OnOk result (IsTurned (not (turn.tag == turn.was)) turn.answered stamps.old.entries stamps.new.entries turn.tag turn.call) }
+    ensures { OnOk result (IsTurned turn.began turn.answered stamps.old.entries stamps.new.entries turn.tag turn.call) }
 {
-    if turn.tag != turn.was {
+    if turn.began {
         return begin_stamp(stamps, alloc, turn.tag, turn.call);
     }
     if turn.answered {
@@ -176,7 +131,8 @@ fn turn_stamps(stamps: &mut BTreeMap<u64, AtStamp>, alloc: Global, turn: Turn) -
 }
 
 impl KeyRun {
-    ghost use Rattle.hk_safety.specs.Grown.{IsCovered, IsTaken, mark_by, reply_line, with_lines};
+    ghost use Rattle.hk_safety.specs.Grown.{IsCovered, IsTaken, with_lines};
+    ghost use Rattle.hk_safety.specs.Shows.{reply_line};
 
     /// A key that no call named.
     pub(crate) fn new(alloc: Global) -> KeyRun
@@ -188,14 +144,20 @@ impl KeyRun {
         }
     }
 
-    /// A node covered the stamp of this tag. The stamp of no update is passed over.
-    pub(crate) fn cover(&mut self, alloc: Global, tag: u64, cover: Cover) -> Result<(), Memory>
-        ensures { OnOk result (IsCovered self.old self.new (mark_by cover tag ∷ [])) }
+    /// A member of this view covers the stamp of this tag. The stamp of no update is passed over.
+    pub(crate) fn cover(
+        &mut self,
+        alloc: Global,
+        tag: u64,
+        view: &View,
+        cover: Cover,
+    ) -> Result<(), Memory>
+        ensures { OnOk result (IsCovered view.now cover self.old self.new (tag ∷ [])) }
     {
         if tag == 0 {
             return Ok(());
         }
-        cover_stamp(&mut self.stamps, alloc, tag, cover)
+        cover_stamp(&mut self.stamps, alloc, tag, view, cover)
     }
 
     /// A call on the key.

@@ -1,16 +1,15 @@
 //! Runs of a world, and the order that is printed of each key.
 //!
 //! A [`Run`] is a header and the events that its world accepted. Beside its events it keeps the present world and, for each key that a call
-//! named, the key's history and, by stamp, its update, who covered it and the calls that found it. So [`Run::history`] and
+//! named, the key's history and, by stamp, its update, whether that is complete or who covered it so far, and the calls that found it. So [`Run::history`] and
 //! [`order_of`] read what is kept, and never make the events again.
 //!
 //! The order of every run is legal: that is a clause of [`order_of`] and the law [`runs_are_legal`]. It rests on the laws of the register
 //! and on the law that each event is effects of it, and on nothing of what an event does.
 #![tactic(auto)]
 
-mod before;
 mod cover;
-mod groups;
+mod evidence;
 mod kept;
 mod key_run;
 mod laws;
@@ -18,6 +17,6 @@ mod order;
 mod reading;
 mod run;
 
-pub use laws::runs_are_legal;
+pub use laws::{histories_are_histories, runs_are_legal};
 pub use order::order_of;
 pub use run::{Keys, Run};

@@ -20,7 +20,7 @@ pub fn order_of(alloc: Global, run: &Run, key: &Key) -> Result<Entries, Memory>
     runs_keep_parts();
     let kept = run.kept()?;
     match kept.keys.get(key) {
-        Some(key_run) => key_run.order(alloc, &kept.world),
+        Some(key_run) => key_run.order(alloc),
         None => Ok(Entries::new(alloc)),
     }
 }

@@ -1,5 +1,5 @@
 use Rattle.std.proofs.Common.{ℕ, ◌+◌, List, take, ◌∷◌, []}
-use Rattle.hk_safety.specs.Grown.{lines_at}
+use Rattle.hk_safety.specs.Shows.{lines_at}
 use Rattle.hk_safety.proofs.Answering.{told_joined, lines_turn}
 use Rattle.hk_safety.proofs.kept.put_replies.Goals as goal
 

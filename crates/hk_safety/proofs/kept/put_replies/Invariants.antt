@@ -1,5 +1,6 @@
 use Rattle.std.proofs.Common.{take}
-use Rattle.hk_safety.specs.Grown.{AreTold, lines_at}
+use Rattle.hk_safety.specs.Grown.{AreTold}
+use Rattle.hk_safety.specs.Shows.{lines_at}
 use Rattle.hk_safety.proofs.kept.put_replies.Given as goal
 
 -- the replies so far are told

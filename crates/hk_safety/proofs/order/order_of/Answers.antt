@@ -1,6 +1,4 @@
-use Rattle.std.proofs.Common.{rules, ◌≡◌, Some, None, ◌∙◌, ap}
-use Rattle.hk_world.specs.World.{WorldState}
-use Rattle.hk_effects.specs.Orders.{family}
+use Rattle.std.proofs.Common.{rules, ◌≡◌, Some, None, ◌∙◌}
 use Rattle.hk_safety.specs.Run.{printed}
 use Rattle.hk_safety.specs.Kept.{KeptState, KeyState, find_key, kept_order}
 use Rattle.hk_safety.proofs.Asked.{answer_is, order_found, order_unfound}
@@ -11,11 +9,8 @@ returns-in-Some-clause-exact c =
     let k : KeptState = c.in_ok-kept.kept.now in
     let state : KeyState = c.in-Some.key_run.now in
     let found : find_key c.args.key.now k.keys ≡ Some state = search rules in
-    let world : c.kept-2.inside.world ≡ k.world = search rules in
-    let same : kept_order (family k.world.views) state ≡ printed c.args.run.now c.args.key.now =
-    order_found k c.args.run.now c.in_ok-kept.ensures.kept c.args.key.now c.runs_keep_parts.ensures c.in_ok-kept.ensures.run state found c.order.ensures.ordered in
-    answer_is c.order.result (kept_order (family c.kept-2.inside.world.views) state) (printed c.args.run.now c.args.key.now) c.order.ensures.exact
-    (ap (λ (w : WorldState). kept_order (family w.views) state) world ∙ same)
+    answer_is c.order.result (kept_order state) (printed c.args.run.now c.args.key.now) c.order.ensures.exact
+    (order_found k c.args.run.now c.in_ok-kept.ensures.kept c.args.key.now c.runs_keep_parts.ensures c.in_ok-kept.ensures.run state found c.order.ensures.ordered)
 
 pub returns-in-None-clause-exact : goal.returns-in-None-clause-exact
 returns-in-None-clause-exact c =

@@ -1,7 +1,6 @@
 use Rattle.std.proofs.Common.{subst}
 use Rattle.hk_safety.specs.Kept.{KeptState}
-use Rattle.hk_safety.specs.Grown.{AreCovered, IsKeptAfter, event_marks}
-use Rattle.hk_effects.specs.View.{node_at}
+use Rattle.hk_safety.specs.Grown.{AreTouchedAt, IsKeptAfter}
 use Rattle.hk_safety.proofs.Puts.{on_ok}
 use Rattle.hk_safety.proofs.Making.{kept_after}
 use Rattle.hk_safety.proofs.kept.Kept.keep.Goals as goal
@@ -10,11 +9,10 @@ pub returns : goal.returns
 returns c =
     let old : KeptState = record { world = c.self.inside.world; keys = c.self.inside.keys.entries; calls = c.self.inside.calls.items } in
     let new : KeptState = record { world = c.self.inside.world; keys = c.cover_event.new.keys.entries; calls = c.put_event.new.calls.items } in
-    let kept : AreCovered c.put_replies.new.keys.entries c.cover_event.new.keys.entries
-    (event_marks old.world c.args.id.0 (node_at c.args.id.0 old.world.processes) c.args.event.now c.args.before.now c.args.shown.now) →
-    IsKeptAfter c.args.self.now new c.args.id.0 c.args.event.now c.args.before.now c.args.shown.now =
-    λ covered. subst (λ (k : KeptState). IsKeptAfter k new c.args.id.0 c.args.event.now c.args.before.now c.args.shown.now) c.self.view_is
-    (kept_after old new c.put_event.new.keys.entries c.put_replies.new.keys.entries c.deref.result.now c.as_slice.result.now c.args.id.0
-    c.args.event.now c.args.before.now c.args.shown.now
+    let kept : AreTouchedAt c.args.shown.now.acted c.put_replies.new.keys.entries c.cover_event.new.keys.entries old.world c.args.shown.now.letters →
+    IsKeptAfter c.args.self.now new c.args.event.now c.args.shown.now =
+    λ covered. subst (λ (k : KeptState). IsKeptAfter k new c.args.event.now c.args.shown.now) c.self.view_is
+    (kept_after old new c.put_event.new.keys.entries c.put_replies.new.keys.entries c.deref.result.now c.as_slice.result.now
+    c.args.event.now c.args.shown.now
     c.in_ok-put_event.ensures.call c.in_ok-put_event.ensures.calls c.deref.ensures.value c.as_slice.ensures c.in_ok-put_replies.ensures covered) in
     on_ok c.cover_event.result kept c.cover_event.ensures
