@@ -8,12 +8,27 @@ use std::process::ExitCode;
 use std::sync::Arc;
 use std::{env, io};
 
+// The words behind the program's name. A word that is no text is in no command: then there are none.
+fn words(rt: &HostRuntime) -> io::Result<Vec<String>> {
+    let mut words = Vec::new(rt.alloc());
+    match env::args(rt) {
+        Ok(all) => {
+            for word in all.skip(1) {
+                words.push(word)?;
+            }
+        }
+        Err(error) => {
+            if error.kind() != io::ErrorKind::InvalidData {
+                return Err(error);
+            }
+        }
+    }
+    Ok(words)
+}
+
 fn main(rt: HostRuntime) -> io::Result<ExitCode> {
     let alloc = rt.alloc();
-    let mut words = Vec::new(alloc);
-    for word in env::args(&rt)?.skip(1) {
-        words.push(word)?;
-    }
+    let words = words(&rt)?;
     let mut source = ReaderSource::new(rt.reader());
     let mut sink = WriterSink::new(io::writer(&rt));
     let clock = Arc::new(alloc, HandClock { at: 1 })?;

@@ -1,23 +1,82 @@
 //! The top call.
 
-ghost use Rattle.std.specs.Prelude.{◌≡◌, ◌↔◌, ◌⊎◌, true, false, IfSome};
+ghost use Rattle.std.specs.Prelude.{◌≡◌, ◌⊎◌, ℕ, ◌≤◌, take, Some, None, IfSome};
+ghost use Rattle.std.specs.Io.KnownBytes.{Appends};
 ghost use Rattle.hk_outside.specs.Causes.{Rose, Stayed};
 ghost use Rattle.hk_drill.specs.Transcript.{transcript};
-ghost use Rattle.hk_drill.specs.Drilled.{IsDone, IsFront};
-ghost use Rattle.hk_cli.specs.Words.{is_drill};
+ghost use Rattle.hk_drill.specs.Drilled.{AllLegal, IsDone, IsFront};
+ghost use Rattle.hk_drill.specs.Generated.{generated, summary};
+ghost use Rattle.hk_cli.specs.declared.words.Command.{Command as CommandOf};
+ghost use Rattle.hk_cli.specs.declared.words.Command.TheVariants.{Drill, Generate};
+ghost use Rattle.hk_cli.specs.Words.{IsCommand};
+ghost use Rattle.hk_cli.specs.Commands.{texts, IsNoCommand, usage_line, MayEnd, IsInRange};
 
-use crate::words::is_drill;
-use hk_drill::drill;
-use hk_outside::{Clock, Doors, Sink, Source, Spawner, Status};
+use crate::words::{Command, read_command};
+use hk_drill::{drill, generate_run};
+use hk_outside::{Clock, Doors, Sink, Source, Spawner, Status, write_all};
 use std::alloc::Global;
 use std::sync::{Arc, Wait};
 use std::thread::Threads;
 
+// Writes the line that tells the commands.
+fn tell_usage<K: Sink>(sink: &mut K) -> Status
+    ensures told { result ≡ Status.Usage → Appends (K.held sink.old) (K.held sink.new) usage_line }
+    ensures front { (n : ℕ) × Appends (K.held sink.old) (K.held sink.new) (take n usage_line) }
+    ensures ends { (result ≡ Status.Usage) ⊎ (result ≡ Status.WriteFault) }
+    ensures failed { result ≡ Status.WriteFault → Rose (K.faults sink.old) (K.faults sink.new) }
+{
+    match write_all(sink, b"usage: hermes drill | generate | storm | serve\n") {
+        Ok(()) => Status::Usage,
+        Err(_) => Status::WriteFault,
+    }
+}
+
+// Does what a command says.
+fn perform<S: Source, K: Sink>(
+    alloc: Global,
+    command: Option<Command>,
+    source: &mut S,
+    sink: &mut K,
+) -> Status
+    requires { IsInRange command }
+    ensures usage { result ≡ Status.Usage → (command ≡ None) × (source.new ≡ source.old) × Appends (K.held sink.old) (K.held sink.new) usage_line }
+    ensures no_command { command ≡ None → ((result ≡ Status.Usage) ⊎ (result ≡ Status.WriteFault)) × (source.new ≡ source.old) × ((n : ℕ) × Appends (K.held sink.old) (K.held sink.new) (take n usage_line)) }
+    ensures statuses { IfSome command (λ c. MayEnd c result) }
+    ensures done { command ≡ Some Drill → result ≡ Status.Done → IsDone Status.Done (S.left source.old) (S.left source.new) (K.held sink.old) (K.held sink.new) }
+    ensures bad_line { result ≡ Status.BadLine → IsDone Status.BadLine (S.left source.old) (S.left source.new) (K.held sink.old) (K.held sink.new) }
+    ensures too_long { result ≡ Status.TooLong → IsDone Status.TooLong (S.left source.old) (S.left source.new) (K.held sink.old) (K.held sink.new) }
+    ensures front { command ≡ Some Drill → IsFront (S.left source.old) (K.held sink.old) (K.held sink.new) }
+    ensures exact { command ≡ Some Drill → Stayed (S.faults source.old) (S.faults source.new) → Stayed (K.faults sink.old) (K.faults sink.new)
+        → IfSome (S.left source.old) (λ input. (result ≡ (transcript input).status) ⊎ (result ≡ Status.Memory)) }
+    ensures written { (start count nodes : ℕ) → command ≡ Some (Generate start count nodes) → result ≡ Status.Done
+        → Appends (K.held sink.old) (K.held sink.new) (summary start count nodes) }
+    ensures legal { (start count nodes : ℕ) → command ≡ Some (Generate start count nodes) → AllLegal (generated start count nodes).run }
+    ensures part { (start count nodes : ℕ) → command ≡ Some (Generate start count nodes)
+        → (source.new ≡ source.old) × ((n : ℕ) × Appends (K.held sink.old) (K.held sink.new) (take n (summary start count nodes))) }
+    ensures read_fault { result ≡ Status.ReadFault → Rose (S.faults source.old) (S.faults source.new) }
+    ensures write_fault { result ≡ Status.WriteFault → Rose (K.faults sink.old) (K.faults sink.new) }
+{
+    match command {
+        Some(Command::Drill) => drill(alloc, source, sink),
+        Some(
+            Command::Generate {
+                start,
+                count,
+                nodes,
+            },
+        ) => generate_run(alloc, start, count, nodes, sink),
+        None => tell_usage(sink),
+    }
+}
+
 /// Does what the words of a command say, and answers the status that the process ends with.
 ///
-/// The one command is the single word `drill`: it reads a script to its end and writes its transcript. A script is the header of a group
-/// without managers, and the events of its world: calls, letters that are taken, clocks, crashes, views, leases and copies. For all other
-/// words the status is Usage. The clock, the doors, the spawner and the runtime value are not touched.
+/// - `drill` reads a script to its end and writes its transcript. A script is the header of a group without managers, and the events of
+///   its world: calls, letters that are taken, clocks, crashes, views, leases and copies.
+/// - `generate --start S --count C --nodes N` makes a run of C events of N nodes that is drawn from the number S, and writes its summary.
+///
+/// For all other words one line is written, which tells the commands, and the status is Usage. The clock, the doors, the spawner and the
+/// runtime value are not touched.
 pub fn hermes<
     R: Threads + Wait + Copy + Send + Sync + 'static,
     S: Source,
@@ -35,12 +94,16 @@ pub fn hermes<
     _doors: &mut D,
     _spawner: &mut P,
 ) -> Status
-    ensures usage { (result ≡ Status.Usage) ↔ (is_drill words.now ≡ false) }
-    ensures usage_touches_nothing { result ≡ Status.Usage → (source.new ≡ source.old) × (sink.new ≡ sink.old) }
+    // Usage comes exactly where the words are no command's, unless writing the line failed; nothing is read then.
+    ensures usage { result ≡ Status.Usage → IsNoCommand (texts words.now) × (source.new ≡ source.old) × Appends (K.held sink.old) (K.held sink.new) usage_line }
+    ensures no_command { IsNoCommand (texts words.now) → ((result ≡ Status.Usage) ⊎ (result ≡ Status.WriteFault)) × (source.new ≡ source.old) × ((n : ℕ) × Appends (K.held sink.old) (K.held sink.new) (take n usage_line)) }
+
+    // Each command ends with its own statuses.
+    ensures statuses { (command : CommandOf) → IsCommand command (texts words.now) → MayEnd command result }
 
     // A drill that is done has read its source to the end and written the transcript of what it read, and the order
     // that it printed for each key is legal for the history that it printed.
-    ensures done { result ≡ Status.Done → IsDone Status.Done (S.left source.old) (S.left source.new) (K.held sink.old) (K.held sink.new) }
+    ensures done { IsCommand Drill (texts words.now) → result ≡ Status.Done → IsDone Status.Done (S.left source.old) (S.left source.new) (K.held sink.old) (K.held sink.new) }
 
     // One that met a line outside the grammar has written what the events before it showed, and the stop line that names it.
     ensures bad_line { result ≡ Status.BadLine → IsDone Status.BadLine (S.left source.old) (S.left source.new) (K.held sink.old) (K.held sink.new) }
@@ -48,20 +111,25 @@ pub fn hermes<
     // So has one that met a line that passes a limit: too long, too many, or with an event that would send too many letters.
     ensures too_long { result ≡ Status.TooLong → IsDone Status.TooLong (S.left source.old) (S.left source.new) (K.held sink.old) (K.held sink.new) }
 
-    // Whatever the answer, what was written is a front of the transcript.
-    ensures front { IsFront (S.left source.old) (K.held sink.old) (K.held sink.new) }
+    // Whatever the answer, what a drill wrote is a front of the transcript.
+    ensures front { IsCommand Drill (texts words.now) → IsFront (S.left source.old) (K.held sink.old) (K.held sink.new) }
+
+    // Where no count of faults rose, a drill ends as the transcript says, unless memory ran out.
+    ensures exact { IsCommand Drill (texts words.now) → Stayed (S.faults source.old) (S.faults source.new) → Stayed (K.faults sink.old) (K.faults sink.new)
+        → IfSome (S.left source.old) (λ input. (result ≡ (transcript input).status) ⊎ (result ≡ Status.Memory)) }
+
+    // A run that was generated is told by its summary, and the order of each key is legal.
+    ensures written { (start count nodes : ℕ) → IsCommand (Generate start count nodes) (texts words.now) → result ≡ Status.Done
+        → Appends (K.held sink.old) (K.held sink.new) (summary start count nodes) }
+    ensures legal { (start count nodes : ℕ) → IsCommand (Generate start count nodes) (texts words.now) → AllLegal (generated start count nodes).run }
+
+    // Whatever the answer, what was written is a front of the summary, and nothing was read.
+    ensures part { (start count nodes : ℕ) → IsCommand (Generate start count nodes) (texts words.now)
+        → (source.new ≡ source.old) × ((n : ℕ) × Appends (K.held sink.old) (K.held sink.new) (take n (summary start count nodes))) }
 
     // A fault is the outside's.
     ensures read_fault { result ≡ Status.ReadFault → Rose (S.faults source.old) (S.faults source.new) }
     ensures write_fault { result ≡ Status.WriteFault → Rose (K.faults sink.old) (K.faults sink.new) }
-
-    // Where no count of faults rose, a drill ends as the transcript says, unless memory ran out.
-    ensures exact { is_drill words.now ≡ true → Stayed (S.faults source.old) (S.faults source.new) → Stayed (K.faults sink.old) (K.faults sink.new)
-        → IfSome (S.left source.old) (λ input. (result ≡ (transcript input).status) ⊎ (result ≡ Status.Memory)) }
 {
-    if is_drill(words) {
-        drill(alloc, source, sink)
-    } else {
-        Status::Usage
-    }
+    perform(alloc, read_command(words), source, sink)
 }

@@ -1,14 +1,84 @@
 //! The words of a command.
 
-ghost use Rattle.std.specs.Prelude.{◌≡◌};
-ghost use Rattle.hk_cli.specs.Words.{is_drill};
+ghost use Rattle.std.specs.Prelude.{◌≡◌, ◌≤◌, map, length, string_bytes, IfSome};
+ghost use Rattle.hk_cli.specs.Words.{IsCommandRead};
+ghost use Rattle.hk_cli.specs.Options.{command_of, generate_of, option_is, option_count, ranged, value_of};
 
-/// Whether the words are the single word `drill`.
-pub fn is_drill(words: &[String]) -> bool
-    ensures { result ≡ is_drill words.now }
+use crate::options::{option_count, value_of};
+
+/// What the program is to do.
+#[derive(Clone, Copy, Debug, PartialEq, Eq)]
+pub enum Command {
+    /// Read a script, and write its transcript.
+    Drill,
+    /// Make a run of so many events of so many nodes, drawn from a number, and write its summary.
+    Generate { start: u64, count: u32, nodes: u8 },
+}
+
+// Whether the words are three options, and so not more than each of them once.
+fn are_options(words: &[String], count: usize) -> bool
+    ensures { result ≡ option_is count (option_count (length words.now) (map (λ w. string_bytes w) words.now)) }
 {
-    match words {
-        [word] => word.as_str() == "drill",
-        _ => false,
+    match option_count(words) {
+        Some(n) => n == count,
+        None => false,
     }
+}
+
+// The value of the option of this name, in its range.
+#[tactic(auto, unfolding(crate::specs::Options::ranged))]
+fn ranged(words: &[String], name: &[u8], least: u64, most: u64) -> Option<u64>
+    ensures value { result ≡ ranged least most (value_of name.now (length words.now) (map (λ w. string_bytes w) words.now)) }
+    ensures within { IfSome result (λ n. n ≤ most) }
+{
+    let n = value_of(words, name)?;
+    if n < least {
+        return None;
+    }
+    if n > most {
+        return None;
+    }
+    Some(n)
+}
+
+#[tactic(auto, unfolding(crate::specs::Options::generate_of))]
+fn read_generate(words: &[String]) -> Option<Command>
+    ensures { result ≡ generate_of (map (λ w. string_bytes w) words.now) }
+{
+    if !are_options(words, 3) {
+        return None;
+    }
+    let start = value_of(words, b"start")?;
+    let count = ranged(words, b"count", 1, 100_000)?;
+    let nodes = ranged(words, b"nodes", 1, 16)?;
+    Some(Command::Generate {
+        start,
+        count: count as u32,
+        nodes: nodes as u8,
+    })
+}
+
+#[tactic(auto, unfolding(crate::specs::Options::command_of))]
+fn read(words: &[String]) -> Option<Command>
+    ensures { result ≡ command_of (map (λ w. string_bytes w) words.now) }
+{
+    let (name, words) = words.split_first()?;
+    match name.as_str() {
+        "drill" => {
+            if words.is_empty() {
+                Some(Command::Drill)
+            } else {
+                None
+            }
+        }
+        "generate" => read_generate(words),
+        _ => None,
+    }
+}
+
+/// The command that words are; none where they are no command's.
+pub fn read_command(words: &[String]) -> Option<Command>
+    ensures { IsCommandRead result (map (λ w. string_bytes w) words.now) }
+{
+    read(words)
 }

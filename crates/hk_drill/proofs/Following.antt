@@ -1,5 +1,5 @@
 -- How following lines goes on from one line to the next.
-use Rattle.std.proofs.Common.{◌≡◌, ℕ, ◌+◌, ◌<◌, List, [], ◌∷◌, length, map, drop, get_or, Bool, true, false, Option, Some, None, Result, Ok, Err, ◌⊎◌, if◌then◌else◌, refl, sym, ap, ◌∙◌, inl, inr}
+use Rattle.std.proofs.Common.{◌≡◌, ℕ, ◌+◌, ◌<◌, List, [], ◌∷◌, length, map, drop, get_or, Bool, true, false, Option, Some, None, Result, Ok, Err, ◌⊎◌, if◌then◌else◌, IfOk, refl, sym, ap, subst, ◌∙◌, inl, inr}
 use Rattle.std.proofs.lemmas.List.{at_drop_more}
 use Rattle.hk_outside.specs.declared.status.Status.{Status}
 use Rattle.hk_outside.specs.declared.status.Status.TheVariants.{Done, BadLine, TooLong}
@@ -8,6 +8,8 @@ use Rattle.hk_drill.specs.declared.stop.Stop.{Stop}
 use Rattle.hk_drill.specs.declared.stop.Stop.TheVariants.{Bad, Long, Lines, Letters}
 use Rattle.hk_drill.specs.Transcript.{Course, Followed, line_at, limit_at, is_skipped, stopped, follow, follow_under, script_from, status_of, written}
 use Rattle.hk_drill.specs.Taken.{IsTaken, IsFollowed, told}
+use Rattle.hk_drill.specs.declared.script.Written.{Written}
+use Rattle.hk_drill.specs.Drilled.{EndsDrill}
 
 -- ---- one line
 abbrev pub go_on : ℕ → Course → List (List ℕ) → Result Course Stop → Followed
@@ -91,3 +93,12 @@ written_ends (Some stop) course = stop_ends stop.1
 
 pub told_ends : (f : Followed) → IsEnd (told f).status
 told_ends f = written_ends f.stop f.course
+
+ends_drill : (status : Status) → IsEnd status → EndsDrill status
+ends_drill status (inl e) = subst EndsDrill (sym e) tt
+ends_drill status (inr (inl e)) = subst EndsDrill (sym e) tt
+ends_drill status (inr (inr e)) = subst EndsDrill (sym e) tt
+
+pub all_end : {E : Type 0} (r : Result Written E) → IfOk r (λ w. IsEnd w.status) → IfOk r (λ w. EndsDrill w.status)
+all_end (Ok w) is = ends_drill w.status is
+all_end (Err e) is = tt

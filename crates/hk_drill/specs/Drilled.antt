@@ -1,9 +1,23 @@
 -- What a drill leaves, by the bytes that were left before it and those that were held.
-use Rattle.std.specs.Prelude.{◌≡◌, ℕ, List, [], ◌++◌, Option, Some, take, IfSome}
+use Rattle.std.specs.Prelude.{◌≡◌, ℕ, List, [], ◌++◌, Option, Some, take, IfSome, ⊤}
 use Rattle.hk_outside.specs.declared.status.Status.{Status}
+use Rattle.hk_outside.specs.declared.status.Status.TheVariants.{Done, Memory, Usage, ReadFault, WriteFault, BadLine, TooLong, Gap, DoorFault, SpawnFault}
 use Rattle.hk_history.specs.Legal.{Legal}
 use Rattle.hk_safety.specs.Run.{RunState, history, printed}
 use Rattle.hk_drill.specs.Transcript.{transcript, followed}
+
+-- the statuses with which a drill may end
+abbrev pub EndsDrill : Status → Type 0
+EndsDrill Done = ⊤
+EndsDrill Memory = ⊤
+EndsDrill Usage = ⊥
+EndsDrill ReadFault = ⊤
+EndsDrill WriteFault = ⊤
+EndsDrill BadLine = ⊤
+EndsDrill TooLong = ⊤
+EndsDrill Gap = ⊥
+EndsDrill DoorFault = ⊥
+EndsDrill SpawnFault = ⊥
 
 -- all that was left, where it is told, has been read, and nothing is left
 pub record HasRead (before now : Option (List ℕ)) (all : List ℕ) : Type 0 where

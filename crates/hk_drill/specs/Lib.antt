@@ -2,3 +2,4 @@ pub mod Text
 pub mod Transcript
 pub mod Taken
 pub mod Drilled
+pub mod Generated

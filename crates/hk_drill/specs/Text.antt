@@ -7,7 +7,7 @@ use Rattle.hk_base.specs.declared.stamp.Stamp.{Stamp}
 use Rattle.hk_base.specs.declared.call.CallNo.{CallNo}
 use Rattle.hk_base.specs.declared.call.Content.{Content}
 use Rattle.hk_base.specs.declared.call.Answer.{Answer}
-use Rattle.hk_base.specs.declared.call.Answer.TheVariants.{Found, Missing, Stored, Number, Exists, NotFound, NotNumber, Busy, Aborted, Exhausted}
+use Rattle.hk_base.specs.declared.call.Answer.TheVariants.{Found, Missing, Stored, Number, Exists, NotFound, NotNumber, NotStored, Deleted, Busy, Aborted, Exhausted}
 use Rattle.hk_base.specs.declared.call.Why.{Why}
 use Rattle.hk_base.specs.declared.call.Why.TheVariants.{Lease, Row}
 use Rattle.hk_base.specs.declared.call.State.{State}
@@ -61,6 +61,8 @@ answer_text (Number n) = codes "number " ++ decimal n
 answer_text Exists = codes "exists"
 answer_text NotFound = codes "not-found"
 answer_text NotNumber = codes "not-number"
+answer_text NotStored = codes "not-stored"
+answer_text Deleted = codes "deleted"
 answer_text (Busy why) = codes "busy " ++ why_text why
 answer_text (Aborted s) = codes "aborted " ++ stamp_text s
 answer_text (Exhausted s) = codes "exhausted " ++ stamp_text s
@@ -125,7 +127,7 @@ body_text (Ack key stamp top) = codes "ack " ++ word_of key ++ codes " " ++ stam
 body_text (Val key stamp) = codes "val " ++ word_of key ++ codes " " ++ stamp_text stamp
 body_text (CopyAsk after room) = codes "copyask " ++ after_text after ++ codes " " ++ decimal room
 body_text (CopyGive after done items) = codes "copygive " ++ after_text after ++ codes " " ++ done_text done ++ copy_items_text items
-body_text LeaseAsk = codes "leaseask"
+body_text (LeaseAsk asked) = codes "leaseask"
 body_text (LeaseGive end) = codes "leasegive " ++ decimal end
 body_text (Prepare b) = codes "prepare " ++ ballot_text b
 body_text (Promise b vote) = codes "promise " ++ ballot_text b ++ codes " " ++ vote_text vote

@@ -1,9 +1,10 @@
 //! A whole script.
 
-ghost use Rattle.std.specs.Prelude.{◌≡◌, ◌⊎◌, ◌+◌, ◌++◌, ◌<◌, ◌^◌, map, length, IfOk};
+ghost use Rattle.std.specs.Prelude.{◌≡◌, ◌⊎◌, ◌+◌, ◌++◌, ◌<◌, ◌^◌, map, length, IfOk, IfSome};
 ghost use Rattle.hk_script.specs.Lines.{header_of};
-ghost use Rattle.hk_drill.specs.Transcript.{transcript, script_from, follow_under, course_text, status_of, stop_text};
+ghost use Rattle.hk_drill.specs.Transcript.{transcript, followed, script_from, follow_under, course_text, status_of, stop_text};
 ghost use Rattle.hk_drill.specs.Taken.{told};
+ghost use Rattle.hk_drill.specs.Drilled.{AllLegal, EndsDrill};
 
 use crate::course::Course;
 use crate::end::{put_keys, put_stop};
@@ -12,6 +13,7 @@ use crate::stop::Stop;
 use crate::text::put_end;
 use hk_base::Memory;
 use hk_outside::Status;
+use hk_safety::runs_are_legal;
 use hk_script::read_header;
 use std::alloc::Global;
 
@@ -91,12 +93,23 @@ fn script(alloc: Global, lines: &[&[u8]]) -> Result<Written, Memory>
     stopped(Vec::new(alloc), lines.len() as u64 + 1, Stop::Bad)
 }
 
-/// The transcript of the bytes of a script.
+// The transcript of the bytes of a script.
 #[tactic(auto, unfolding(crate::specs::Transcript::transcript))]
-pub fn transcribe(alloc: Global, bytes: &[u8]) -> Result<Written, Memory>
+fn transcribed(alloc: Global, bytes: &[u8]) -> Result<Written, Memory>
     ensures exact { IfOk result (λ w. transcript bytes.now ≡ record { status = w.status; text = w.text.items }) }
     ensures ends { IfOk result (λ w. (w.status ≡ Status.Done) ⊎ (w.status ≡ Status.BadLine) ⊎ (w.status ≡ Status.TooLong)) }
 {
     let lines = lines(alloc, bytes)?;
     script(alloc, lines.as_slice())
+}
+
+/// The transcript of the bytes of a script. The order that it has for each key is legal for the history that it has, whatever the bytes.
+pub fn transcribe(alloc: Global, bytes: &[u8]) -> Result<Written, Memory>
+    ensures exact { IfOk result (λ w. transcript bytes.now ≡ record { status = w.status; text = w.text.items }) }
+    ensures ends { IfOk result (λ w. (w.status ≡ Status.Done) ⊎ (w.status ≡ Status.BadLine) ⊎ (w.status ≡ Status.TooLong)) }
+    ensures drills { IfOk result (λ w. EndsDrill w.status) }
+    ensures legal { IfSome (followed bytes.now).course (λ course. AllLegal course.run) }
+{
+    runs_are_legal();
+    transcribed(alloc, bytes)
 }

@@ -1,13 +1,12 @@
 //! The bytes of a script in, those of its transcript out.
 
-ghost use Rattle.std.specs.Prelude.{◌≡◌, ◌≢◌, ◌⊎◌, ◌≤◌, ◌++◌, ℕ, take, IfSome, IfOk, OnOk, OnErr, Err};
-ghost use Rattle.std.specs.Io.KnownBytes.{Appends};
+ghost use Rattle.std.specs.Prelude.{◌≡◌, ◌⊎◌, ◌≤◌, IfSome, IfOk, Err};
 ghost use Rattle.hk_outside.specs.Causes.{Rose, Stayed};
 ghost use Rattle.hk_drill.specs.Transcript.{transcript};
-ghost use Rattle.hk_drill.specs.Drilled.{HasRead, IsDone, IsFront};
+ghost use Rattle.hk_drill.specs.Drilled.{HasRead, EndsDrill, IsDone, IsFront};
 
 use crate::script::transcribe;
-use hk_outside::{Failed, Sink, Source, Status};
+use hk_outside::{Sink, Source, Status, write_all};
 use hk_safety::runs_are_legal;
 use std::alloc::Global;
 
@@ -40,28 +39,7 @@ fn read_all<S: Source>(alloc: Global, source: &mut S) -> Result<Vec<u8>, ReadSto
     unreachable!()
 }
 
-// Writes all of the text, or a front of it.
-fn write_all<K: Sink>(sink: &mut K, text: &[u8]) -> Result<(), Failed>
-    ensures all { OnOk result (Appends (K.held sink.old) (K.held sink.new) text.now) }
-    ensures front { (n : ℕ) × Appends (K.held sink.old) (K.held sink.new) (take n text.now) }
-    ensures later { K.faults sink.old ≤ K.faults sink.new }
-    ensures failed { OnErr result (Rose (K.faults sink.old) (K.faults sink.new)) }
-{
-    let mut at = 0;
-    while at < text.len() {
-        let (_, rest) = text.split_at(at);
-        let Ok(count) = sink.write(rest) else {
-            return Err(Failed);
-        };
-        if count == 0 {
-            return Err(Failed);
-        }
-        at += count;
-    }
-    Ok(())
-}
-
-/// Reads a script to its end and writes its transcript.
+/// Reads a script to its end and writes its transcript. The status is Done, Memory, ReadFault, WriteFault, BadLine or TooLong.
 #[tactic(auto, using(crate::proofs::Legality::told_legal))]
 pub fn drill<S: Source, K: Sink>(alloc: Global, source: &mut S, sink: &mut K) -> Status
     ensures done { result ≡ Status.Done → IsDone Status.Done (S.left source.old) (S.left source.new) (K.held sink.old) (K.held sink.new) }
@@ -70,7 +48,7 @@ pub fn drill<S: Source, K: Sink>(alloc: Global, source: &mut S, sink: &mut K) ->
     ensures front { IsFront (S.left source.old) (K.held sink.old) (K.held sink.new) }
     ensures read_fault { result ≡ Status.ReadFault → Rose (S.faults source.old) (S.faults source.new) }
     ensures write_fault { result ≡ Status.WriteFault → Rose (K.faults sink.old) (K.faults sink.new) }
-    ensures no_usage { result ≢ Status.Usage }
+    ensures statuses { EndsDrill result }
 
     // Where no count rose, the answer is the transcript's, unless memory ran out.
     ensures exact { Stayed (S.faults source.old) (S.faults source.new) → Stayed (K.faults sink.old) (K.faults sink.new)

@@ -263,14 +263,51 @@ fn a_line_has_4096_bytes_at_most(rt: HostRuntime) -> Result<(), Fail> {
     Ok(())
 }
 
+const USAGE: &[u8] = b"usage: hermes drill | generate | storm | serve\n";
+
 #[test]
-fn other_words_touch_nothing(rt: HostRuntime) -> Result<(), Fail> {
-    let rows: [&[&str]; 5] = [&[], &["drill", "now"], &["Drill"], &["--help"], &["serve"]];
+fn other_words_are_answered_by_one_line(rt: HostRuntime) -> Result<(), Fail> {
+    let rows: [&[&str]; 10] = [
+        &[],
+        &["drill", "now"],
+        &["--help"],
+        &["serve"],
+        &["generate", "--start", "1", "--count", "5"],
+        &[
+            "generate", "--start", "1", "--count", "100001", "--nodes", "1",
+        ],
+        &["generate", "--start", "1", "--count=05", "--nodes", "1"],
+        &["generate", "--start", "1", "--count", "5", "--nodes", "17"],
+        &["generate", "--start", "1", "--start=1", "--nodes", "1"],
+        &["--start", "1", "generate", "--count", "5", "--nodes", "1"],
+    ];
     for words in rows {
         let outcome = call(rt, rt.alloc(), words, HEADER.to_vec(rt.alloc())?, &[], &[])?;
         assert_eq!(rt; outcome.status, Status::Usage);
-        assert!(rt; outcome.text.is_empty());
+        assert_eq!(rt; outcome.text.as_slice(), USAGE);
         assert_eq!(rt; outcome.read, 0);
+    }
+    Ok(())
+}
+
+#[test]
+fn runs_are_drawn_from_a_number(rt: HostRuntime) -> Result<(), Fail> {
+    let rows: [(&[&str], &[u8]); 2] = [
+        (
+            &[
+                "generate", "--start", "7", "--count", "20000", "--nodes", "5",
+            ],
+            b"generated 7 20000 5\ncalls 5115 answered 289 busy 4669 aborted 145 open 12\nletters 10692 legal\n",
+        ),
+        (
+            &["generate", "--nodes=5", "--count=20000", "--start=7"],
+            b"generated 7 20000 5\ncalls 5115 answered 289 busy 4669 aborted 145 open 12\nletters 10692 legal\n",
+        ),
+    ];
+    for (words, text) in rows {
+        let outcome = call(rt, rt.alloc(), words, Vec::new(rt.alloc()), &[], &[])?;
+        assert_eq!(rt; outcome.text.as_slice(), text);
+        assert_eq!(rt; outcome.status, Status::Done);
     }
     Ok(())
 }

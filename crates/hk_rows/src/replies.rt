@@ -25,7 +25,9 @@ fn what_is_no_reply_needs_more_or_is_bad(rt: HostRuntime) {
     assert!(rt; needs(alloc, b"STO"));
     assert!(rt; needs(alloc, b"VALUE k 0 2 7\r\na"));
     assert!(rt; needs(alloc, b"VALUE k 0 0\r\n\r\nEND\r"));
+    assert!(rt; needs(alloc, b"NOT_S"));
     assert!(rt; bad_at(alloc, b"STOX", 3));
+    assert!(rt; bad_at(alloc, b"NOT_X", 4));
     assert!(rt; bad_at(alloc, b"x", 0));
     assert!(rt; bad_at(alloc, b"05\r\n", 1));
     assert!(rt; bad_at(alloc, b"18446744073709551616\r\n", 19));

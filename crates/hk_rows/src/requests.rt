@@ -1,7 +1,7 @@
 //! Request lines, and what they are refused for.
 
 use hk_base::Op;
-use hk_request::{BlockFault, Head, Request, RequestCause, finish, read_request};
+use hk_request::{BlockFault, Head, Request, RequestCause, Verb, finish, read_request};
 use std::alloc::{AllocError, Global};
 use std::process::Abort;
 
@@ -16,7 +16,7 @@ fn refuses(alloc: Global, line: &[u8], cause: RequestCause, skip: u64) -> bool {
 #[test]
 fn the_first_fault_is_told_with_its_skip(rt: HostRuntime) {
     let alloc = rt.alloc();
-    let rows: [(&[u8], RequestCause, u64); 24] = [
+    let rows: [(&[u8], RequestCause, u64); 26] = [
         (
             b"set k 0 0 1048577",
             RequestCause::TooLarge { bytes: 1_048_577 },
@@ -56,6 +56,8 @@ fn the_first_fault_is_told_with_its_skip(rt: HostRuntime) {
             RequestCause::BadNumber { word: 3 },
             0,
         ),
+        (b"add k 0 60 3", RequestCause::Expiry, 5),
+        (b"delete k 0", RequestCause::WrongCount, 0),
         (b"quit now", RequestCause::WrongCount, 0),
     ];
     for (line, cause, skip) in &rows {
@@ -66,8 +68,9 @@ fn the_first_fault_is_told_with_its_skip(rt: HostRuntime) {
 #[test]
 fn stores_take_their_block(rt: HostRuntime) {
     let alloc = rt.alloc();
-    match read_request(alloc, b"  set  k 0 00 1048576 ") {
+    match read_request(alloc, b"  add  k 0 00 1048576 ") {
         Ok(Head::Store(head)) => {
+            assert!(rt; head.verb == Verb::Add);
             assert!(rt; head.bytes == 1_048_576 && head.tag.is_none() && !head.noreply);
         }
         _ => panic!(rt; "no store"),

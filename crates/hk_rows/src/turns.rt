@@ -9,18 +9,32 @@ fn content(alloc: Global, flags: u32, bytes: &[u8]) -> Result<Content, DataFault
     Ok(Content { flags, bytes })
 }
 
-// What the operation writes over these bytes, under flags 7, and whether it answers this number.
+// Whether these bytes are held, under flags 7.
+fn holds(content: &Option<Content>, bytes: &[u8]) -> bool {
+    match content {
+        Some(content) => content.flags == 7 && content.bytes.bytes() == bytes,
+        None => false,
+    }
+}
+
+// Whether the register changes to these bytes, and this number is answered.
+fn changes_to(made: &Turn, written: &[u8], number: u64) -> bool {
+    match made {
+        Turn::Change { content, answer } => {
+            holds(content, written) && *answer == Answer::Number(number)
+        }
+        Turn::Stay(_) => false,
+    }
+}
+
+// Whether the operation writes these bytes over those that are held, and answers this number.
 fn writes(alloc: Global, op: &Op, held: &[u8], written: &[u8], number: u64) -> bool {
     let Ok(held) = content(alloc, 7, held) else {
         return false;
     };
     match turn(alloc, op, Some((&held, 131_072))) {
-        Ok(Turn::Change { content, answer }) => {
-            content.flags == 7
-                && content.bytes.bytes() == written
-                && answer == Answer::Number(number)
-        }
-        Ok(Turn::Stay(_)) | Err(_) => false,
+        Ok(made) => changes_to(&made, written, number),
+        Err(_) => false,
     }
 }
 

@@ -3,7 +3,8 @@ use Rattle.std.proofs.Common.{◌≡◌, ℕ, List, [], ◌∷◌, Some, None, c
 use Rattle.std.specs.List.{join_with_byte, AllByRecursion}
 use Rattle.std.proofs.lemmas.List.Splits.{join_with_byte-slice_split}
 use Rattle.hk_base.specs.declared.call.Op.{Op}
-use Rattle.hk_base.specs.declared.call.Op.TheVariants.{Read, Write, Cas, Incr, Decr}
+use Rattle.hk_base.specs.declared.call.Op.TheVariants.{Read, Write, Cas, Incr, Decr, Replace, Delete}
+use Rattle.hk_base.specs.declared.call.Op.TheVariants as operation
 use Rattle.hk_base.specs.declared.view.Change.{Change}
 use Rattle.hk_base.specs.declared.view.Change.TheVariants.{Drop, Add}
 use Rattle.hk_world.specs.declared.event.Header.{Header}
@@ -47,6 +48,9 @@ op_no_space key (Write c) is = (plain_no_space (codes "set") refl, (word_no_spac
 op_no_space key (Cas tag c) is = (plain_no_space (codes "cas") refl, (word_no_space key, (flags_part.spaceless c.flags is.1.flags_fit, (word_no_space c.bytes, (number_64_part.spaceless tag is.0, tt)))))
 op_no_space key (Incr by) is = (plain_no_space (codes "incr") refl, (word_no_space key, (number_64_part.spaceless by is, tt)))
 op_no_space key (Decr by) is = (plain_no_space (codes "decr") refl, (word_no_space key, (number_64_part.spaceless by is, tt)))
+op_no_space key (operation.Add c) is = (plain_no_space (codes "add") refl, (word_no_space key, (flags_part.spaceless c.flags is.flags_fit, (word_no_space c.bytes, tt))))
+op_no_space key (Replace c) is = (plain_no_space (codes "replace") refl, (word_no_space key, (flags_part.spaceless c.flags is.flags_fit, (word_no_space c.bytes, tt))))
+op_no_space key Delete is = (plain_no_space (codes "delete") refl, (word_no_space key, tt))
 
 change_no_space : (change : Change) → IsChange change → AllNoSpace (change_words change)
 change_no_space (Drop id) is = (plain_no_space (codes "drop") refl, (node_part.spaceless id is, tt))

@@ -9,3 +9,4 @@ pub mod Lines
 pub mod Exact
 pub mod Cuts
 pub mod Printed
+pub mod Drawing

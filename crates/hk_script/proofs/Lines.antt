@@ -1,8 +1,10 @@
 -- The words of a line: what is read is written so, and what is written so is read.
 use Rattle.std.proofs.Common.{◌≡◌, ℕ, ◌<◌, ◌≤◌, ◌^◌, List, [], ◌∷◌, Option, Some, None, codes, decimal, refl, sym, ap, subst, arith}
 use Rattle.std.specs.Option.{option_map}
+use Rattle.hk_base.specs.declared.call.Content.{Content}
 use Rattle.hk_base.specs.declared.call.Op.{Op}
-use Rattle.hk_base.specs.declared.call.Op.TheVariants.{Read, Write, Cas, Incr, Decr}
+use Rattle.hk_base.specs.declared.call.Op.TheVariants.{Read, Write, Cas, Incr, Decr, Replace, Delete}
+use Rattle.hk_base.specs.declared.call.Op.TheVariants as operation
 use Rattle.hk_base.specs.declared.letter.Actor.{Actor}
 use Rattle.hk_base.specs.declared.letter.Actor.TheVariants.{Manager}
 use Rattle.hk_base.specs.declared.time.TheConstants.{MAX_TIME}
@@ -13,7 +15,7 @@ use Rattle.hk_world.specs.declared.event.Event.TheVariants.{Call, Take, Crash, R
 use Rattle.hk_script.specs.Words.{word_of, actor_word}
 use Rattle.hk_script.specs.Grammar.{IsOp, IsContent, IsChange, IsWritten, op_words, change_words, event_words}
 use Rattle.hk_script.specs.Parts.{number_64, flags_of, time_of, some_of, key_of, data_of, node_of, manager_of, actor_of, target_of}
-use Rattle.hk_script.specs.Lines.{none, one, two, three, content, op_of, change_of, tick, call_of, propose_of, group_event_of, actor_event_of, event_of_words}
+use Rattle.hk_script.specs.Lines.{none, one, two, three, content, content_of, op_of, change_of, tick, call_of, propose_of, group_event_of, actor_event_of, event_of_words}
 use Rattle.hk_script.proofs.Choices.{bind_some, map_some, some_same, no_some, named}
 use Rattle.hk_script.proofs.Spelling.{IsPart}
 use Rattle.hk_script.proofs.Actors.{IsTarget, target_word, IsDataBytes, number_64_part, flags_part, time_part, some_part, node_part, manager_part, actor_part, target_part, key_part, data_part}
@@ -77,19 +79,35 @@ IsOpAt name ws op = IsOp op × ((key : List ℕ) → name ∷ word_of key ∷ ws
 content_is : (f : ℕ) (b : List ℕ) → f < 2 ^ 32 → IsDataBytes b → IsContent (content f b)
 content_is f b lt is = record { flags_fit = lt; is_data = is.0; each = is.1 }
 
+abbrev IsContentAt : List (List ℕ) → Content → Type 0
+IsContentAt ws c = IsContent c × (decimal c.flags ∷ word_of c.bytes ∷ [] ≡ ws)
+
+-- an operation that stores a content
+stored_takes : (name : List ℕ) (make : Content → Op) → ((c : Content) → IsContent c → IsOp (make c)) → ((key : List ℕ) (c : Content) → name ∷ word_of key ∷ decimal c.flags ∷ word_of c.bytes ∷ [] ≡ op_words key (make c)) → (ws : List (List ℕ)) (op : Op) → option_map make (content_of ws) ≡ Some op → IsOpAt name ws op
+stored_takes name make is words ws op e =
+    let m = map_some (content_of ws) make op e in
+    let t = two_takes flags_part data_part content IsContentAt (λ f b v w. (content_is f b v w, refl)) ws m.0 m.1 in
+    subst (IsOpAt name ws) m.2 (subst (λ us. IsOpAt name us (make m.0)) t.1 (is m.0 t.0, λ key. words key m.0))
+
 op_takes : (name : List ℕ) (ws : List (List ℕ)) (op : Op) → op_of name ws ≡ Some op → IsOpAt name ws op
 unfolding op_of
 op_takes name ws op e =
     named (λ n. IsOpAt n ws op) name (codes "get") (none Read ws) _ op (none_takes (IsOpAt (codes "get")) Read (tt, λ key. refl) ws op)
-    (named (λ n. IsOpAt n ws op) name (codes "set") (two flags_of data_of (λ f b. Write (content f b)) ws) _ op
-    (two_takes flags_part data_part (λ f b. Write (content f b)) (IsOpAt (codes "set")) (λ f b v w. (content_is f b v w, λ key. refl)) ws op)
+    (named (λ n. IsOpAt n ws op) name (codes "set") (option_map Write (content_of ws)) _ op
+    (stored_takes (codes "set") Write (λ c v. v) (λ key c. refl) ws op)
     (named (λ n. IsOpAt n ws op) name (codes "cas") (three flags_of data_of number_64 (λ f b t. Cas t (content f b)) ws) _ op
     (three_takes flags_part data_part number_64_part (λ f b t. Cas t (content f b)) (IsOpAt (codes "cas")) (λ f b t v w x. ((x, content_is f b v w), λ key. refl)) ws op)
     (named (λ n. IsOpAt n ws op) name (codes "incr") (one number_64 Incr ws) _ op
     (one_takes number_64_part Incr (IsOpAt (codes "incr")) (λ n v. (v, λ key. refl)) ws op)
-    (named (λ n. IsOpAt n ws op) name (codes "decr") (one number_64 Decr ws) None op
+    (named (λ n. IsOpAt n ws op) name (codes "decr") (one number_64 Decr ws) _ op
     (one_takes number_64_part Decr (IsOpAt (codes "decr")) (λ n v. (v, λ key. refl)) ws op)
-    (λ x. absurd (no_some op x)))))) e
+    (named (λ n. IsOpAt n ws op) name (codes "add") (option_map operation.Add (content_of ws)) _ op
+    (stored_takes (codes "add") operation.Add (λ c v. v) (λ key c. refl) ws op)
+    (named (λ n. IsOpAt n ws op) name (codes "replace") (option_map Replace (content_of ws)) _ op
+    (stored_takes (codes "replace") Replace (λ c v. v) (λ key c. refl) ws op)
+    (named (λ n. IsOpAt n ws op) name (codes "delete") (none Delete ws) None op
+    (none_takes (IsOpAt (codes "delete")) Delete (tt, λ key. refl) ws op)
+    (λ x. absurd (no_some op x))))))))) e
 
 -- the words of an operation but its key's
 abbrev pub op_name : Op → List ℕ
@@ -98,6 +116,9 @@ op_name (Write c) = codes "set"
 op_name (Cas tag c) = codes "cas"
 op_name (Incr by) = codes "incr"
 op_name (Decr by) = codes "decr"
+op_name (operation.Add c) = codes "add"
+op_name (Replace c) = codes "replace"
+op_name Delete = codes "delete"
 
 abbrev pub op_rest : Op → List (List ℕ)
 op_rest Read = []
@@ -105,6 +126,9 @@ op_rest (Write c) = decimal c.flags ∷ word_of c.bytes ∷ []
 op_rest (Cas tag c) = decimal c.flags ∷ word_of c.bytes ∷ decimal tag ∷ []
 op_rest (Incr by) = decimal by ∷ []
 op_rest (Decr by) = decimal by ∷ []
+op_rest (operation.Add c) = decimal c.flags ∷ word_of c.bytes ∷ []
+op_rest (Replace c) = decimal c.flags ∷ word_of c.bytes ∷ []
+op_rest Delete = []
 
 pub op_words_are : (key : List ℕ) (op : Op) → op_words key op ≡ op_name op ∷ word_of key ∷ op_rest op
 op_words_are key Read = refl
@@ -112,6 +136,9 @@ op_words_are key (Write c) = refl
 op_words_are key (Cas tag c) = refl
 op_words_are key (Incr by) = refl
 op_words_are key (Decr by) = refl
+op_words_are key (operation.Add c) = refl
+op_words_are key (Replace c) = refl
+op_words_are key Delete = refl
 
 pub op_again : (op : Op) → IsOp op → op_of (op_name op) (op_rest op) ≡ Some op
 unfolding op_of none one two three
@@ -120,6 +147,9 @@ op_again (Write c) is = rw (flags_part.again c.flags is.flags_fit, data_part.aga
 op_again (Cas tag c) is = rw (flags_part.again c.flags is.1.flags_fit, data_part.again c.bytes (is.1.is_data, is.1.each), number_64_part.again tag is.0) refl
 op_again (Incr by) is = rw (number_64_part.again by is) refl
 op_again (Decr by) is = rw (number_64_part.again by is) refl
+op_again (operation.Add c) is = rw (flags_part.again c.flags is.flags_fit, data_part.again c.bytes (is.is_data, is.each)) refl
+op_again (Replace c) is = rw (flags_part.again c.flags is.flags_fit, data_part.again c.bytes (is.is_data, is.each)) refl
+op_again Delete is = refl
 
 -- ---- changes
 abbrev IsChangeAt : List (List ℕ) → Change → Type 0

@@ -1,5 +1,5 @@
 -- The parts of a line, each by its word: what is read is spelled so, and what is spelled so is read.
-use Rattle.std.proofs.Common.{◌≡◌, ℕ, ◌+◌, ◌/◌, ◌%◌, ◌<◌, ◌≤◌, ◌^◌, inl, inr, List, [], ◌∷◌, ◌++◌, length, get_or, Bool, true, false, cond, not, Option, Some, nat_lt, nat_le, ◌==◌, if◌then◌else◌, codes, decimal, refl, sym, ap, subst, ◌∙◌, arith, eq-eqb, append-nil}
+use Rattle.std.proofs.Common.{◌≡◌, ℕ, ◌+◌, ◌/◌, ◌%◌, ◌<◌, ◌≤◌, ◌^◌, inl, inr, List, [], ◌∷◌, ◌++◌, length, get_or, Bool, true, false, cond, not, Option, Some, None, nat_lt, nat_le, ◌==◌, if◌then◌else◌, codes, decimal, refl, sym, ap, subst, ◌∙◌, arith, eq-eqb, append-nil}
 use Rattle.std.specs.List.{list_all, flat_map}
 use Rattle.std.specs.Char.{is_ascii_digit}
 use Rattle.std.specs.Str.Parse.{digits_value}
@@ -7,6 +7,7 @@ use Rattle.std.proofs.lemmas.Bool.{false≢true, cases_lt}
 use Rattle.std.proofs.lemmas.Bool.Decides.{nat_tests}
 use Rattle.std.proofs.lemmas.Fmt.{decimal-digits_value, digits_decimal, digits_value-decimal, decimal_nonempty, first_decimal, decimal_digit}
 use Rattle.hk_script.specs.Words.{is_plain, hexadecimal, spelled, word_of}
+use Rattle.hk_script.specs.Reading.{IsNumberRead}
 use Rattle.hk_script.specs.Parts.{number_of, has_spare_zero, unspelled, byte_at, escaped_at, escape_of, digit_of, bytes_of, is_text, is_space}
 use Rattle.hk_script.proofs.Numbers.{are_digits}
 use Rattle.hk_script.proofs.Choices.{chosen, held, failed, some_same, both, not_false, text_is, no_some}
@@ -63,6 +64,10 @@ number_again limit n le lt =
     let below : nat_lt n (2 ^ 64) ≡ true = grind (arith, nat_tests) in
     let within : nat_le n limit ≡ true = grind (arith, nat_tests) in
     rw (some, digits, zero_free, value, below, within) refl
+
+pub number_told : (o : Option ℕ) (limit : ℕ) (word : List ℕ) → limit < 2 ^ 64 → o ≡ number_of limit word → IsNumberRead o limit word
+number_told (Some n) limit word lt e = number_takes limit word n (sym e)
+number_told None limit word lt e = λ n le is. no_some n (e ∙ ap (number_of limit) is ∙ number_again limit n le lt)
 
 pub number_part : (limit : ℕ) → limit < 2 ^ 64 → IsPart (λ n. n ≤ limit) decimal (number_of limit)
 number_part limit lt = record {

@@ -3,7 +3,8 @@ use Rattle.std.specs.Prelude.{◌≡◌, ℕ, ◌<◌, ◌≤◌, ◌^◌, List,
 use Rattle.std.specs.List.{join_with_byte, AllByRecursion}
 use Rattle.hk_base.specs.declared.call.Content.{Content}
 use Rattle.hk_base.specs.declared.call.Op.{Op}
-use Rattle.hk_base.specs.declared.call.Op.TheVariants.{Read, Write, Cas, Incr, Decr}
+use Rattle.hk_base.specs.declared.call.Op.TheVariants.{Read, Write, Cas, Incr, Decr, Replace, Delete}
+use Rattle.hk_base.specs.declared.call.Op.TheVariants as operation
 use Rattle.hk_base.specs.declared.stamp.NodeId.{NodeId}
 use Rattle.hk_base.specs.declared.time.TheConstants.{MAX_TIME}
 use Rattle.hk_base.specs.declared.view.Change.{Change}
@@ -24,6 +25,9 @@ op_words key (Write c) = codes "set" ∷ word_of key ∷ decimal c.flags ∷ wor
 op_words key (Cas tag c) = codes "cas" ∷ word_of key ∷ decimal c.flags ∷ word_of c.bytes ∷ decimal tag ∷ []
 op_words key (Incr by) = codes "incr" ∷ word_of key ∷ decimal by ∷ []
 op_words key (Decr by) = codes "decr" ∷ word_of key ∷ decimal by ∷ []
+op_words key (operation.Add c) = codes "add" ∷ word_of key ∷ decimal c.flags ∷ word_of c.bytes ∷ []
+op_words key (Replace c) = codes "replace" ∷ word_of key ∷ decimal c.flags ∷ word_of c.bytes ∷ []
+op_words key Delete = codes "delete" ∷ word_of key ∷ []
 
 abbrev pub change_words : Change → List (List ℕ)
 change_words (Drop id) = codes "drop" ∷ decimal id.0 ∷ []
@@ -83,6 +87,9 @@ IsOp (Write c) = IsContent c
 IsOp (Cas tag c) = IsNumber tag × IsContent c
 IsOp (Incr by) = IsNumber by
 IsOp (Decr by) = IsNumber by
+IsOp (operation.Add c) = IsContent c
+IsOp (Replace c) = IsContent c
+IsOp Delete = ⊤
 
 pub record IsKeyBytes (key : List ℕ) : Type 0 where
   pub is_key : IsKey key

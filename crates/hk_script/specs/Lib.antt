@@ -3,3 +3,4 @@ pub mod Grammar
 pub mod Reading
 pub mod Parts
 pub mod Lines
+pub mod Drawn

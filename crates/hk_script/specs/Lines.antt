@@ -3,7 +3,8 @@ use Rattle.std.specs.Prelude.{ℕ, List, [], ◌∷◌, Bool, Option, None, Some
 use Rattle.std.specs.Option.{option_map}
 use Rattle.hk_base.specs.declared.call.Content.{Content}
 use Rattle.hk_base.specs.declared.call.Op.{Op}
-use Rattle.hk_base.specs.declared.call.Op.TheVariants.{Read, Write, Cas, Incr, Decr}
+use Rattle.hk_base.specs.declared.call.Op.TheVariants.{Read, Write, Cas, Incr, Decr, Replace, Delete}
+use Rattle.hk_base.specs.declared.call.Op.TheVariants as operation
 use Rattle.hk_base.specs.declared.letter.Actor.{Actor}
 use Rattle.hk_base.specs.declared.view.Change.{Change}
 use Rattle.hk_base.specs.declared.view.Change.TheVariants.{Drop, Add}
@@ -40,15 +41,22 @@ three f g h make ws = None
 abbrev pub content : ℕ → List ℕ → Content
 content flags bytes = record { flags = flags; bytes = bytes }
 
+-- a content in two words
+abbrev pub content_of : List (List ℕ) → Option Content
+content_of ws = two flags_of data_of content ws
+
 -- the operation of this name, by the words behind its key
 unfoldable pub op_of : List ℕ → List (List ℕ) → Option Op
 op_of name ws =
     if is_text name (codes "get") then none Read ws
-    else (if is_text name (codes "set") then two flags_of data_of (λ f b. Write (content f b)) ws
+    else (if is_text name (codes "set") then option_map Write (content_of ws)
     else (if is_text name (codes "cas") then three flags_of data_of number_64 (λ f b t. Cas t (content f b)) ws
     else (if is_text name (codes "incr") then one number_64 Incr ws
     else (if is_text name (codes "decr") then one number_64 Decr ws
-    else None))))
+    else (if is_text name (codes "add") then option_map operation.Add (content_of ws)
+    else (if is_text name (codes "replace") then option_map Replace (content_of ws)
+    else (if is_text name (codes "delete") then none Delete ws
+    else None)))))))
 
 unfoldable pub change_of : List (List ℕ) → Option Change
 change_of [] = None

@@ -1,10 +1,15 @@
 -- What the reader tells of a line.
-use Rattle.std.specs.Prelude.{◌≡◌, ℕ, List, Result, Ok, Err, ⊤}
+use Rattle.std.specs.Prelude.{◌≡◌, ℕ, ◌≤◌, List, Option, Some, None, Result, Ok, Err, decimal, ⊤}
 use Rattle.hk_world.specs.declared.event.Header.{Header}
 use Rattle.hk_world.specs.declared.event.Event.{Event}
 use Rattle.hk_script.specs.declared.fault.LineFault.{LineFault}
 use Rattle.hk_script.specs.declared.fault.LineFault.TheVariants.{Memory, Bad}
 use Rattle.hk_script.specs.Grammar.{IsEventLine, IsHeaderLine}
+
+-- the number up to a limit whose digits the word is; none where it is no such number's
+abbrev pub IsNumberRead : Option ℕ → ℕ → List ℕ → Type 0
+IsNumberRead (Some n) limit word = (n ≤ limit) × (word ≡ decimal n)
+IsNumberRead None limit word = (n : ℕ) → n ≤ limit → word ≡ decimal n → ⊥
 
 -- the event whose line it is; Bad where it is no event's line; want of memory says nothing of it
 abbrev pub IsEventRead : Result Event LineFault → List ℕ → Type 0

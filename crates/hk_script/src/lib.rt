@@ -7,6 +7,7 @@
 
 mod event;
 mod fault;
+mod generator;
 mod header;
 mod laws;
 mod op;
@@ -19,7 +20,8 @@ mod tests;
 mod words;
 
 pub use fault::LineFault;
+pub use generator::Generator;
 pub use laws::lines_are_one;
 pub use print::{print_event, print_header};
 pub use put::{put as put_text, put_actor, put_number, put_word};
-pub use read::{read_event, read_header};
+pub use read::{read_event, read_header, read_number};

@@ -1,10 +1,12 @@
 //! What the words of an operation, of a change and of a call stand for.
 
 ghost use Rattle.std.specs.Prelude.{◌≡◌, map};
-ghost use Rattle.hk_base.specs.declared.call.Op.TheVariants.{Read, Write, Cas, Incr, Decr};
+ghost use Rattle.std.specs.Option.{option_map};
+ghost use Rattle.hk_base.specs.declared.call.Op.TheVariants.{Read, Write, Cas, Incr, Decr, Replace, Delete};
+ghost use Rattle.hk_base.specs.declared.call.Op.TheVariants as operation;
 ghost use Rattle.hk_base.specs.declared.view.Change.TheVariants.{Drop, Add};
 ghost use Rattle.hk_script.specs.Parts.{Reads, number_64, flags_of, data_of, node_of};
-ghost use Rattle.hk_script.specs.Lines.{none, one, two, three, content, op_of, change_of};
+ghost use Rattle.hk_script.specs.Lines.{none, one, two, three, content, content_of, op_of, change_of};
 
 use crate::parts::{data, flags, node};
 use crate::words::{is, number};
@@ -50,6 +52,16 @@ fn change_add(words: &[&[u8]]) -> Option<Change>
 }
 
 #[tactic(auto, unfolding(crate::specs::Lines::none))]
+fn delete(words: &[&[u8]]) -> Option<Op>
+    ensures { result ≡ none Delete (map (λ w. w.now) words.now) }
+{
+    match words {
+        [] => Some(Op::Delete),
+        _ => None,
+    }
+}
+
+#[tactic(auto, unfolding(crate::specs::Lines::none))]
 fn read(words: &[&[u8]]) -> Option<Op>
     ensures { result ≡ none Read (map (λ w. w.now) words.now) }
 {
@@ -85,9 +97,10 @@ fn decr(words: &[&[u8]]) -> Option<Op>
     }
 }
 
+// A content, in two words.
 #[tactic(auto, unfolding(crate::specs::Lines::two))]
-fn write(alloc: Global, words: &[&[u8]]) -> Result<Option<Op>, Memory>
-    ensures { Reads result (two flags_of data_of (λ f b. Write (content f b)) (map (λ w. w.now) words.now)) }
+fn content(alloc: Global, words: &[&[u8]]) -> Result<Option<Content>, Memory>
+    ensures { Reads result (content_of (map (λ w. w.now) words.now)) }
 {
     match words {
         [word, bytes] => {
@@ -97,10 +110,37 @@ fn write(alloc: Global, words: &[&[u8]]) -> Result<Option<Op>, Memory>
             let Some(bytes) = data(alloc, bytes)? else {
                 return Ok(None);
             };
-            Ok(Some(Op::Write(Content { flags, bytes })))
+            Ok(Some(Content { flags, bytes }))
         }
         _ => Ok(None),
     }
+}
+
+fn write(alloc: Global, words: &[&[u8]]) -> Result<Option<Op>, Memory>
+    ensures { Reads result (option_map Write (content_of (map (λ w. w.now) words.now))) }
+{
+    let Some(content) = content(alloc, words)? else {
+        return Ok(None);
+    };
+    Ok(Some(Op::Write(content)))
+}
+
+fn add(alloc: Global, words: &[&[u8]]) -> Result<Option<Op>, Memory>
+    ensures { Reads result (option_map operation.Add (content_of (map (λ w. w.now) words.now))) }
+{
+    let Some(content) = content(alloc, words)? else {
+        return Ok(None);
+    };
+    Ok(Some(Op::Add(content)))
+}
+
+fn replace(alloc: Global, words: &[&[u8]]) -> Result<Option<Op>, Memory>
+    ensures { Reads result (option_map Replace (content_of (map (λ w. w.now) words.now))) }
+{
+    let Some(content) = content(alloc, words)? else {
+        return Ok(None);
+    };
+    Ok(Some(Op::Replace(content)))
 }
 
 #[tactic(auto, unfolding(crate::specs::Lines::three))]
@@ -140,6 +180,12 @@ pub(crate) fn op(alloc: Global, name: &[u8], words: &[&[u8]]) -> Result<Option<O
         Ok(incr(words))
     } else if is(name, b"decr") {
         Ok(decr(words))
+    } else if is(name, b"add") {
+        add(alloc, words)
+    } else if is(name, b"replace") {
+        replace(alloc, words)
+    } else if is(name, b"delete") {
+        Ok(delete(words))
     } else {
         Ok(None)
     }

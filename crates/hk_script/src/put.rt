@@ -109,40 +109,46 @@ fn put_content(out: &mut Vec<u8>, content: &Content) -> Result<(), Memory>
     put_word(out, content.bytes.bytes())
 }
 
+fn put_keyed(out: &mut Vec<u8>, name: &[u8], key: &[u8]) -> Result<(), Memory>
+    ensures { OnOk result (out.new.items ≡ out.old.items ++ (name.now ++ codes " " ++ word_of key.now)) }
+{
+    put(out, name)?;
+    put(out, b" ")?;
+    put_word(out, key)
+}
+
+fn put_stored(out: &mut Vec<u8>, name: &[u8], key: &[u8], content: &Content) -> Result<(), Memory>
+    ensures { OnOk result (out.new.items ≡ out.old.items ++ (name.now ++ codes " " ++ word_of key.now ++ codes " " ++ decimal content.now.flags ++ codes " " ++ word_of content.now.bytes)) }
+{
+    put_keyed(out, name, key)?;
+    put(out, b" ")?;
+    put_content(out, content)
+}
+
+fn put_counted(out: &mut Vec<u8>, name: &[u8], key: &[u8], number: u64) -> Result<(), Memory>
+    ensures { OnOk result (out.new.items ≡ out.old.items ++ (name.now ++ codes " " ++ word_of key.now ++ codes " " ++ decimal number)) }
+{
+    put_keyed(out, name, key)?;
+    put(out, b" ")?;
+    put_number(out, number)
+}
+
 /// Puts the words of an operation on a key.
 pub(crate) fn put_op(out: &mut Vec<u8>, key: &[u8], op: &Op) -> Result<(), Memory>
     ensures { OnOk result (out.new.items ≡ out.old.items ++ join_with_byte 32 (op_words key.now op.now)) }
 {
     match op {
-        Op::Read => {
-            put(out, b"get ")?;
-            put_word(out, key)
-        }
-        Op::Write(content) => {
-            put(out, b"set ")?;
-            put_word(out, key)?;
-            put(out, b" ")?;
-            put_content(out, content)
-        }
+        Op::Read => put_keyed(out, b"get", key),
+        Op::Write(content) => put_stored(out, b"set", key, content),
         Op::Cas { tag, content } => {
-            put(out, b"cas ")?;
-            put_word(out, key)?;
-            put(out, b" ")?;
-            put_content(out, content)?;
+            put_stored(out, b"cas", key, content)?;
             put(out, b" ")?;
             put_number(out, *tag)
         }
-        Op::Incr(by) => {
-            put(out, b"incr ")?;
-            put_word(out, key)?;
-            put(out, b" ")?;
-            put_number(out, *by)
-        }
-        Op::Decr(by) => {
-            put(out, b"decr ")?;
-            put_word(out, key)?;
-            put(out, b" ")?;
-            put_number(out, *by)
-        }
+        Op::Incr(by) => put_counted(out, b"incr", key, *by),
+        Op::Decr(by) => put_counted(out, b"decr", key, *by),
+        Op::Add(content) => put_stored(out, b"add", key, content),
+        Op::Replace(content) => put_stored(out, b"replace", key, content),
+        Op::Delete => put_keyed(out, b"delete", key),
     }
 }

@@ -2,14 +2,14 @@
 
 ghost use Rattle.std.specs.Prelude.{◌≡◌, OnErr, Err};
 ghost use Rattle.hk_script.specs.declared.fault.LineFault.TheVariants.{Bad};
-ghost use Rattle.hk_script.specs.Parts.{Reads};
+ghost use Rattle.hk_script.specs.Parts.{Reads, number_of};
 ghost use Rattle.hk_script.specs.Lines.{event_of};
-ghost use Rattle.hk_script.specs.Reading.{IsEventRead, IsHeaderRead};
+ghost use Rattle.hk_script.specs.Reading.{IsNumberRead, IsEventRead, IsHeaderRead};
 
 use crate::event::event;
 use crate::fault::LineFault;
 use crate::header::header;
-use crate::words::split;
+use crate::words::{number, split};
 use hk_base::Memory;
 use hk_world::{Event, Header};
 use std::alloc::Global;
@@ -42,4 +42,12 @@ pub fn read_event(alloc: Global, line: &[u8]) -> Result<Event, LineFault>
         Ok(None) => Err(LineFault::Bad),
         Err(_) => Err(LineFault::Memory),
     }
+}
+
+/// The number up to a limit whose decimal digits, with no spare zero, the word is. Nothing is allocated.
+pub fn read_number(limit: u64, word: &[u8]) -> Option<u64>
+    ensures exact { IsNumberRead result limit word.now }
+    ensures digits { result ≡ number_of limit word.now }
+{
+    number(limit, word)
 }

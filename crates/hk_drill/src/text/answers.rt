@@ -67,6 +67,8 @@ pub(super) fn put_answer(out: &mut Vec<u8>, answer: &Answer) -> Result<(), Memor
         Answer::Exists => put_text(out, b"exists"),
         Answer::NotFound => put_text(out, b"not-found"),
         Answer::NotNumber => put_text(out, b"not-number"),
+        Answer::NotStored => put_text(out, b"not-stored"),
+        Answer::Deleted => put_text(out, b"deleted"),
         Answer::Busy(why) => {
             put_text(out, b"busy ")?;
             put_why(out, *why)

@@ -168,7 +168,7 @@ fn put_body(out: &mut Vec<u8>, body: &Body) -> Result<(), Memory>
         Body::Val { key, stamp } => put_stamped(out, b"val ", key, *stamp),
         Body::CopyAsk { after, room } => put_copy_ask(out, after, *room),
         Body::CopyGive { after, done, items } => put_batch(out, after, *done, items.as_slice()),
-        Body::LeaseAsk => put_text(out, b"leaseask"),
+        Body::LeaseAsk { .. } => put_text(out, b"leaseask"),
         Body::LeaseGive { end } => put_named(out, b"leasegive ", *end),
         Body::Prepare(ballot) => put_balloted(out, b"prepare ", *ballot),
         Body::Promise { ballot, accepted } => put_promise(out, *ballot, accepted),

@@ -1,0 +1,25 @@
+-- What was read of words, and what that tells of them.
+use Rattle.std.proofs.Common.{◌≡◌, ℕ, List, Option, Some, None, refl, sym, ap, ◌∙◌}
+use Rattle.hk_script.proofs.Choices.{no_some}
+use Rattle.hk_cli.specs.declared.words.Command.{Command}
+use Rattle.hk_cli.specs.declared.words.Command.TheVariants.{Drill, Generate}
+use Rattle.hk_cli.specs.Words.{IsCommand, IsCommandRead}
+use Rattle.hk_cli.specs.Commands.{IsNoCommand, IsInRange}
+use Rattle.hk_cli.proofs.Exact.{commands_are_one}
+
+pub read_is : (o : Option Command) (words : List (List ℕ)) (command : Command) → IsCommandRead o words → IsCommand command words → o ≡ Some command
+read_is (Some other) words command read is = ap (λ c. Some c) (commands_are_one words other command read is)
+read_is None words command read is = absurd (read command is)
+
+pub none_is : (o : Option Command) (words : List (List ℕ)) → IsCommandRead o words → o ≡ None → IsNoCommand words
+none_is (Some command) words read e = absurd (no_some command (sym e))
+none_is None words read e = read
+
+pub is_none : (o : Option Command) (words : List (List ℕ)) → IsCommandRead o words → IsNoCommand words → o ≡ None
+is_none (Some command) words read never = absurd (never command read)
+is_none None words read never = refl
+
+pub in_range : (o : Option Command) (words : List (List ℕ)) → IsCommandRead o words → IsInRange o
+in_range None words read = tt
+in_range (Some Drill) words read = tt
+in_range (Some (Generate start count nodes)) words read = (read.2.some_nodes, read.2.few_nodes)

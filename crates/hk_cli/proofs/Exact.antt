@@ -1,0 +1,133 @@
+-- What words are read as: the command that they are, and no other.
+use Rattle.std.proofs.Common.{◌≡◌, ℕ, ◌<◌, ◌≤◌, ◌^◌, List, [], ◌∷◌, length, Bool, true, false, if◌then◌else◌, nat_le, Option, Some, None, codes, inl, inr, refl, sym, ap, subst, ◌∙◌, arith}
+use Rattle.std.specs.List.{AllByRecursion}
+use Rattle.std.proofs.lemmas.Bool.Decides.{nat_tests}
+use Rattle.hk_cli.specs.declared.words.Command.{Command}
+use Rattle.hk_cli.specs.declared.words.Command.TheVariants.{Drill, Generate}
+use Rattle.hk_cli.specs.Words.{Given, option, IsGenerate, IsCommand, IsCommandRead, WordsTellCommands}
+use Rattle.hk_cli.specs.Options.{option_count, option_is, value_of, ranged, generate_of, alone, command_of}
+use Rattle.hk_script.specs.Parts.{is_text}
+use Rattle.hk_script.proofs.Choices.{chosen, held, bind_some, some_same, no_some, text_is}
+use Rattle.hk_cli.proofs.Orders.{AreApart, IsNamed, first_of, order_all, order_found, order_length, found_order, are_read, are_again}
+
+-- ---- options
+abbrev wanted : ℕ → ℕ → ℕ → List Given
+wanted s c n = option (codes "start") s ∷ option (codes "count") c ∷ option (codes "nodes") n ∷ []
+
+apart : (s c n : ℕ) → AreApart (wanted s c n)
+apart s c n = (((refl, refl), ((refl, refl), tt)), (((refl, refl), tt), (tt, tt)))
+
+named : (s c n : ℕ) → s < 2 ^ 64 → c < 2 ^ 64 → n < 2 ^ 64 → AllByRecursion IsNamed (wanted s c n)
+named s c n a b d = ((refl, a), ((refl, b), ((refl, d), tt)))
+
+counted : (o : Option ℕ) (n : ℕ) → option_is n o ≡ true → o ≡ Some n
+counted None n e = absurd (no_bool e)
+  where
+    no_bool : false ≡ true → ⊥
+    no_bool e = cc
+counted (Some m) n e = let is : m ≡ n = grind (arith, nat_tests, e) in ap (λ k. Some k) is
+
+-- a value in its range
+ranged_takes : (least most : ℕ) (o : Option ℕ) (v : ℕ) → ranged least most o ≡ Some v → (o ≡ Some v) × (least ≤ v) × (v ≤ most)
+unfolding ranged
+ranged_takes least most None v e = absurd (no_some v e)
+ranged_takes least most (Some n) v e =
+    let a = held (nat_le least n) _ v e in
+    let b = held (nat_le n most) _ v a.1 in
+    let is : n ≡ v = some_same n v b.1 in
+    let low : least ≤ n = (let t = a.0 in grind (arith, nat_tests, t)) in
+    let high : n ≤ most = (let t = b.0 in grind (arith, nat_tests, t)) in
+    (ap (λ k. Some k) is, omega (arith, is, low), omega (arith, is, high))
+
+ranged_again : (least most v : ℕ) → least ≤ v → v ≤ most → ranged least most (Some v) ≡ Some v
+unfolding ranged
+ranged_again least most v low high =
+    let a : nat_le least v ≡ true = grind (arith, nat_tests) in
+    let b : nat_le v most ≡ true = grind (arith, nat_tests) in
+    rw (a, b) refl
+
+small_at : (b : Bool) (m v : ℕ) (o : Option ℕ) → m < 2 ^ 64 → (o ≡ Some v → v < 2 ^ 64) → (if b then Some m else o) ≡ Some v → v < 2 ^ 64
+small_at true m v o small rest e = subst (λ k. k < 2 ^ 64) (some_same m v e) small
+small_at false m v o small rest e = rest e
+
+small_of : (name : List ℕ) (given : List Given) (v : ℕ) → AllByRecursion (λ g. g.amount < 2 ^ 64) given → first_of name given ≡ Some v → v < 2 ^ 64
+small_of name [] v small e = absurd (no_some v e)
+small_of name (g ∷ given) v small e = small_at (is_text g.name name) g.amount v (first_of name given) small.0 (small_of name given v small.1) e
+
+-- ---- generate
+generate_takes : (words : List (List ℕ)) (command : Command) → generate_of words ≡ Some command → IsCommand command (codes "generate" ∷ words)
+unfolding generate_of
+generate_takes words command e =
+    let n = length words in
+    let three = held (option_is 3 (option_count n words)) _ command e in
+    let s = bind_some (value_of (codes "start") n words) _ command three.1 in
+    let c = bind_some (ranged 1 100000 (value_of (codes "count") n words)) _ command s.2 in
+    let d = bind_some (ranged 1 16 (value_of (codes "nodes") n words)) _ command c.2 in
+    let is : Generate s.0 c.0 d.0 ≡ command = some_same _ command d.2 in
+    let read = are_read n words 3 (counted (option_count n words) 3 three.0) in
+    let cs = ranged_takes 1 100000 _ c.0 c.1 in
+    let ds = ranged_takes 1 16 _ d.0 d.1 in
+    let a : first_of (codes "start") read.given ≡ Some s.0 = sym (read.values (codes "start")) ∙ s.1 in
+    let b : first_of (codes "count") read.given ≡ Some c.0 = sym (read.values (codes "count")) ∙ cs.0 in
+    let f : first_of (codes "nodes") read.given ≡ Some d.0 = sym (read.values (codes "nodes")) ∙ ds.0 in
+    let order = found_order (wanted s.0 c.0 d.0) read.given (apart s.0 c.0 d.0) read.many (a, (b, (f, tt))) in
+    subst (λ (k : Command). IsCommand k (codes "generate" ∷ words)) is (
+      words,
+      refl,
+      record {
+        start_fits = small_of (codes "start") read.given s.0 read.small a;
+        some_events = cs.1;
+        few_events = cs.2;
+        some_nodes = ds.1;
+        few_nodes = ds.2;
+        options = (read.given, order, read.are);
+      },
+    )
+
+generate_again : (s c n : ℕ) (words : List (List ℕ)) → IsGenerate s c n words → generate_of words ≡ Some (Generate s c n)
+unfolding generate_of
+generate_again s c n words is =
+    let order = is.options.1 in
+    let few = is.few_events in
+    let little = is.few_nodes in
+    let all = order_all IsNamed (wanted s c n) is.options.0 order (named s c n is.start_fits (omega (arith, few)) (omega (arith, little))) in
+    let again = are_again (length words) is.options.0 words (omega arith) all is.options.2 in
+    let found = order_found (wanted s c n) is.options.0 (apart s c n) order in
+    let three : option_is 3 (option_count (length words) words) ≡ true = ap (option_is 3) (again.counted ∙ ap (λ k. Some k) (order_length (wanted s c n) is.options.0 order)) in
+    let a = again.values (codes "start") ∙ found.0 in
+    let b = ap (ranged 1 100000) (again.values (codes "count") ∙ found.1.0) ∙ ranged_again 1 100000 c is.some_events is.few_events in
+    let d = ap (ranged 1 16) (again.values (codes "nodes") ∙ found.1.1.0) ∙ ranged_again 1 16 n is.some_nodes is.few_nodes in
+    rw three (rw (a, b, d) refl)
+
+-- ---- all commands
+alone_takes : (words : List (List ℕ)) (command : Command) → alone words ≡ Some command → (words ≡ []) × (Drill ≡ command)
+alone_takes [] command e = (refl, some_same Drill command e)
+alone_takes (word ∷ words) command e = absurd (no_some command e)
+
+pub command_takes : (words : List (List ℕ)) (command : Command) → command_of words ≡ Some command → IsCommand command words
+unfolding command_of
+command_takes [] command e = absurd (no_some command e)
+command_takes (name ∷ words) command e = elim (chosen (is_text name (codes "drill")) _ _ (Some command) e) [
+  | inl drill ↦
+      let name_is = text_is name (codes "drill") drill.0 in
+      let rest = alone_takes words command drill.1 in
+      subst (λ (k : Command). IsCommand k (name ∷ words)) rest.1 (rw (name_is, rest.0) refl)
+  | inr other ↦
+      let g = held (is_text name (codes "generate")) (generate_of words) command other.1 in
+      subst (λ (w : List ℕ). IsCommand command (w ∷ words)) (sym (text_is name (codes "generate") g.0)) (generate_takes words command g.1)
+]
+
+pub command_again : (words : List (List ℕ)) (command : Command) → IsCommand command words → command_of words ≡ Some command
+unfolding command_of
+command_again words Drill is = rw is refl
+command_again words (Generate s c n) is = ap command_of is.1 ∙ generate_again s c n is.0 is.2
+
+command_read_at : (o : Option Command) (words : List (List ℕ)) → command_of words ≡ o → IsCommandRead o words
+command_read_at (Some command) words e = command_takes words command e
+command_read_at None words e = λ command is. no_some command (sym e ∙ command_again words command is)
+
+pub command_read : (o : Option Command) (words : List (List ℕ)) → o ≡ command_of words → IsCommandRead o words
+command_read o words e = command_read_at o words (sym e)
+
+pub commands_are_one : WordsTellCommands
+commands_are_one words a b x y = some_same a b (sym (command_again words a x) ∙ command_again words b y)

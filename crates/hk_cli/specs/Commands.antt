@@ -1,0 +1,31 @@
+-- What becomes of the words that a program is called with.
+use Rattle.std.specs.Prelude.{◌≡◌, ℕ, ◌≤◌, List, [], map, Option, None, Some, String, string_bytes, codes, ⊤}
+use Rattle.hk_outside.specs.declared.status.Status.{Status}
+use Rattle.hk_drill.specs.Drilled.{EndsDrill}
+use Rattle.hk_drill.specs.Generated.{EndsGenerate}
+use Rattle.hk_cli.specs.declared.words.Command.{Command}
+use Rattle.hk_cli.specs.declared.words.Command.TheVariants.{Drill, Generate}
+use Rattle.hk_cli.specs.Words.{IsCommand}
+
+-- the bytes of each word
+abbrev pub texts : {A : Type 0} → List (String A) → List (List ℕ)
+texts words = map (λ w. string_bytes w) words
+
+-- the words are no command's
+abbrev pub IsNoCommand : List (List ℕ) → Type 0
+IsNoCommand words = (command : Command) → IsCommand command words → ⊥
+
+-- the one line that is written then
+abbrev pub usage_line : List ℕ
+usage_line = codes "usage: hermes drill | generate | storm | serve\n"
+
+-- the statuses with which a command may end
+abbrev pub MayEnd : Command → Status → Type 0
+MayEnd Drill status = EndsDrill status
+MayEnd (Generate start count nodes) status = EndsGenerate status
+
+-- what words read as a command are within
+abbrev pub IsInRange : Option Command → Type 0
+IsInRange None = ⊤
+IsInRange (Some Drill) = ⊤
+IsInRange (Some (Generate start count nodes)) = (1 ≤ nodes) × (nodes ≤ 16)

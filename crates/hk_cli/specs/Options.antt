@@ -1,0 +1,77 @@
+-- What the reader makes of options. That this turns specs/Words.antt around is proved in proofs/.
+use Rattle.std.specs.Prelude.{ℕ, zero, suc, false, ◌+◌, ◌==◌, List, [], ◌∷◌, length, Bool, Option, None, Some, nat_eq, nat_le, if◌then◌else◌, option_and_then, codes, take, drop, position}
+use Rattle.std.specs.Option.{option_map}
+use Rattle.std.specs.Cmp.Lexicographic.{pointwise}
+use Rattle.hk_cli.specs.Words.{Given, option}
+use Rattle.hk_cli.specs.declared.words.Command.{Command}
+use Rattle.hk_cli.specs.declared.words.Command.TheVariants.{Drill, Generate}
+use Rattle.hk_script.specs.Parts.{is_text, number_64}
+
+-- a word behind its two dashes
+unfoldable pub undashed : List ℕ → Option (List ℕ)
+undashed (a ∷ b ∷ name) = if a == 45 then (if b == 45 then Some name else None) else None
+undashed word = None
+
+abbrev pub is_equals : ℕ → Bool
+is_equals b = b == 61
+
+-- the option that words begin with, and the words behind it
+abbrev pub Began : Type 0
+Began = Given × List (List ℕ)
+
+abbrev pub valued : List ℕ → List (List ℕ) → Option ℕ → Option Began
+valued name rest None = None
+valued name rest (Some n) = Some (option name n, rest)
+
+abbrev pub with_next : List ℕ → List (List ℕ) → Option Began
+with_next name [] = None
+with_next name (word ∷ rest) = valued name rest (number_64 word)
+
+unfoldable pub named_at : List ℕ → Option ℕ → List (List ℕ) → Option Began
+named_at name (Some at) rest = valued (take at name) rest (number_64 (drop (at + 1) name))
+named_at name None rest = with_next name rest
+
+unfoldable pub option_at : List (List ℕ) → Option Began
+option_at [] = None
+option_at (word ∷ rest) = option_and_then (λ name. named_at name (position is_equals name) rest) (undashed word)
+
+-- how many options words are, of which there are at most n
+unfoldable pub option_count : ℕ → List (List ℕ) → Option ℕ
+option_count n [] = Some 0
+option_count zero (word ∷ rest) = None
+option_count (suc n) (word ∷ rest) = option_and_then (λ b. option_map (λ m. 1 + m) (option_count n b.1)) (option_at (word ∷ rest))
+
+-- the value of the first option of this name
+unfoldable pub value_of : List ℕ → ℕ → List (List ℕ) → Option ℕ
+value_of name n [] = None
+value_of name zero (word ∷ rest) = None
+value_of name (suc n) (word ∷ rest) = option_and_then (λ b. if is_text b.0.name name then Some b.0.amount else value_of name n b.1) (option_at (word ∷ rest))
+
+-- the value of an option, in its range
+unfoldable pub ranged : ℕ → ℕ → Option ℕ → Option ℕ
+ranged least most None = None
+ranged least most (Some n) = if nat_le least n then (if nat_le n most then Some n else None) else None
+
+abbrev pub option_is : ℕ → Option ℕ → Bool
+option_is n None = false
+option_is n (Some m) = m == n
+
+-- the command with no words behind it
+abbrev pub alone : List (List ℕ) → Option Command
+alone [] = Some Drill
+alone words = None
+
+unfoldable pub generate_of : List (List ℕ) → Option Command
+generate_of words =
+    if option_is 3 (option_count (length words) words) then
+    option_and_then (λ s. option_and_then (λ c. option_and_then (λ n. Some (Generate s c n))
+    (ranged 1 16 (value_of (codes "nodes") (length words) words)))
+    (ranged 1 100000 (value_of (codes "count") (length words) words)))
+    (value_of (codes "start") (length words) words)
+    else None
+
+unfoldable pub command_of : List (List ℕ) → Option Command
+command_of [] = None
+command_of (name ∷ words) =
+    if is_text name (codes "drill") then alone words
+    else (if is_text name (codes "generate") then generate_of words else None)

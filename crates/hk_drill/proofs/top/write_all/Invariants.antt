@@ -1,9 +1,0 @@
-use Rattle.std.proofs.Common.{◌≤◌, ◌-◌, length, take}
-use Rattle.std.specs.Io.KnownBytes.{Appends}
-use Rattle.hk_drill.proofs.top.write_all.Given as goal
-
-abbrev pub invariant-loop-at : goal.invariant-loop-at
-invariant-loop-at g l = (l.at ≤ length l.text) × (g.K.Sink.faults l.initial.sink ≤ g.K.Sink.faults l.sink) × Appends (g.K.Sink.held l.initial.sink) (g.K.Sink.held l.sink) (take l.at l.text)
-
-abbrev pub decreases-loop-at : goal.decreases-loop-at
-decreases-loop-at g l = length l.text - l.at
