@@ -3,7 +3,8 @@
 // transcript at the end. It proves nothing.
 //
 // `plain gen EVENTS KEYS NODES` writes a script of so many mixed events instead, none of which is refused. `plain letters
-// LETTERS NODES` writes a script that sends nearly so many letters over few keys. `plain drill` is `plain`.
+// LETTERS NODES` writes a script that sends nearly so many letters over few keys. `plain generate START COUNT NODES` draws a run as
+// `hermes generate` does. `plain drill` is `plain`.
 use std::collections::btree_map::{BTreeMap, Entry};
 use std::io::{self, Read, Write};
 use std::rc::Rc;
@@ -1198,20 +1199,20 @@ impl Draws {
 }
 
 /// A quarter of the events are calls; else one of the last letters is taken, or an update is sent again or replayed.
-fn mixed_line(draws: &mut Draws, letters: u64, keys: u64, nodes: u64) -> String {
-    match draws.below(16) {
+fn mixed_line(mut below: impl FnMut(u64) -> u64, letters: u64, prefix: &str, keys: u64, nodes: u64) -> String {
+    match below(16) {
         p if p < 4 || (p < 14 && letters == 0) => {
-            let (node, key) = (draws.below(nodes), draws.below(keys));
-            match draws.below(4) {
-                0 => format!("call {node} get key:{key}"),
-                1 => format!("call {node} set key:{key} 0 {}", draws.below(100)),
-                2 => format!("call {node} incr key:{key} {}", draws.below(100)),
-                _ => format!("call {node} decr key:{key} {}", draws.below(100)),
+            let (node, key) = (below(nodes), below(keys));
+            match below(4) {
+                0 => format!("call {node} get {prefix}{key}"),
+                1 => format!("call {node} set {prefix}{key} 0 {}", below(100)),
+                2 => format!("call {node} incr {prefix}{key} {}", below(100)),
+                _ => format!("call {node} decr {prefix}{key} {}", below(100)),
             }
         }
-        14 => format!("resend {} key:{}", draws.below(nodes), draws.below(keys)),
-        15 => format!("replay {} key:{}", draws.below(nodes), draws.below(keys)),
-        _ => format!("take {}", letters - draws.below(letters.min(64))),
+        14 => format!("resend {} {prefix}{}", below(nodes), below(keys)),
+        15 => format!("replay {} {prefix}{}", below(nodes), below(keys)),
+        _ => format!("take {}", letters - below(letters.min(64))),
     }
 }
 
@@ -1220,7 +1221,7 @@ fn mixed(events: u64, keys: u64, nodes: u64, out: &mut impl Write) -> io::Result
     let mut world = World::new(nodes as u16, MAX_TIME, 0);
     let mut draws = Draws(1);
     for _ in 0..events {
-        let line = mixed_line(&mut draws, world.letters.len() as u64, keys, nodes);
+        let line = mixed_line(|n| draws.below(n), world.letters.len() as u64, "key:", keys, nodes);
         writeln!(out, "{line}")?;
         let words: Vec<&[u8]> = line.as_bytes().split(|byte| *byte == b' ').collect();
         assert!(world.step(&words).is_ok());
@@ -1229,6 +1230,57 @@ fn mixed(events: u64, keys: u64, nodes: u64, out: &mut impl Write) -> io::Result
 }
 
 /// Each node sets a key of its own, and then the updates are sent again and again. Each line sends a letter to each other node.
+/// The words of the generator `pcg32`.
+struct Pcg {
+    state: u64,
+    increment: u64,
+}
+
+impl Pcg {
+    fn new(start: u64, stream: u64) -> Pcg {
+        let increment = stream << 1 | 1;
+        let mut pcg = Pcg { state: start.wrapping_add(increment), increment };
+        pcg.step();
+        pcg
+    }
+
+    fn step(&mut self) {
+        self.state = self.state.wrapping_mul(6364136223846793005).wrapping_add(self.increment);
+    }
+
+    fn below(&mut self, n: u64) -> u64 {
+        let state = self.state;
+        self.step();
+        let word = ((((state >> 18) ^ state) >> 27) as u32).rotate_right((state >> 59) as u32);
+        u64::from(word) % n
+    }
+}
+
+/// Draws a run as `hermes generate` does, and writes its summary.
+fn generate(start: u64, count: u64, nodes: u64, out: &mut impl Write) -> io::Result<()> {
+    let mut drill = Drill::new(World::new(nodes as u16, MAX_TIME, 0));
+    let mut numbers = Pcg::new(start, 54);
+    let (mut answered, mut busy, mut aborted) = (0, 0, 0);
+    for _ in 0..count {
+        let line = mixed_line(|n| numbers.below(n), drill.world.letters.len() as u64, "k", 8, nodes);
+        let words: Vec<&[u8]> = line.as_bytes().split(|byte| *byte == b' ').collect();
+        assert!(drill.world.step(&words).is_ok());
+        drill.keep();
+        for reply in drill.world.shown.told.iter().filter_map(|told| told.reply.as_ref()) {
+            match reply.answer {
+                Answer::BusyLease { .. } | Answer::BusyRow(..) => busy += 1,
+                Answer::Aborted(_) => aborted += 1,
+                _ => answered += 1,
+            }
+        }
+    }
+    let (calls, letters) = (drill.world.calls, drill.world.letters.len());
+    let open = calls - answered - busy - aborted;
+    writeln!(out, "generated {start} {count} {nodes}")?;
+    writeln!(out, "calls {calls} answered {answered} busy {busy} aborted {aborted} open {open}")?;
+    writeln!(out, "letters {letters} legal")
+}
+
 fn many_letters(letters: u64, nodes: u64, out: &mut impl Write) -> io::Result<()> {
     writeln!(out, "group {nodes} managers 0 lease {MAX_TIME} skew 0")?;
     for line in 0..letters / (nodes - 1).max(1) {
@@ -1243,7 +1295,7 @@ fn many_letters(letters: u64, nodes: u64, out: &mut impl Write) -> io::Result<()
 }
 
 fn usage() -> ! {
-    eprintln!("usage: plain [drill] | plain gen EVENTS KEYS NODES | plain letters LETTERS NODES");
+    eprintln!("usage: plain [drill] | plain gen EVENTS KEYS NODES | plain letters LETTERS NODES | plain generate START COUNT NODES");
     std::process::exit(2);
 }
 
@@ -1260,6 +1312,7 @@ fn main() -> io::Result<()> {
             std::process::exit(status);
         }
         ("gen", [events, keys, nodes @ 1..=16]) if *keys > 0 => mixed(*events, *keys, *nodes, &mut io::BufWriter::new(out)),
+        ("generate", [start, count, nodes @ 1..=16]) => generate(*start, *count, *nodes, &mut out),
         ("letters", [letters, nodes @ 2..=16]) => many_letters(*letters, *nodes, &mut io::BufWriter::new(out)),
         _ => usage(),
     }
