@@ -4,6 +4,7 @@ use Rattle.std.specs.Prelude.{Err}
 use Rattle.std.specs.Io.KnownBytes.{Appends, Consumes, Keeps}
 use Rattle.std.proofs.Math.Seq.{take-append_seam}
 use Rattle.hk_lines.specs.Cut.{Cutting, fed}
+use Rattle.hk_lines.specs.declared.due.Due.TheVariants as due
 use Rattle.hk_lines.proofs.Joined.{drop_both}
 use Rattle.hk_outside.specs.declared.desk.Asked.{Asked}
 use Rattle.hk_outside.specs.declared.desk.DeskReply.{DeskReply}
@@ -34,7 +35,7 @@ appends_none : (held : Option (List ℕ)) → Appends held held []
 appends_none None = tt
 appends_none (Some xs) = sym (append-nil xs)
 
-pub serving_starts : (m : ℕ) (left held : Option (List ℕ)) (asks : Option (List Asked)) (c : Cutting) → c ≡ record { unread = []; dropping = 0; limit = 65536; block = None; given = []; room = [] } → IsServing m left left held held asks asks 0 (replies_from m (record { pending = None; cutting = c }))
+pub serving_starts : (m : ℕ) (left held : Option (List ℕ)) (asks : Option (List Asked)) (c : Cutting) → c ≡ record { unread = []; dropping = 0; limit = 65536; due = due.Line; given = []; room = [] } → IsServing m left left held held asks asks 0 (replies_from m (record { pending = None; cutting = c }))
 serving_starts m left held asks c e = rw e (record { read = []; made = []; text = []; consumed = consumes_none left; asked = asks_none asks; written = appends_none held; count = omega arith; goes = λ more later. refl })
 
 fed_ahead : (h : Option StoreHead) (c : Cutting) (piece more : List ℕ) → ahead h (fed c piece) more ≡ ahead h c (piece ++ more)

@@ -1,5 +1,5 @@
 -- The replies to all that was said so far.
-use Rattle.std.proofs.Common.{◌≡◌, ℕ, zero, suc, ◌<◌, List, [], ◌∷◌, ◌++◌, length, map, false, Option, Some, None, refl, ap, ◌∙◌, sym, append_assoc, append-nil}
+use Rattle.std.proofs.Common.{◌≡◌, ◌≢◌, ℕ, zero, suc, ◌<◌, List, [], ◌∷◌, ◌++◌, length, map, false, Option, Some, None, refl, ap, ◌∙◌, sym, append_assoc, append-nil}
 use Rattle.std.specs.Prelude.{IfSome, if◌then◌else◌}
 use Rattle.hk_lines.specs.Cut.{Cutting}
 use Rattle.hk_outside.specs.declared.desk.Asked.{Asked}
@@ -8,6 +8,7 @@ use Rattle.hk_request.specs.declared.request.Request.TheVariants as request
 use Rattle.hk_request.specs.declared.request.StoreHead.{StoreHead}
 use Rattle.hk_conn.specs.declared.said.Said.{Said}
 use Rattle.hk_conn.specs.declared.said.Said.TheVariants as said
+use Rattle.hk_conn.specs.declared.said.Turn.{Turn}
 use Rattle.hk_conn.specs.declared.said.Turn.TheVariants as turn
 use Rattle.hk_conn.specs.declared.said.Stop.{Stop}
 use Rattle.hk_conn.specs.declared.said.Stop.TheVariants as stop
@@ -105,6 +106,10 @@ says_ends m b d mid new h h' c c' s l t r n = record {
   goes = λ more later.
       ap (λ ss. replies m ss (map told_of r.made ++ later)) (t.next more) ∙ says_last m b d mid new s l (if is_last s then [] else ahead h' c' more) later r n;
 }
+
+-- what is no stop is no line that is too long
+pub goes_on : (t : Turn) (s : Said) → t ≡ turn.Says s → None ≡ stop_at s → t ≢ turn.Says said.LongLine
+goes_on t s is none long = let same : s ≡ said.LongLine = cc in absurd (let stops : None ≡ Some stop.TooLong = rw same at none in cc)
 
 pub says_none : (m : ℕ) (a b d : Option (List Asked)) (old mid new : List ℕ) (p : Place) (h h' : Option StoreHead) (c c' : Cutting) (s : Said) → Replying m a b old mid p (replies_from m (record { pending = h; cutting = c })) → Turns (turn.Says s) h c h' c' → Replied m b d mid new s → None ≡ stop_at s → Replying m a d old new p (replies_from m (record { pending = h'; cutting = c' })) × (length c'.unread < length c.unread)
 says_none m a b d old mid new p h h' c c' (said.Asked r) k t q e = (replying_more m a b d old mid new p _ _ k (says_goes m b d mid new h h' c c' _ t q refl refl), t.less refl)

@@ -4,6 +4,7 @@ use Rattle.std.specs.Prelude.{Result, Ok, Err, IfOk}
 use Rattle.std.proofs.lemmas.List.{drop-drop, drop-append-le, take-append-le}
 use Rattle.std.proofs.lemmas.Bool.Decides.{nat_tests}
 use Rattle.hk_lines.specs.Cut.{Cutting, line_end, stepped, line_step, block_step, giving, skipped}
+use Rattle.hk_lines.specs.declared.due.Due.TheVariants as due
 use Rattle.hk_lines.specs.declared.step.Step.TheVariants.{Line, Block, Need, TooLong}
 use Rattle.hk_lines.proofs.Feeds.{end_within}
 use Rattle.hk_lines.proofs.Joined.{window_stays, drop_both}
@@ -46,10 +47,10 @@ line_facts c r s = at (line_end (take 65538 c.unread)) refl (nat_le (c.limit + 2
     at None e true f = absurd (let g : (line_step c None).step ≡ Line = rw (step_line c r, e) at s in let k : TooLong ≡ Line = rw f at g in cc)
     at None e false f = absurd (let g : (line_step c None).step ≡ Line = rw (step_line c r, e) at s in let k : Need ≡ Line = rw f at g in cc)
 
-pub long_facts : (c : Cutting) → IsReader c None → (stepped c).step ≡ TooLong → (line_end (take 65538 c.unread) ≡ None) × (65538 ≤ length c.unread) × ((stepped c).rest ≡ record c { given = [] })
+pub long_facts : (c : Cutting) → IsReader c None → (stepped c).step ≡ TooLong → (line_end (take 65538 c.unread) ≡ None) × (65538 ≤ length c.unread) × ((stepped c).rest ≡ record c { due = due.Nothing; given = [] })
 long_facts c r s = at (line_end (take 65538 c.unread)) refl (nat_le (c.limit + 2) (length c.unread)) refl
   where
-    at : (o : Option ℕ) → line_end (take 65538 c.unread) ≡ o → (b : Bool) → nat_le (c.limit + 2) (length c.unread) ≡ b → (line_end (take 65538 c.unread) ≡ None) × (65538 ≤ length c.unread) × ((stepped c).rest ≡ record c { given = [] })
+    at : (o : Option ℕ) → line_end (take 65538 c.unread) ≡ o → (b : Bool) → nat_le (c.limit + 2) (length c.unread) ≡ b → (line_end (take 65538 c.unread) ≡ None) × (65538 ≤ length c.unread) × ((stepped c).rest ≡ record c { due = due.Nothing; given = [] })
     at (Some n) e b f = absurd (let g : Line ≡ TooLong = rw (step_line c r, e) at s in cc)
     at None e true f =
         let k : nat_le 65538 (length c.unread) ≡ true = rw r.limit at f in
@@ -88,7 +89,7 @@ line_reader c c1 r s e free =
     let f = line_facts c r s in
     let same : c1 ≡ giving c f.0 (f.0 + 2) = e ∙ f.3 in
     let zero_dropping : c.dropping ≡ 0 = none c.dropping c.unread f.0 f.2 r.free in
-    (record { limit = ap (λ x. x.limit) same ∙ r.limit; due = ap (λ x. x.block) same; small = tt; its_tag = tt; free = free }, ap (λ x. x.dropping) same ∙ zero_dropping)
+    (record { limit = ap (λ x. x.limit) same ∙ r.limit; due = ap (λ x. x.due) same; small = tt; its_tag = tt; free = free }, ap (λ x. x.dropping) same ∙ zero_dropping)
   where
     none : (d : ℕ) (u : List ℕ) → (n : ℕ) → n + 2 ≤ length u → (0 < d → u ≡ []) → d ≡ 0
     none zero u n h f = refl
@@ -117,11 +118,11 @@ line_turns t c c1 c' p' r s e lt =
         grind (arith, le, h, k, length-drop)
 
 -- a line that is too long
-pub long_turns : (c c1 : Cutting) → IsReader c None → (stepped c).step ≡ TooLong → c1 ≡ (stepped c).rest → IsReader c1 None × Turns (turn.Says LongLine) None c None c1
+pub long_turns : (c c1 : Cutting) → IsReader c None → (stepped c).step ≡ TooLong → c1 ≡ (stepped c).rest → Turns (turn.Says LongLine) None c None c1
 long_turns c c1 r s e =
     let f = long_facts c r s in
-    let same : c1 ≡ record c { given = [] } = e ∙ f.2 in
-    rw same (record { limit = r.limit; due = r.due; small = r.small; its_tag = r.its_tag; free = r.free }, record { next = λ more. said more f.0 f.1; need = λ h. absurd (cc); less = λ h. absurd (cc) })
+    let same : c1 ≡ record c { due = due.Nothing; given = [] } = e ∙ f.2 in
+    rw same (record { next = λ more. said more f.0 f.1; need = λ h. absurd (cc); less = λ h. absurd (cc) })
   where
     said : (more : List ℕ) → line_end (take 65538 c.unread) ≡ None → 65538 ≤ length c.unread → said_in (bytes_with c more) ≡ LongLine ∷ []
     said more h le =
@@ -170,7 +171,7 @@ block_turns c c1 h s r st e free q =
     let f = block_facts c h r st in
     let same : c1 ≡ giving c (h.bytes + 2) (h.bytes + 2) = e ∙ f.1 in
     let given : c1.given ≡ take (h.bytes + 2) c.unread = ap (λ x. x.given) same in (
-      record { limit = ap (λ x. x.limit) same ∙ r.limit; due = ap (λ x. x.block) same; small = tt; its_tag = tt; free = free },
+      record { limit = ap (λ x. x.limit) same ∙ r.limit; due = ap (λ x. x.due) same; small = tt; its_tag = tt; free = free },
       record {
         next = λ more. said more f.0 ∙ rw (q, given, last_block h (take (h.bytes + 2) c.unread), same) refl;
         need = λ h. absurd (cc);

@@ -1,25 +1,35 @@
 -- The turns of the reader, beside what the bytes say.
-use Rattle.std.specs.Prelude.{◌≡◌, ℕ, ◌<◌, ◌≤◌, List, [], ◌∷◌, ◌++◌, length, drop, false, Option, None, Some, IfSome, if◌then◌else◌, Result, Ok, Err}
-use Rattle.std.specs.Option.{option_map}
+use Rattle.std.specs.Prelude.{◌≡◌, ◌≢◌, ℕ, ◌<◌, ◌≤◌, List, [], ◌∷◌, ◌++◌, length, drop, false, Option, None, Some, IfSome, if◌then◌else◌, Result, Ok, Err}
 use Rattle.hk_lines.specs.Cut.{Cutting}
+use Rattle.hk_lines.specs.declared.due.Due.{Due}
+use Rattle.hk_lines.specs.declared.due.Due.TheVariants as due
 use Rattle.hk_request.specs.Heads.{HasItsTag}
 use Rattle.hk_request.specs.declared.request.StoreHead.{StoreHead}
 use Rattle.hk_request.specs.declared.request.Head.{Head}
 use Rattle.hk_request.specs.declared.request.Head.TheVariants.{Whole, Store}
 use Rattle.hk_request.specs.declared.request.RequestFault.{RequestFault}
 use Rattle.hk_conn.specs.declared.said.Said.{Said}
-use Rattle.hk_conn.specs.declared.said.Said.TheVariants.{Refused}
+use Rattle.hk_conn.specs.declared.said.Said.TheVariants.{Refused, LongLine}
 use Rattle.hk_conn.specs.declared.said.Turn.{Turn}
 use Rattle.hk_conn.specs.declared.said.Turn.TheVariants.{Says, Head as AHead, Need}
 use Rattle.hk_conn.specs.Said.{said_in, said_whole, store_at, Taken, is_last}
 
--- a block is due where a head is kept
+-- a block is due where a head is kept, and else a line
+abbrev pub due_of : Option StoreHead → Due
+due_of None = due.Line
+due_of (Some h) = due.Block h.bytes
+
+-- the cutter of a reader that keeps this head, or none
 pub record IsReader (c : Cutting) (pending : Option StoreHead) : Type 0 where
   pub limit : c.limit ≡ 65536
-  pub due : c.block ≡ option_map (λ h. h.bytes) pending
+  pub due : c.due ≡ due_of pending
   pub small : IfSome pending (λ h. h.bytes ≤ 1048576)
   pub its_tag : IfSome pending HasItsTag
   pub free : 0 < c.dropping → c.unread ≡ []
+
+-- the reader goes on behind a turn, unless that said that a line is too long
+abbrev pub GoesOn : Turn → Cutting → Option StoreHead → Type 0
+GoesOn t c pending = t ≢ Says LongLine → IsReader c pending
 
 -- the bytes that are unread, once more came
 abbrev pub bytes_with : Cutting → List ℕ → List ℕ

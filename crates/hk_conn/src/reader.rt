@@ -5,7 +5,8 @@ ghost use Rattle.hk_outside.specs.Causes.{Rose};
 ghost use Rattle.hk_request.specs.Heads.{HasItsTag};
 ghost use Rattle.hk_request.specs.Reading.{head_of};
 ghost use Rattle.hk_conn.specs.Said.{said_block};
-ghost use Rattle.hk_conn.specs.Turns.{IsReader, Turns, LineTurns};
+ghost use Rattle.hk_lines.specs.declared.due.Due.TheVariants as due;
+ghost use Rattle.hk_conn.specs.Turns.{GoesOn, IsReader, Turns, LineTurns};
 ghost use Rattle.hk_conn.specs.Pieces.{Pieces};
 
 use crate::ends::ConnEnd;
@@ -33,7 +34,7 @@ pub struct Reader {
 impl Reader {
     pub fn new(alloc: Global) -> Result<Reader, Memory>
         ensures reader { IfOk result (λ r. IsReader r.cutter r.pending) }
-        ensures empty { IfOk result (λ r. (r.cutter ≡ record { unread = []; dropping = 0; limit = LINE_LIMIT; block = None; given = []; room = [] }) × (r.pending ≡ None)) }
+        ensures empty { IfOk result (λ r. (r.cutter ≡ record { unread = []; dropping = 0; limit = LINE_LIMIT; due = due.Line; given = []; room = [] }) × (r.pending ≡ None)) }
     {
         Ok(Reader {
             cutter: Cutter::new(alloc, LINE_LIMIT)?,
@@ -66,7 +67,7 @@ impl Reader {
     /// The next that was said, if all of it is there.
     pub fn turn(&mut self, alloc: Global) -> Result<Turn, Memory>
         requires { IsReader self.old.cutter self.old.pending }
-        ensures reader { OnOk result (IsReader self.new.cutter self.new.pending) }
+        ensures reader { IfOk result (λ t. GoesOn t self.new.cutter self.new.pending) }
         ensures turns { IfOk result (λ t. Turns t self.old.pending self.old.cutter self.new.pending self.new.cutter) }
     {
         match self.pending.take() {
@@ -78,7 +79,7 @@ impl Reader {
     fn line_turn(&mut self, alloc: Global) -> Result<Turn, Memory>
         requires reader { IsReader self.old.cutter None }
         requires pending { self.old.pending ≡ None }
-        ensures reader { OnOk result (IsReader self.new.cutter self.new.pending) }
+        ensures reader { IfOk result (λ t. GoesOn t self.new.cutter self.new.pending) }
         ensures turns { IfOk result (λ t. Turns t None self.old.cutter self.new.pending self.new.cutter) }
     {
         match self.cutter.next() {

@@ -6,6 +6,8 @@ use Rattle.std.proofs.lemmas.Bool.Decides.{nat_tests}
 use Rattle.std.proofs.lemmas.List.{drop-drop, drop-append-le, take-append-le}
 use Rattle.hk_lines.specs.Cut.{Cutting, fed, skipped, stepped, step_of, line_end, Stepped, giving, line_step, block_step}
 use Rattle.hk_lines.specs.Pieces.{PiecesJoin, SkipCommutes, ExpectCommutes, StepStays}
+use Rattle.hk_lines.specs.declared.due.Due.{Due}
+use Rattle.hk_lines.specs.declared.due.Due.TheVariants as due
 use Rattle.hk_lines.specs.declared.step.Step.TheVariants.{Need}
 use Rattle.hk_lines.proofs.Feeds.{end_within}
 
@@ -77,16 +79,17 @@ block_stays c more count s = stays_at (nat_le (count + 2) (length c.unread)) ref
         rw (longer, e) (refl, giving_stays c more (count + 2) (count + 2) (omega arith) le)
     stays_at false e s = absurd (s (rw e refl))
 
-pub follows : (o : Option ℕ) (c : Cutting) (more : List ℕ) → (step_of o c).step ≢ Need → Follows (step_of o c) (step_of o (fed c more)) more
-follows (Some count) c more s = block_stays c more count s
-follows None c more s = line_stays c more _ _ (λ n h. window_stays (c.limit + 2) c.unread (drop c.dropping more) n h) (λ n h. window_within (c.limit + 2) c.unread n (end_within _ n h)) (λ le. ap line_end (take-append-le (c.limit + 2) c.unread (drop c.dropping more) le)) s
+pub follows : (d : Due) (c : Cutting) (more : List ℕ) → (step_of d c).step ≢ Need → Follows (step_of d c) (step_of d (fed c more)) more
+follows (due.Block count) c more s = block_stays c more count s
+follows due.Nothing c more s = (refl, refl)
+follows due.Line c more s = line_stays c more _ _ (λ n h. window_stays (c.limit + 2) c.unread (drop c.dropping more) n h) (λ n h. window_within (c.limit + 2) c.unread n (end_within _ n h)) (λ le. ap line_end (take-append-le (c.limit + 2) c.unread (drop c.dropping more) le)) s
   where
     window_within : (l : ℕ) (u : List ℕ) (n : ℕ) → n + 2 ≤ length (take l u) → n + 2 ≤ length u
     window_within l u n h = grind (arith, h, length-take)
 
 pub step_stays : StepStays
 unfolding stepped
-step_stays c more s = follows c.block c more s
+step_stays c more s = follows c.due c more s
 
 pub drop_nothing : (n : ℕ) → drop {A = ℕ} n [] ≡ []
 drop_nothing zero = refl

@@ -2,6 +2,8 @@
 -- carriage return and a line feed, 13 and 10. A block has a count that a line told, and two bytes that end it.
 use Rattle.std.specs.Prelude.{◌≡◌, ℕ, ◌+◌, ◌-◌, ◌<◌, List, [], ◌∷◌, ◌++◌, length, take, drop, Bool, false, Option, None, Some, nat_le, ◌==◌, ◌&&◌, if◌then◌else◌}
 use Rattle.std.specs.Option.{option_map}
+use Rattle.hk_lines.specs.declared.due.Due.{Due}
+use Rattle.hk_lines.specs.declared.due.Due.TheVariants as due
 use Rattle.hk_lines.specs.declared.step.Step.{Step}
 use Rattle.hk_lines.specs.declared.step.Step.TheVariants.{Line, Block, Need, TooLong}
 
@@ -22,8 +24,8 @@ pub record Cutting : Type 0 where
   pub dropping : ℕ
   -- how long a line may be, without the two bytes that end it
   pub limit : ℕ
-  -- the count of the block that is due; none where a line is due
-  pub block : Option ℕ
+  -- a line, a block of a count that was told, or nothing any more
+  pub due : Due
   -- the line or block that was given last; nothing where the last step gave none
   pub given : List ℕ
   -- what stands in the room behind the unread bytes
@@ -53,9 +55,15 @@ filled c count = record (fed c (take count c.room)) { room = drop count c.room }
 abbrev pub skipped : Cutting → ℕ → Cutting
 skipped c count = record c { unread = drop count c.unread; dropping = c.dropping + (count - length c.unread) }
 
--- a block is due
+-- what is due once a block is expected: it, unless nothing is due any more
+abbrev pub with_block : Due → ℕ → Due
+with_block due.Line count = due.Block count
+with_block (due.Block n) count = due.Block count
+with_block due.Nothing count = due.Nothing
+
+-- a block is expected
 abbrev pub expecting : Cutting → ℕ → Cutting
-expecting c count = record c { block = Some count }
+expecting c count = record c { due = with_block c.due count }
 
 -- a step, and what the cutter holds afterwards
 pub record Stepped : Type 0 where
@@ -64,7 +72,7 @@ pub record Stepped : Type 0 where
 
 -- the first n bytes are given, so many are gone, and a line is due
 abbrev pub giving : Cutting → ℕ → ℕ → Cutting
-giving c n gone = record c { unread = drop gone c.unread; block = None; given = take n c.unread }
+giving c n gone = record c { unread = drop gone c.unread; due = due.Line; given = take n c.unread }
 
 -- a step that gave what the cutter now shows
 abbrev pub gives : Step → Cutting → Stepped
@@ -74,20 +82,21 @@ gives step c = record { step = step; rest = c }
 abbrev pub holding : Step → Cutting → Stepped
 holding step c = record { step = step; rest = record c { given = [] } }
 
--- a line is due: it is given where it ends, and is too long where that many bytes are there without an end
+-- a line is due: it is given where it ends, and is too long where that many bytes are there without an end; then nothing is due any more
 abbrev pub line_step : Cutting → Option ℕ → Stepped
 line_step c (Some n) = gives Line (giving c n (n + 2))
-line_step c None = if nat_le (c.limit + 2) (length c.unread) then holding TooLong c else holding Need c
+line_step c None = if nat_le (c.limit + 2) (length c.unread) then holding TooLong (record c { due = due.Nothing }) else holding Need c
 
 -- a block is due: it is given with the two bytes that end it, once all of it is there
 abbrev pub block_step : Cutting → ℕ → Stepped
 block_step c count = if nat_le (count + 2) (length c.unread) then gives Block (giving c (count + 2) (count + 2)) else holding Need c
 
 -- the next step of what is due; the end of a line is sought in the first limit + 2 bytes
-abbrev pub step_of : Option ℕ → Cutting → Stepped
-step_of None c = line_step c (line_end (take (c.limit + 2) c.unread))
-step_of (Some count) c = block_step c count
+abbrev pub step_of : Due → Cutting → Stepped
+step_of due.Line c = line_step c (line_end (take (c.limit + 2) c.unread))
+step_of (due.Block count) c = block_step c count
+step_of due.Nothing c = holding TooLong c
 
 -- the next step
 unfoldable pub stepped : Cutting → Stepped
-stepped c = step_of c.block c
+stepped c = step_of c.due c

@@ -1,10 +1,12 @@
 //! The cutter.
 
 ghost use Rattle.std.specs.Borrow.{sem};
-ghost use Rattle.std.specs.Prelude.{◌≡◌, ◌≢◌, ◌+◌, ◌<◌, ◌≤◌, ◌^◌, [], length, take, drop, nat_le, None, OnOk, OnErr, IfOk, IfSome};
+ghost use Rattle.std.specs.Prelude.{◌≡◌, ◌≢◌, ◌+◌, ◌<◌, ◌≤◌, ◌^◌, [], length, take, drop, nat_le, OnOk, OnErr, IfOk, IfSome};
 ghost use Rattle.hk_lines.specs.Cut.{line_end, fed, with_room, filled, skipped, expecting, stepped, line_step, block_step, giving};
 ghost use Rattle.hk_lines.specs.Lending.{LendsRoom};
+ghost use Rattle.hk_lines.specs.declared.due.Due.TheVariants as due;
 
+use crate::due::Due;
 use crate::ends::line_end;
 use crate::step::Step;
 use hk_base::Memory;
@@ -12,7 +14,7 @@ use std::alloc::Global;
 use std::marker::Model;
 
 /// Holds the bytes that came and were not given yet, in one buffer, and knows what is due of them: a line, or a block
-/// of a count that was told. No line is longer than the limit.
+/// of a count that was told. No line is longer than the limit: after one that is, the cutter tells `TooLong` for ever.
 ///
 /// Bytes come by `feed`, which copies them, or are written into the cutter's own room: `make_room`, then `room` lends
 /// it, then `filled`.
@@ -27,8 +29,7 @@ pub struct Cutter {
     // how many of the bytes to come are dropped
     dropping: u64,
     limit: usize,
-    // the count of the block that is due, if it is no line
-    block: Option<u32>,
+    due: Due,
     // where the line or block that was given last lies
     from: usize,
     to: usize,
@@ -41,7 +42,7 @@ impl Model for Cutter {
 
     ghost Value = { Cutting };
 
-    ghost view = { λ c. record { unread = drop c.start (take c.end c.bytes.items); dropping = c.dropping; limit = c.limit; block = c.block; given = slice_range (take c.end c.bytes.items) c.from c.to; room = drop c.end c.bytes.items } };
+    ghost view = { λ c. record { unread = drop c.start (take c.end c.bytes.items); dropping = c.dropping; limit = c.limit; due = c.due; given = slice_range (take c.end c.bytes.items) c.from c.to; room = drop c.end c.bytes.items } };
 
     ghost invariant = { λ c. (c.start ≤ c.end) × (c.end ≤ length c.bytes.items) × (0 < c.dropping → c.start ≡ c.end) × (c.from ≤ c.to) × (c.to ≤ c.start) × IsSearched c.searched c.limit (drop c.start (take c.end c.bytes.items)) };
 }
@@ -49,7 +50,7 @@ impl Model for Cutter {
 impl Cutter {
     /// Nothing came yet, and a line is due, of at most `limit` bytes.
     pub fn new(alloc: Global, limit: usize) -> Result<Cutter, Memory>
-        ensures { IfOk result (λ c. c ≡ record { unread = []; dropping = 0; limit = limit; block = None; given = []; room = [] }) }
+        ensures { IfOk result (λ c. c ≡ record { unread = []; dropping = 0; limit = limit; due = due.Line; given = []; room = [] }) }
     {
         Ok(Cutter {
             bytes: Vec::new(alloc),
@@ -58,7 +59,7 @@ impl Cutter {
             searched: 0,
             dropping: 0,
             limit,
-            block: None,
+            due: Due::Line,
             from: 0,
             to: 0,
         })
@@ -132,11 +133,15 @@ impl Cutter {
         }
     }
 
-    /// What is due next is a block of `count` bytes and the two that end it. It takes no memory.
+    /// What is due next is a block of `count` bytes and the two that end it, unless a line was too long. It takes no
+    /// memory.
     pub fn expect_block(&mut self, count: u32)
         ensures { self.new ≡ expecting self.old count }
     {
-        self.block = Some(count);
+        match self.due {
+            Due::Line | Due::Block(_) => self.due = Due::Block(count),
+            Due::Nothing => {}
+        }
     }
 
     /// Drops the next `count` bytes, those that are there and, where they are too few, those that come. What is still
@@ -162,11 +167,15 @@ impl Cutter {
         ensures step { result ≡ (stepped self.old).step }
         ensures rest { self.new ≡ (stepped self.old).rest }
         ensures free { 0 < self.new.dropping → self.new.unread ≡ [] }
-        ensures none_dropped { result ≢ Step.Need → self.new.dropping ≡ 0 }
+        ensures none_dropped { result ≢ Step.Need → result ≢ Step.TooLong → self.new.dropping ≡ 0 }
     {
-        match self.block {
-            None => self.next_line(),
-            Some(count) => self.next_block(count as usize),
+        match self.due {
+            Due::Line => self.next_line(),
+            Due::Block(count) => self.next_block(count as usize),
+            Due::Nothing => {
+                self.give_nothing();
+                Step::TooLong
+            }
         }
     }
 
@@ -182,6 +191,7 @@ impl Cutter {
             None => {
                 self.give_nothing();
                 if self.is_long() {
+                    self.due = Due::Nothing;
                     Step::TooLong
                 } else {
                     Step::Need
@@ -245,7 +255,7 @@ impl Cutter {
         self.to = self.start + count;
         self.start += gone;
         self.searched = 0;
-        self.block = None;
+        self.due = Due::Line;
     }
 
     fn give_nothing(&mut self)

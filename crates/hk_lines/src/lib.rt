@@ -6,12 +6,14 @@
 #![tactic(auto)]
 
 mod cutter;
+mod due;
 mod ends;
 mod step;
 
-ghost use Rattle.hk_lines.specs.Pieces.{PiecesJoin, SkipCommutes, ExpectCommutes, StepStays};
+ghost use Rattle.hk_lines.specs.Pieces.{PiecesJoin, SkipCommutes, ExpectCommutes, StepStays, LongStays};
 
 pub use cutter::Cutter;
+pub use due::Due;
 pub use step::Step;
 
 /// How the bytes are cut into pieces makes no difference: two pieces do what the one does that they make, and each
@@ -21,4 +23,9 @@ pub fn pieces_do_not_matter()
     ensures skip { SkipCommutes }
     ensures expect { ExpectCommutes }
     ensures stays { StepStays }
+{}
+
+/// A cutter that told TooLong tells it at every step from then on, whatever calls are made between.
+pub fn too_long_stays()
+    ensures { LongStays }
 {}

@@ -9,6 +9,6 @@ pub enum Step {
     Block,
     /// What is due is not there yet.
     Need,
-    /// A line is due, and it is longer than the limit. It stays so, whatever comes.
+    /// A line is due, and it is longer than the limit. It stays so, whatever comes and whatever is called.
     TooLong,
 }

@@ -1,5 +1,6 @@
 use Rattle.std.proofs.Common.{rules, arith, ◌≡◌, ◌-◌, ◌+◌, refl, []}
 use Rattle.std.specs.Prelude.{None}
+use Rattle.hk_lines.specs.declared.due.Due.TheVariants as due
 use Rattle.hk_conn.specs.declared.ends.ConnEnd.TheVariants as ends
 use Rattle.hk_conn.specs.declared.said.Said.TheVariants.{LongLine, Left}
 use Rattle.hk_conn.specs.Serving.{place_of, behind_stop}
@@ -7,7 +8,7 @@ use Rattle.hk_conn.proofs.Connected.{serving_starts, serving_fed, serving_respon
 use Rattle.hk_conn.proofs.connection.serve_connection.Goals as goal
 
 pub returns-in_default-clause-served : goal.returns-in_default-clause-served
-returns-in_default-clause-served g c = serves_front c.args.patience ends.Memory _ _ _ _ _ _ 0 (place_of None (record { unread = []; dropping = 0; limit = 65536; block = None; given = []; room = [] })) (serving_starts _ (g.C.Source.left c.args.conn.now) (g.C.Sink.held c.args.conn.now) (g.D.Desk.asks c.args.desk.now) _ refl) (λ out w. w)
+returns-in_default-clause-served g c = serves_front c.args.patience ends.Memory _ _ _ _ _ _ 0 (place_of None (record { unread = []; dropping = 0; limit = 65536; due = due.Line; given = []; room = [] })) (serving_starts _ (g.C.Source.left c.args.conn.now) (g.C.Sink.held c.args.conn.now) (g.D.Desk.asks c.args.desk.now) _ refl) (λ out w. w)
 
 pub loop-read-init : goal.loop-read-init
 loop-read-init g c = record {
