@@ -1,5 +1,5 @@
 -- An event that is accepted has passed its checks: what is left is a node's step, or a change beside the nodes.
-use Rattle.std.proofs.Common.{◌≡◌, ◌⊎◌, ℕ, Bool, true, false, cond, not, ◌+◌, [], ◌∷◌, ◌++◌, map, length, ◌≤◌, refl, ap, ◌∙◌, ⊎_elim, arith, le_refl, inl, Option, Some, None, Result, Ok, Err, eqb, ltb, leb, ltb-false}
+use Rattle.std.proofs.Common.{◌≡◌, ℕ, Bool, true, false, cond, not, ◌+◌, [], ◌∷◌, ◌++◌, map, length, ◌≤◌, refl, ap, ◌∙◌, ⊎_elim, arith, le_refl, inl, Option, Some, None, Result, Ok, Err, eqb, ltb, leb, ltb-false}
 use Rattle.std.specs.List.{filter, find}
 use Rattle.hk_base.specs.declared.stamp.NodeId.{NodeId}
 use Rattle.hk_base.specs.declared.letter.Actor.{Actor}

@@ -1,6 +1,6 @@
 -- A call is, for each key, an effect or two.
-use Rattle.std.proofs.Common.{◌≡◌, ◌⊎◌, ◌≢◌, ℕ, ◌+◌, ◌*◌, Bool, true, false, cond, List, [], ◌∷◌, ◌++◌, map, ◌≤◌, ◌<◌, ◌∙◌, sym, refl, ap, subst, inl, ⊎_elim, arith, Option, Some, None, eqb, ltb, IsTrue}
-use Rattle.std.proofs.lemmas.Bool.{false≢true, eq-eqb, ne_eqb, ltb-false}
+use Rattle.std.proofs.Common.{◌≡◌, ◌≢◌, ℕ, ◌+◌, ◌*◌, Bool, true, false, cond, List, [], ◌∷◌, ◌++◌, map, ◌≤◌, ◌<◌, ◌∙◌, sym, refl, ap, subst, inl, ⊎_elim, arith, Option, Some, None, eqb, ltb, IsTrue}
+use Rattle.std.proofs.lemmas.Bool.{eq-eqb, ne_eqb, ltb-false}
 use Rattle.hk_base.specs.declared.stamp.Stamp.{Stamp}
 use Rattle.hk_base.specs.declared.stamp.NodeId.{NodeId}
 use Rattle.hk_base.specs.declared.stamp.Kind.{Kind}
@@ -15,7 +15,7 @@ use Rattle.hk_base.specs.declared.call.Answer.{Answer}
 use Rattle.hk_base.specs.declared.call.Answer.TheVariants.{Busy, Exhausted}
 use Rattle.hk_base.specs.declared.call.Why.TheVariants.{Lease as OfLease, Row as OfRow}
 use Rattle.hk_base.specs.Stamp.{tag_of}
-use Rattle.hk_base.specs.Register.{act, stays}
+use Rattle.hk_base.specs.Register.{act}
 use Rattle.hk_history.specs.History.{is_void, is_answered}
 use Rattle.hk_key.specs.declared.row.Row.{Row}
 use Rattle.hk_key.specs.Notes.{all_noted}
@@ -39,7 +39,7 @@ use Rattle.hk_effects.proofs.Order.{cases_key, same_itself, same_not, row-with_s
 use Rattle.hk_effects.proofs.Frames.{items_said}
 use Rattle.hk_effects.proofs.Acts.{alike}
 use Rattle.hk_effects.proofs.Replies.{reply_items, told_own, looked_item, missed_item, reply_begins_none}
-use Rattle.hk_effects.proofs.Starts.{beginning, begun_reply, begun_update, noted_update, begin_step}
+use Rattle.hk_effects.proofs.Starts.{beginning, begun_update, noted_update, begin_step}
 use Rattle.hk_effects.proofs.Nodes.{OwesNode, said_node, quiet_node, own_row, other_row}
 use Rattle.hk_effects.proofs.Lives.{accepts, IsEffects, IsLive, here, stepped_effect, live_effect, fresh_call, node_own, node_sound, members_are, ready_some, leased_now}
 

@@ -15,12 +15,13 @@ use Rattle.hk_node.specs.Steps.{receives, resent, replayed, installed_in, instal
 use Rattle.hk_world.specs.declared.event.Event.{Event}
 use Rattle.hk_world.specs.declared.event.Event.TheVariants.{Call, Take, Tick, TickAll, Crash, Resend, Replay, Copy, Start, Agree, Install, Lease, AskLease, Propose, Activate}
 use Rattle.hk_world.specs.World.{WorldState, process_at, numbered, last_view}
-use Rattle.hk_world.specs.Steps.{Accepted, with_step, acts, nothing, calls_at, ticks_at, crashes_at, agreed_on, was_member, may_run, installs_at, leases_at, world_step}
+use Rattle.hk_world.specs.Steps.{Accepted, with_step, acts, calls_at, ticks_at, crashes_at, agreed_on, was_member, may_run, installs_at, leases_at, world_step}
 use Rattle.hk_effects.specs.Own.{Ended, IsOwn}
 use Rattle.hk_effects.proofs.Processes.{numbered_node, cases_member}
 use Rattle.hk_effects.proofs.Chain.{last_added}
 use Rattle.hk_effects.proofs.Accepting.{alive, live_step, live_actor_step, takes_step, ticks_step, all_tick_step, starts_step, agrees_step, installs_step, leases_step}
 use Rattle.hk_effects.proofs.Leases.{found_seen, replayed_seen, asks_seen, receives_seen, StillEnded, not_passing, was_member_of}
+use Rattle.hk_effects.proofs.Worlds.{unmanaged}
 use Rattle.hk_effects.proofs.Guards.{EpochGuarded, Guards, step_carries, acts_guards, seen_guards, call_guards, tick_guards, aside_guards, tick_all_guards, crash_guards, join_guards}
 
 module _ (w : WorldState) (own : IsOwn w) where
@@ -80,7 +81,7 @@ module _ (w : WorldState) (own : IsOwn w) where
 
   guards_at : (event : Event) (a : Accepted) → world_step w event ≡ Ok a → Guards w a
   guards_at (Call id key op) a e = live_step (Guards w a) w a id (calls_at w id key op) (λ x at e. call_guards w id x at key op a e) e
-  guards_at (Take n) a e = takes_step (Guards w a) w a n (λ l sent id x at e. seen_guards w id x at (receives x l) (receives_seen x l) a e) e
+  guards_at (Take n) a e = takes_step (Guards w a) w a n (λ l sent id x at e. seen_guards w id x at (receives x l) (receives_seen x l (unmanaged w own.sound id x at)) a e) e
   guards_at (Tick actor to) a e = live_actor_step (Guards w a) w a actor (ticks_at w to) (λ id x at e. ticks_step (Guards w a) w a to id x (λ up e. tick_guards w id x at to a e) e) e
   guards_at (TickAll to) a e = all_tick_step (Guards w a) w a to (λ e. tick_all_guards w to a e) e
   guards_at (Crash actor) a e = live_actor_step (Guards w a) w a actor (crashes_at w) (λ id x at e. crash_guards w id x a e) e

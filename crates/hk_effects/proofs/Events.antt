@@ -1,5 +1,5 @@
 -- Each event of a world is, for each key, one effect of the register, or two.
-use Rattle.std.proofs.Common.{◌≡◌, ◌⊎◌, ◌≢◌, ℕ, ◌+◌, Bool, true, false, cond, not, List, [], ◌∷◌, ◌++◌, length, map, ◌<◌, ◌∙◌, sym, refl, ap, subst, ⊎_elim, Option, Some, None, Err, eqb, ltb, leb}
+use Rattle.std.proofs.Common.{◌≡◌, ◌≢◌, ℕ, ◌+◌, Bool, true, false, cond, not, List, [], ◌∷◌, ◌++◌, length, map, ◌<◌, ◌∙◌, sym, refl, ap, subst, ⊎_elim, Option, Some, None, Err, eqb, ltb, leb}
 use Rattle.std.specs.List.{find, filter}
 use Rattle.std.proofs.lemmas.Bool.{cases_eq, ltb-true}
 use Rattle.hk_base.specs.declared.stamp.NodeId.{NodeId}
@@ -19,7 +19,7 @@ use Rattle.hk_world.specs.declared.event.Event.TheVariants.{Call, Take, Tick, Ti
 use Rattle.hk_world.specs.declared.process.Process.{Process}
 use Rattle.hk_world.specs.declared.refused.Refused.TheVariants.{ClockFalls, NotMember, Behind, NoSuchMember, LastMember, Full, NoNumbers}
 use Rattle.hk_world.specs.World.{process_at, put_process, node_of, numbered, last_view}
-use Rattle.hk_world.specs.Steps.{Accepted, nothing, acts, aside, live, live_actor, takes, is_far_from, ticked_unless, ticks_at, greatest_clock, process_ticked, crashes_at, joining, starts_at, agreed_on, agrees as changes_view, may_run, guarded_by, installs_at, leases_at, world_step}
+use Rattle.hk_world.specs.Steps.{Accepted, nothing, acts, aside, live, live_actor, is_far_from, ticked_unless, ticks_at, greatest_clock, process_ticked, crashes_at, joining, starts_at, agreed_on, agrees as changes_view, may_run, guarded_by, installs_at, leases_at, world_step}
 use Rattle.hk_effects.specs.View.{key_node, node_at, Trace, view}
 use Rattle.hk_effects.specs.Own.{IsOwn, IsTrace, Agrees}
 use Rattle.hk_effects.specs.Laws.{EventIsEffects}

@@ -12,7 +12,6 @@ use Rattle.hk_node.specs.Stepped.{Stepped}
 use Rattle.hk_node.specs.Calls.{called}
 use Rattle.hk_node.specs.Steps.{ticks}
 use Rattle.hk_world.specs.declared.process.Process.{Process}
-use Rattle.hk_world.specs.declared.shown.Shown.{Shown}
 use Rattle.hk_world.specs.World.{WorldState, process_at, put_process, node_of, last_view}
 use Rattle.hk_world.specs.Steps.{acting_of, Accepted, with_step, shown_of, acts, aside, nothing, calls_at, process_ticked, crashes_at, joining}
 use Rattle.hk_effects.specs.View.{node_at}

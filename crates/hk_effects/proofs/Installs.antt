@@ -1,5 +1,5 @@
 -- To install a view is an effect of each key, or two where the update that is pending completes at once.
-use Rattle.std.proofs.Common.{◌≡◌, ◌⊎◌, ℕ, Bool, true, false, List, [], ◌∷◌, ◌++◌, ◌<◌, sym, refl, ap, subst, inl, inr, ⊎_elim, arith, Option, Some, None, IfSome, IsTrue, eqb, le-leb, append-nil}
+use Rattle.std.proofs.Common.{◌≡◌, ℕ, Bool, true, false, List, [], ◌∷◌, ◌++◌, ◌<◌, sym, refl, ap, subst, inl, inr, ⊎_elim, arith, Option, Some, None, IfSome, IsTrue, eqb, le-leb, append-nil}
 use Rattle.std.proofs.lemmas.Bool.{lt-ltb}
 use Rattle.hk_base.specs.declared.stamp.Stamp.{Stamp}
 use Rattle.hk_base.specs.declared.call.State.{State as RowState}

@@ -28,6 +28,7 @@ use Rattle.hk_node.specs.Stepped.{Stepped, idle}
 use Rattle.hk_node.specs.Calls.{kind_of, next_stamp, register_in, at_limit, at_turn, at_state, lease_end, at_lease, called}
 use Rattle.hk_node.specs.Copies.{asks_copy, batch_behind, merged, is_next}
 use Rattle.hk_node.specs.Steps.{on_found, replayed, received, is_addressed, receives_from, receives}
+use Rattle.hk_world.proofs.Unmanaged.{unheard}
 use Rattle.hk_world.specs.declared.process.Process.{Process}
 use Rattle.hk_world.specs.World.{Processes, process_at}
 use Rattle.hk_world.specs.Steps.{was_member}
@@ -97,11 +98,11 @@ received_seen (Accepted ballot) x from = refl
 received_seen (Chosen view) x from = refl
 received_seen (Activate view) x from = refl
 
-pub receives_seen : (x : NodeState) (l : Letter) → SeesSame x (receives x l)
-receives_seen x l = by_from l.from
+pub receives_seen : (x : NodeState) (l : Letter) → x.managers ≡ 0 → SeesSame x (receives x l)
+receives_seen x l none = by_from l.from
   where
     by_from : (a : Actor) → SeesSame x (receives_from a x l)
-    by_from (A.Manager m) = refl
+    by_from (A.Manager m) = ap (λ (s : Stepped). seen_of s.node) (unheard x l m none)
     by_from (A.Node from) = given_seen x (received l.body x from) (is_addressed x l.to && (eqb l.epoch (epoch_of x) && is_other x from)) (received_seen l.body x from)
 
 -- a lease that has ended has still ended

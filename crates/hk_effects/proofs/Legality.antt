@@ -1,13 +1,12 @@
 -- The printed order of a key is legal after every run of a world.
 use Rattle.std.proofs.Common.{◌≡◌, ℕ, suc, List, [], ◌∷◌, Some, sym, ap, subst, inl, inr, slice_get}
-use Rattle.hk_base.specs.declared.view.View.{View}
 use Rattle.hk_register.specs.Machine.{In}
 use Rattle.hk_register.specs.Printed.{printed, PrintedIsPrinted, SlotsAreLegal}
 use Rattle.hk_world.specs.World.{WorldState, numbered}
 use Rattle.hk_world.specs.Sound.{AreViews}
 use Rattle.hk_effects.specs.View.{view}
 use Rattle.hk_effects.specs.Own.{Agrees}
-use Rattle.hk_effects.specs.Runs.{IsKept, RunsKeepParts}
+use Rattle.hk_effects.specs.Runs.{RunsKeepParts}
 use Rattle.hk_effects.specs.Orders.{members_or_none, family, OrdersAreLegal}
 
 -- what stands in a list has a number in it

@@ -1,5 +1,5 @@
 -- The marks of a step, brought down to those that are new.
-use Rattle.std.proofs.Common.{◌≡◌, ◌⊎◌, ◌≢◌, ℕ, Bool, true, false, cond, List, [], ◌∷◌, ◌++◌, ◌≤◌, sym, refl, inl, inr, ⊎_elim, arith, leb, ltb, leb-true, le-leb}
+use Rattle.std.proofs.Common.{◌≡◌, ◌⊎◌, ℕ, Bool, true, false, cond, List, [], ◌∷◌, ◌++◌, ◌≤◌, sym, refl, inl, inr, ⊎_elim, arith, leb, ltb, leb-true, le-leb}
 use Rattle.std.proofs.lemmas.Bool.{false≢true, ltb-true}
 use Rattle.hk_register.specs.Machine.{In, Weaker, Marked, Pending, Phase, Node, Letter, Mark, Update, Item, State}
 use Rattle.hk_register.specs.Machine.Phase.{Valid, Invalid, Write, Replay, Trans}

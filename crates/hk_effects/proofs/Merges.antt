@@ -1,5 +1,5 @@
 -- To take a batch is an effect of each key, or two: a row is taken or passed, and the node becomes ready.
-use Rattle.std.proofs.Common.{◌≡◌, ◌⊎◌, ◌≢◌, ℕ, Bool, true, false, cond, not, ◌||◌, List, [], ◌∷◌, ◌≤◌, ◌∙◌, sym, refl, ap, subst, inl, inr, ⊎_elim, arith, le_of_eq, Some, None, nat_cmp, Ordering, Less, Equal, Greater, if◌then◌else◌}
+use Rattle.std.proofs.Common.{◌≡◌, ℕ, Bool, true, false, cond, not, ◌||◌, List, [], ◌∷◌, ◌≤◌, ◌∙◌, sym, refl, ap, subst, inl, inr, ⊎_elim, arith, le_of_eq, Some, None, nat_cmp, Ordering, Less, Equal, Greater, if◌then◌else◌}
 use Rattle.std.specs.Option.{option_or}
 use Rattle.std.proofs.lemmas.Bool.{false≢true, and_parts, and_cases, or_parts, or_cases}
 use Rattle.std.proofs.lemmas.Cmp.{ranked}

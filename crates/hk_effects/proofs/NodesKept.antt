@@ -1,5 +1,5 @@
 -- Each step of a node keeps what the world says of nodes, tells letters in range, and answers calls of so far.
-use Rattle.std.proofs.Common.{◌≡◌, ◌⊎◌, ℕ, Bool, true, false, cond, not, ◌&&◌, ◌+◌, List, [], ◌∷◌, map, ◌≤◌, sym, refl, ap, subst, inl, inr, ⊎_elim, arith, Option, Some, None, unwrap_or, eqb, ltb, nat_cmp}
+use Rattle.std.proofs.Common.{◌≡◌, ℕ, Bool, true, false, cond, not, ◌&&◌, ◌+◌, List, [], ◌∷◌, map, ◌≤◌, sym, refl, ap, subst, inl, inr, ⊎_elim, arith, Option, Some, None, unwrap_or, eqb, ltb, nat_cmp}
 use Rattle.std.specs.List.{AllByRecursion, flat_map}
 use Rattle.std.specs.List.Sorted.{IsStrictlySortedBy}
 use Rattle.std.specs.Map.{keys_of}
@@ -39,6 +39,7 @@ use Rattle.hk_node.specs.Stepped.{Stepped, idle, told_of, row_step}
 use Rattle.hk_node.specs.Calls.{kind_of, next_stamp, register_in, answers, at_limit, at_turn, at_state, lease_end, at_lease, called}
 use Rattle.hk_node.specs.Copies.{asks_copy, batch_behind, gives_copy, merged, is_next, takes_copy}
 use Rattle.hk_node.specs.Steps.{on_found, resent, replayed, viewed, installed_in, installs, received, is_addressed, receives_from, receives, ticks, grants}
+use Rattle.hk_world.proofs.Unmanaged.{unheard}
 use Rattle.hk_effects.specs.Own.{IsSmall, IsRowOf, IsNodeOf, IsTold}
 use Rattle.hk_effects.proofs.Acts.{alike}
 use Rattle.hk_effects.proofs.RowsKept.{IsReplyOf, IsDoneOf, first_of, still_of, inv_of, val_of, copy_of_row, begin_of, replay_of, resend_of, view_of_row, ack_of, row_more, with_row_of, found_of}
@@ -177,15 +178,15 @@ module _ (views : List View) (calls : ℕ) (x : NodeState) (mine : IsNodeOf view
   received_fine (Chosen view) told from = idle_fine
   received_fine (Activate view) told from = idle_fine
 
-  pub receives_fine : (l : Letter) → IsTold l.body → Fine (receives x l)
-  receives_fine l told = by_from l.from
+  pub receives_fine : (l : Letter) → IsTold l.body → x.managers ≡ 0 → Fine (receives x l)
+  receives_fine l told none = by_from l.from
     where
       by_test : (from : NodeId) (b : Bool) → Fine (cond b (received l.body x from) (idle x))
       by_test from true = received_fine l.body told from
       by_test from false = idle_fine
 
       by_from : (a : Actor) → Fine (receives_from a x l)
-      by_from (A.Manager m) = idle_fine
+      by_from (A.Manager m) = subst (λ (s : Stepped). Fine s) (sym (unheard x l m none)) idle_fine
       by_from (A.Node from) = by_test from (is_addressed x l.to && (eqb l.epoch (epoch_of x) && is_other x from))
 
   -- ---- clocks and leases

@@ -1,5 +1,5 @@
 -- What an event adds to a key's trace: marks in its node's epoch, and items of calls of so far.
-use Rattle.std.proofs.Common.{◌≡◌, ◌⊎◌, ℕ, Bool, true, false, cond, ◌+◌, List, [], ◌∷◌, ◌++◌, map, ◌≤◌, sym, refl, subst, inl, inr, ⊎_elim, arith, Some, eqb, ltb, leb}
+use Rattle.std.proofs.Common.{◌≡◌, ℕ, Bool, true, false, cond, ◌+◌, List, [], ◌∷◌, ◌++◌, map, ◌≤◌, sym, refl, subst, inl, inr, ⊎_elim, arith, Some, eqb, ltb, leb}
 use Rattle.hk_base.specs.declared.call.Op.{Op}
 use Rattle.hk_base.specs.declared.call.Reply.{Reply}
 use Rattle.hk_history.specs.History.{is_void, is_unsure}

@@ -1,5 +1,5 @@
 -- What live nodes of a world owe where they give a batch, take one or install a view.
-use Rattle.std.proofs.Common.{◌≡◌, ◌≢◌, ℕ, Bool, true, false, cond, not, ◌&&◌, List, [], map, ◌≤◌, ◌<◌, ◌∙◌, sym, refl, ap, subst, inl, arith, Option, Some, None, IfSome, IsTrue, ltb}
+use Rattle.std.proofs.Common.{◌≡◌, ℕ, Bool, true, false, cond, not, ◌&&◌, List, [], map, ◌≤◌, ◌<◌, ◌∙◌, sym, refl, ap, subst, inl, arith, Option, Some, None, IfSome, IsTrue, ltb}
 use Rattle.std.specs.Option.{option_or}
 use Rattle.std.proofs.lemmas.Bool.{false≢true, and_parts, lt-ltb}
 use Rattle.hk_base.specs.declared.stamp.NodeId.{NodeId}
@@ -29,7 +29,6 @@ use Rattle.hk_effects.proofs.Order.{same_true}
 use Rattle.hk_effects.proofs.Processes.{in_members}
 use Rattle.hk_effects.proofs.Replies.{reply_items, told_own, reply_alone_begins_none}
 use Rattle.hk_effects.proofs.Shapes.{IsShaped, shaped_of_holds}
-use Rattle.hk_effects.proofs.Steps.{told}
 use Rattle.hk_effects.proofs.Nodes.{OwesStep, told_items, idle_step}
 use Rattle.hk_effects.proofs.Rests.{letter_sent, row_sound, own_view, in_some}
 use Rattle.hk_effects.proofs.Rising.{rows_rise, items_rise}

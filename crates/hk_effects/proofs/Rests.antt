@@ -1,5 +1,5 @@
 -- What lists, views and processes give to the events.
-use Rattle.std.proofs.Common.{◌≡◌, ◌≢◌, ℕ, zero, suc, Bool, true, false, cond, List, [], ◌∷◌, ◌++◌, map, ◌≤◌, ◌∙◌, sym, refl, ap, subst, inl, inr, arith, Option, Some, None, unwrap_or, slice_get}
+use Rattle.std.proofs.Common.{◌≡◌, ℕ, zero, suc, Bool, true, false, cond, List, [], ◌∷◌, ◌++◌, map, ◌≤◌, ◌∙◌, sym, refl, ap, subst, inl, inr, arith, Option, Some, None, unwrap_or, slice_get}
 use Rattle.std.specs.List.{AllByRecursion}
 use Rattle.std.specs.Ordering.{is_eq}
 use Rattle.std.specs.Prelude.{max}

@@ -1,5 +1,5 @@
 -- A resend, a replay and a request for copies are, for each key, effects.
-use Rattle.std.proofs.Common.{◌≡◌, ◌⊎◌, ◌≢◌, ℕ, Bool, true, false, cond, not, ◌&&◌, List, [], ◌∷◌, ◌∙◌, refl, ap, subst, ⊎_elim, None, sym}
+use Rattle.std.proofs.Common.{◌≡◌, ◌≢◌, ℕ, Bool, true, false, cond, not, ◌&&◌, List, [], ◌∷◌, ◌∙◌, refl, ap, subst, ⊎_elim, None, sym}
 use Rattle.hk_base.specs.declared.stamp.NodeId.{NodeId}
 use Rattle.hk_base.specs.declared.call.State.{State as RowState}
 use Rattle.hk_base.specs.declared.call.State.TheVariants.{Valid as IsValid, Invalid as IsInvalid, Write as IsWrite, Replay as IsReplay, Trans as IsTrans}

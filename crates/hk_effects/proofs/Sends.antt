@@ -1,5 +1,5 @@
 -- The letters of a row's step, seen from its key and from others.
-use Rattle.std.proofs.Common.{◌≡◌, ◌⊎◌, ◌≢◌, ℕ, List, [], ◌∷◌, ◌∙◌, refl, inl, ⊎_elim, Option, Some, None}
+use Rattle.std.proofs.Common.{◌≡◌, ◌≢◌, ℕ, List, [], ◌∷◌, ◌∙◌, refl, inl, ⊎_elim, Option, Some, None}
 use Rattle.hk_base.specs.declared.stamp.Stamp.{Stamp}
 use Rattle.hk_base.specs.declared.stamp.NodeId.{NodeId}
 use Rattle.hk_base.specs.declared.stamp.Kind.{Kind}

@@ -1,5 +1,5 @@
 -- A letter that is taken is, for each key, an effect or two.
-use Rattle.std.proofs.Common.{◌≡◌, ◌⊎◌, ◌≢◌, ℕ, Bool, true, false, cond, not, ◌&&◌, List, [], ◌≤◌, ◌<◌, ◌∙◌, refl, ap, subst, inl, ⊎_elim, Option, Some, None, eqb, nat_cmp, IfSome, sym}
+use Rattle.std.proofs.Common.{◌≡◌, ◌≢◌, ℕ, Bool, true, false, cond, not, ◌&&◌, List, [], ◌≤◌, ◌<◌, ◌∙◌, refl, ap, subst, inl, ⊎_elim, Option, Some, None, eqb, nat_cmp, IfSome, sym}
 use Rattle.std.proofs.lemmas.Bool.{eqb-true, and_parts}
 use Rattle.hk_base.specs.declared.stamp.Stamp.{Stamp}
 use Rattle.hk_base.specs.declared.stamp.NodeId.{NodeId}
@@ -29,6 +29,7 @@ use Rattle.hk_node.specs.Steps.{received, receives, receives_from, is_addressed,
 use Rattle.hk_world.specs.declared.event.Event.TheVariants.{Take}
 use Rattle.hk_world.specs.World.{numbered}
 use Rattle.hk_world.specs.Steps.{Accepted, acts, takes, live_actor}
+use Rattle.hk_world.proofs.Unmanaged.{unheard}
 use Rattle.hk_effects.specs.View.{has_copied, letters_of, Trace, view}
 use Rattle.hk_effects.specs.Own.{IsPendingOf, IsOwn, IsTrace, Agrees}
 use Rattle.hk_effects.proofs.Order.{cases_key, same_of}
@@ -36,6 +37,7 @@ use Rattle.hk_effects.proofs.Processes.{in_members}
 use Rattle.hk_effects.proofs.Shapes.{IsShaped, shaped_of_holds}
 use Rattle.hk_effects.proofs.Steps.{Owes, told, quiet_step, inv_step, val_step, ack_step}
 use Rattle.hk_effects.proofs.Nodes.{OwesStep, idle_step, own_told, other_told, found_step}
+use Rattle.hk_effects.proofs.Worlds.{unmanaged}
 use Rattle.hk_effects.proofs.Rests.{numbered_in, letter_sent, row_sound, in_some}
 use Rattle.hk_effects.proofs.Lives.{accepts, IsEffects, IsLive, here, stepped_effect, live_effect, node_own, node_sound, members_are}
 
@@ -144,7 +146,8 @@ module _ (V : ℕ → List ℕ) (key : List ℕ) (t : Trace) (parts : Parts V (v
         receive l sent_so from sender (eqb-true l.epoch (epoch_of x) q.0) r.0 gives takes_so l.body refl
 
     receives_owed : GivesOwed → TakesOwed → (l : Wire) → In t.world.letters l → (a : Actor) → l.from ≡ a → Owed x alive (receives_from a x l)
-    receives_owed gives takes_so l sent_so (A.Manager m) sender = idle_step V (view key t) parts key x (here V key t parts own agrees tok x alive)
+    receives_owed gives takes_so l sent_so (A.Manager m) sender = subst (λ (s : Stepped). Owed x alive s) (sym (unheard x l m (unmanaged t.world own.sound x.id x alive)))
+        (idle_step V (view key t) parts key x (here V key t parts own agrees tok x alive))
     receives_owed gives takes_so l sent_so (A.Node from) sender = admitted gives takes_so l sent_so from sender (is_addressed x l.to && (eqb l.epoch (epoch_of x) && is_other x from)) refl
 
   -- the event

@@ -1,5 +1,5 @@
 -- Two effects of one event.
-use Rattle.std.proofs.Common.{◌≡◌, ◌⊎◌, ℕ, cond, List, [], ◌∷◌, ◌++◌, ◌∙◌, refl, ap, inl, inr, ⊎_elim, eqb}
+use Rattle.std.proofs.Common.{◌≡◌, ℕ, cond, List, [], ◌∷◌, ◌++◌, ◌∙◌, refl, ap, inl, inr, ⊎_elim, eqb}
 use Rattle.std.proofs.lemmas.Bool.{eq-eqb, ne_eqb}
 use Rattle.hk_register.specs.Machine.{In, Marked, Node, Letter, Mark, Update, Item, State}
 use Rattle.hk_register.specs.Effects.{Change}

@@ -1,5 +1,5 @@
 -- Each event keeps what the world says of its views, nodes and letters, and answers calls of so far.
-use Rattle.std.proofs.Common.{◌≡◌, ◌⊎◌, ◌≢◌, ℕ, true, ◌+◌, List, [], ◌∷◌, ◌++◌, map, ◌≤◌, ◌∙◌, sym, refl, ap, subst, ⊎_elim, arith, le_refl, Some, None, Ok}
+use Rattle.std.proofs.Common.{◌≡◌, ◌≢◌, ℕ, true, ◌+◌, List, [], ◌∷◌, ◌++◌, map, ◌≤◌, ◌∙◌, sym, refl, ap, subst, ⊎_elim, arith, le_refl, Some, None, Ok}
 use Rattle.std.specs.List.Sorted.{IsStrictlySortedBy}
 use Rattle.std.specs.Map.{keys_of}
 use Rattle.hk_copy.specs.Batches.{key_cmp}
@@ -32,7 +32,7 @@ use Rattle.hk_effects.proofs.RowsKept.{first_of}
 use Rattle.hk_effects.proofs.LettersKept.{AreTold}
 use Rattle.hk_effects.proofs.NodesKept.{AreAnswered, IsSteppedOf, node_more, idle_fine, called_fine, resent_fine, replayed_fine, asks_fine, receives_fine, ticks_fine, grants_fine, installs_fine}
 use Rattle.hk_effects.proofs.Accepting.{alive, live_step, live_actor_step, takes_step, ticks_step, all_tick_step, starts_step, agrees_step, installs_step, leases_step}
-use Rattle.hk_effects.proofs.Worlds.{all_in, the_some, the_accepted, ordered_rows, ticked_from}
+use Rattle.hk_effects.proofs.Worlds.{all_in, the_some, the_accepted, ordered_rows, unmanaged, ticked_from}
 
 -- how many calls there are after an event
 abbrev pub calls_after : Event → ℕ → ℕ
@@ -142,7 +142,8 @@ module _ (w : WorldState) (own : IsOwn w) where
   next_kept_at : (event : Event) (a : Accepted) → world_step w event ≡ Ok a → Next event a
   next_kept_at (Call id key op) a e = live_step (Next (Call id key op) a) w a id (calls_at w id key op) (λ x at e. call_kept id key op x at a e) e
   next_kept_at (Take n) a e = takes_step (Next (Take n) a) w a n
-      (λ l sent id x at e. quiet_kept (Take n) refl (λ x. receives x l) (λ x good ordered. receives_fine w.views w.calls x good ordered l (own.letter l sent)) id x at a e) e
+      (λ l sent id x at e. acts_kept (Take n) id x (receives x l) refl
+      (receives_fine w.views w.calls x (fine id x at w.calls (le_refl w.calls)) (ordered_rows w own.sound id x at) l (own.letter l sent) (unmanaged w own.sound id x at)) a e) e
   next_kept_at (Tick actor to) a e = live_actor_step (Next (Tick actor to) a) w a actor (ticks_at w to)
       (λ id x at e. ticks_step (Next (Tick actor to) a) w a to id x (λ up e. quiet_kept (Tick actor to) refl (λ x. ticks x to) (λ x good ordered. ticks_fine w.views w.calls x good ordered to) id x at a e) e) e
   next_kept_at (TickAll to) a e = all_tick_step (Next (TickAll to) a) w a to (λ e. processes_kept (TickAll to) refl (map (process_ticked to) w.processes) (ticked_fine to) a e) e

@@ -6,7 +6,6 @@ use Rattle.std.specs.List.Sorted.{IsStrictlySortedBy}
 use Rattle.std.specs.Map.{keys_of}
 use Rattle.std.proofs.lemmas.Map.Made.{lookup-map_values}
 use Rattle.hk_base.specs.declared.stamp.NodeId.{NodeId}
-use Rattle.hk_base.specs.declared.letter.Actor.TheVariants as A
 use Rattle.hk_copy.specs.Batches.{key_cmp}
 use Rattle.hk_register.specs.Machine.{In}
 use Rattle.hk_node.specs.Node.{NodeState}
@@ -33,6 +32,10 @@ the_accepted a b r e f = cc
 -- a node's rows stand in key order
 pub ordered_rows : (w : WorldState) → IsWorld w → (id : NodeId) (x : NodeState) → process_at id w.processes ≡ Some (alive x) → IsStrictlySortedBy key_cmp (keys_of x.rows)
 ordered_rows w sound id x at = (process_holds (IsProcess w) id (alive x) w.processes sound.processes at).node.ordered
+
+-- no node has managers
+pub unmanaged : (w : WorldState) → IsWorld w → (id : NodeId) (x : NodeState) → process_at id w.processes ≡ Some (alive x) → x.managers ≡ 0
+unmanaged w sound id x at = (process_holds (IsProcess w) id (alive x) w.processes sound.processes at).unmanaged
 
 -- ---- clocks
 pub process_ticked_at : (to : ℕ) (id : NodeId) (ps : Processes) → process_at id (map (process_ticked to) ps) ≡ option_map (λ (p : Process). cond (not p.crashed) (record p { node = (ticks p.node to).node }) p) (process_at id ps)

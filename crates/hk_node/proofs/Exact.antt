@@ -40,14 +40,14 @@ module _ (node : NodeState) (ok : IsNode node) where
 
   ways : (named : Option (List ℕ)) → Ways Exact node named
   ways named = record {
-    quiet = λ clock granted. same;
-    sends = λ body to within. same;
+    quiet = λ clock granted ends activated. same;
+    sends = λ letters within. same;
     row = λ key done names acts. of_row key done.row (acts_make key node.rows done ok.touched acts);
     takes = λ cursor done items none unready within.
         let merge = merges items items node.rows [] ok.ordered (quiet_rows node.id _ node.rows ok.rows ok.touched (ok.shadow unready)) within (merging_first items node.rows [] refl) in
         exact node.rows _ (former_of merge.0 node.rows) (rising_merged items node.rows ok.ordered)
         (subst (λ (l : Rows). AreChanged (former_of merge.0 node.rows) node.rows l) merge.1.same (laid_replaced merge.0 node.rows merge.1.rising merge.1.differ));
-    installs = λ view none acts. let changed = install_changed node view ok in exact node.rows _ _ changed.0 changed.1;
+    installs = λ view activated none acts. let changed = install_changed node view ok in exact node.rows _ _ changed.0 changed.1;
   }
 
   call_ways : (call : CallNo) (key : List ℕ) (op : Op) → CallWays Exact node call key op

@@ -58,11 +58,11 @@ none_in_order = tt
 
 ways : (node : NodeState) (named : Option (List ℕ)) → IsNode node → Ways (λ stepped. InOrder stepped.told) node named
 ways node named ok = record {
-  quiet = λ clock granted. none_in_order;
-  sends = λ body to within. none_in_order;
+  quiet = λ clock granted ends activated. none_in_order;
+  sends = λ letters within. none_in_order;
   row = λ key done names acts. one_in_order key done.out.reply;
   takes = λ cursor done items none unready within. none_in_order;
-  installs = λ view none acts. all_in_order (on_view node.id view.members) node.rows ok.ordered;
+  installs = λ view activated none acts. all_in_order (on_view node.id view.members) node.rows ok.ordered;
 }
 
 call_ways : (node : NodeState) (call : CallNo) (key : List ℕ) (op : Op) → CallWays (λ stepped. InOrder stepped.told) node call key op

@@ -1,5 +1,5 @@
 -- What a node that installs a view comes to.
-use Rattle.std.proofs.Common.{◌≡◌, List, [], ◌∷◌, ◌++◌, Bool, true, false, if◌then◌else◌, ◌&&◌, nat_lt, map, Option, Some, refl, sym, ap, ◌∙◌, subst}
+use Rattle.std.proofs.Common.{◌≡◌, ℕ, List, [], ◌∷◌, ◌++◌, Bool, true, false, if◌then◌else◌, ◌&&◌, nat_lt, length, map, Option, Some, refl, sym, ap, ◌∙◌, subst}
 use Rattle.std.specs.Option.{IsSome}
 use Rattle.std.specs.List.{AllByRecursion, flat_map}
 use Rattle.std.specs.List.Sorted.{IsStrictlySortedBy}
@@ -28,6 +28,7 @@ use Rattle.hk_node.specs.Report.{AreChanged, rows_report, rows_given_back, given
 use Rattle.hk_node.specs.Outs.{IsOutOf}
 use Rattle.hk_node.proofs.Order.{Key, Rising}
 use Rattle.hk_node.proofs.Reports.{reported}
+use Rattle.hk_node.proofs.Keeps.{noted_kept}
 use Rattle.hk_node.proofs.KeepsMore.{installs_kept}
 use Rattle.hk_node.proofs.Sent.{sent_alike}
 use Rattle.hk_node.proofs.Placing.{Entry, list_to, list_is, list_rises, list_there, stepped, formers, news_put, formers_put, formers_replaced}
@@ -38,6 +39,9 @@ same_pieces f g h (x ∷ xs) = flat_map-cons f x xs ∙ ap (λ l. l ++ flat_map 
 
 pub installs_not : (node : NodeState) (view : View) → (nat_lt (epoch_of node) view.epoch && is_member node.id view.members) ≡ false → installs node view ≡ idle node
 installs_not node view e = ap (λ (b : Bool). if b then installed_in (record node { view = Some view }) view.epoch else idle node) e
+
+pub beside_is : (v w : Option View) (a b : List ℕ) → v ≡ w → a ≡ b → Viewed v a ≡ Viewed w b
+beside_is v w a b same alike = rw (same, alike) refl
 
 module _ (node : NodeState) (view : View) where
   abbrev pub step : Entry → Row
@@ -73,36 +77,43 @@ module _ (node : NodeState) (view : View) where
     formers_replaced step same told changed node.rows ok.ordered,
   )
 
-  module _ (ok : IsNode node) (is_view : IsView view) (later : (nat_lt (epoch_of node) view.epoch && is_member node.id view.members) ≡ true) where
-    abbrev new : NodeState
-    new = record node { view = Some view }
+  -- with these ACTIVATEs
+  module _ (ok : IsNode node) (is_view : IsView view) (later : (nat_lt (epoch_of node) view.epoch && is_member node.id view.members) ≡ true) (activated : List ℕ)
+      (each : length activated ≡ node.managers) where
+    abbrev noted : NodeState
+    noted = record node { activated = activated }
 
-    installs_is : installs node view ≡ installed_in new view.epoch
-    installs_is = ap (λ (b : Bool). if b then installed_in new view.epoch else idle node) later
+    abbrev new : NodeState
+    new = record node { view = Some view; activated = activated }
+
+    installs_is : installs noted view ≡ installed_in new view.epoch
+    installs_is = ap (λ (b : Bool). if b then installed_in new view.epoch else idle noted) later
 
     pub install_rows : (fresh : List Former) (rows : Rows) → fresh ≡ flat_map (view_new node.id view) node.rows → rows ≡ rows_given_back fresh node.rows → rows ≡ stepped step same told changed node.rows
     install_rows fresh rows is put = put ∙ ap (λ (l : List Former). rows_given_back l node.rows) (is ∙ fresh_is node.rows) ∙ news_put step same told changed node.rows ok.ordered
 
-    pub install_node : (fresh : List Former) (v : Option View) (rows : Rows) → fresh ≡ flat_map (view_new node.id view) node.rows → v ≡ Some view → rows ≡ rows_given_back fresh node.rows →
-        record node { view = v; rows = rows } ≡ (installs node view).node
-    install_node fresh v rows is seen put =
+    pub install_node : (fresh : List Former) (v : Option View) (acts : List ℕ) (rows : Rows) → fresh ≡ flat_map (view_new node.id view) node.rows → v ≡ Some view → acts ≡ activated →
+        rows ≡ rows_given_back fresh node.rows → record node { view = v; activated = acts; rows = rows } ≡ (installs noted view).node
+    install_node fresh v acts rows is seen same put =
         let all = install_rows fresh rows is put in
-        ap (λ (o : Option View). record node { view = o; rows = rows }) seen ∙ ap (λ (l : Rows). record node { view = Some view; rows = l }) all
+        ap (λ (o : Option View). record node { view = o; activated = acts; rows = rows }) seen
+        ∙ ap (λ (a : List ℕ). record node { view = Some view; activated = a; rows = rows }) same ∙ ap (λ (l : Rows). record node { view = Some view; activated = activated; rows = l }) all
         ∙ sym (ap (λ (s : Stepped). s.node) installs_is)
 
-    pub install_kept : (fresh : List Former) (v : Option View) (rows : Rows) → fresh ≡ flat_map (view_new node.id view) node.rows → v ≡ Some view → rows ≡ rows_given_back fresh node.rows →
-        IsNode (record node { view = v; rows = rows })
-    install_kept fresh v rows is seen put = subst IsNode (sym (install_node fresh v rows is seen put)) (installs_kept node view is_view ok)
+    pub install_kept : (fresh : List Former) (v : Option View) (acts : List ℕ) (rows : Rows) → fresh ≡ flat_map (view_new node.id view) node.rows → v ≡ Some view → acts ≡ activated →
+        rows ≡ rows_given_back fresh node.rows → IsNode (record node { view = v; activated = acts; rows = rows })
+    install_kept fresh v acts rows is seen same put = subst IsNode (sym (install_node fresh v acts rows is seen same put)) (installs_kept noted view is_view (noted_kept node activated each ok))
 
     letters_is : flat_map (view_letters node.id view) node.rows ≡ (installed_in new view.epoch).letters
     letters_is = same_pieces (view_letters node.id view) (λ r. sent new r.0 (viewed new r).row (viewed new r).out.send)
         (λ r. sent_alike node.id view new r.0 (viewed new r).row (viewed new r).out.send refl refl) node.rows
 
-    undone_is : (f : List Former) (b : Beside) → b ≡ Viewed node.view → f ≡ formers step same told changed node.rows → given_back f b (installed_in new view.epoch).node ≡ node
+    undone_is : (f : List Former) (b : Beside) → b ≡ Viewed node.view node.activated → f ≡ formers step same told changed node.rows → given_back f b (installed_in new view.epoch).node ≡ node
     undone_is f b is rows = rw (is, rows) (ap (λ (l : Rows). record node { rows = l }) (formers_put step same told changed node.rows ok.ordered))
 
     pub install_out : (out : NodeOut) (former : List Former) → out.letters ≡ flat_map (view_letters node.id view) node.rows → out.replies ≡ map (λ t. t.1) (flat_map (view_told node.id view) node.rows) →
-        out.installed ≡ Some view.epoch → out.beside ≡ Viewed node.view → out.report ≡ rows_report node former → former ≡ flat_map (view_old node.id view) node.rows → IsOutOf out node (installs node view)
+        out.installed ≡ Some view.epoch → out.beside ≡ Viewed node.view node.activated → out.report ≡ rows_report node former → former ≡ flat_map (view_old node.id view) node.rows →
+        IsOutOf out node (installs noted view)
     install_out out former letters replies installed beside reports rows =
         let is : out.report ≡ rows_report node (formers step same told changed node.rows) = reports ∙ ap (rows_report node) (rows ∙ former_is node.rows) in
         subst (λ (s : Stepped). IsOutOf out node s) (sym installs_is) (record {

@@ -1,5 +1,5 @@
 -- Steps of one row, calls, clocks and leases keep what every node keeps.
-use Rattle.std.proofs.Common.{◌≡◌, ◌≢◌, ◌≤◌, ◌+◌, ℕ, List, Bool, true, false, not, ◌&&◌, if◌then◌else◌, nat_lt, Option, Some, None, IfSome, refl, sym, arith, subst}
+use Rattle.std.proofs.Common.{◌≡◌, ◌≢◌, ◌≤◌, ◌+◌, ℕ, List, length, Bool, true, false, not, ◌&&◌, if◌then◌else◌, nat_lt, Option, Some, None, IfSome, refl, sym, arith, subst}
 use Rattle.std.proofs.lemmas.Option.{IfSome_then, none-some}
 use Rattle.hk_base.specs.declared.stamp.Stamp.{Stamp}
 use Rattle.hk_base.specs.declared.stamp.NodeId.{NodeId}
@@ -21,9 +21,11 @@ use Rattle.hk_node.specs.Node.{NodeState, members_of, is_other}
 use Rattle.hk_node.specs.Stepped.{Stepped, idle, row_step}
 use Rattle.hk_node.specs.Calls.{kind_of, next_stamp, register_in, at_limit, at_turn, at_state, at_lease, lease_end, called}
 use Rattle.hk_node.specs.Copies.{asks_copy, gives_copy}
-use Rattle.hk_node.specs.Steps.{on_found, resent, replayed, ticks, grants}
+use Rattle.hk_node.specs.Heard.{raised}
+use Rattle.hk_node.specs.Steps.{on_found, resent, replayed, ticks, grants, granted_by, asks_lease}
 use Rattle.hk_node.specs.Sound.{IsViewOf, IsNode}
 use Rattle.hk_node.proofs.Order.{holds_found, holds_at, all_with, rising_with, touched_with}
+use Rattle.hk_node.proofs.Managed.{end_within, ends_heard, activated_heard}
 use Rattle.hk_node.proofs.Leaving.{act_leaves, later_above}
 use Rattle.hk_node.proofs.Parts.{next_is_next, leased_is_ready, ready_seen, true_not_false}
 
@@ -62,6 +64,7 @@ row_step_kept node key done ok seen sound shadow = record {
   clock = ok.clock;
   granted = ok.granted;
   skew = ok.skew;
+  heard = ok.heard;
 }
 
 -- the same of a row that is there, if it is
@@ -138,6 +141,7 @@ ticks_kept node now within ok =
       clock = grind arith;
       granted = ok.granted;
       skew = ok.skew;
+      heard = ok.heard;
     }
 
 pub grants_kept : (node : NodeState) (end : ℕ) → end ≤ MAX_TIME → IsNode node → IsNode (grants node end).node
@@ -155,7 +159,49 @@ grants_kept node end within ok =
       clock = ok.clock;
       granted = grind arith;
       skew = ok.skew;
+      heard = ok.heard;
     }
+
+-- a manager granted an end
+pub granted_kept : (node : NodeState) (manager end : ℕ) → end ≤ MAX_TIME → IsNode node → IsNode (granted_by node manager end).node
+granted_kept node manager end within ok =
+    let heard = ends_heard node.managers node.ends node.activated manager end within ok.heard in
+    let before = ok.granted in
+    let granted = end_within (raised manager end node.ends) heard.within in
+    record {
+      view = view_of_same node (granted_by node manager end).node refl node.view ok.view;
+      resting = ok.resting;
+      unready = ok.unready;
+      ordered = ok.ordered;
+      rows = ok.rows;
+      touched = ok.touched;
+      shadow = ok.shadow;
+      clock_runs = ok.clock_runs;
+      clock = ok.clock;
+      granted = grind arith;
+      skew = ok.skew;
+      heard = heard;
+    }
+
+-- other ACTIVATEs are kept
+pub noted_kept : (node : NodeState) (activated : List ℕ) → length activated ≡ node.managers → IsNode node → IsNode (record node { activated = activated })
+noted_kept node activated each ok = record {
+  view = view_of_same node (record node { activated = activated }) refl node.view ok.view;
+  resting = ok.resting;
+  unready = ok.unready;
+  ordered = ok.ordered;
+  rows = ok.rows;
+  touched = ok.touched;
+  shadow = ok.shadow;
+  clock_runs = ok.clock_runs;
+  clock = ok.clock;
+  granted = ok.granted;
+  skew = ok.skew;
+  heard = activated_heard node.managers node.ends node.activated activated each ok.heard;
+}
+
+pub asks_lease_kept : (node : NodeState) (manager : ℕ) → IsNode node → IsNode (asks_lease node manager).node
+asks_lease_kept node manager ok = if_kept (nat_lt manager node.managers) node _ ok (λ asks. ok)
 
 pub asks_copy_kept : (node : NodeState) (from : NodeId) (room : ℕ) → IsNode node → IsNode (asks_copy node from room).node
 asks_copy_kept node from room ok = if_kept (not node.ready && is_other node from) node _ ok (λ asks. ok)

@@ -1,5 +1,5 @@
 -- Copies, views and letters keep what every node keeps, and so does each step.
-use Rattle.std.proofs.Common.{◌≡◌, ◌≢◌, ◌≤◌, arith, ℕ, List, [], ◌∷◌, map, Bool, true, false, not, ◌&&◌, ◌==◌, nat_lt, Option, Some, None, refl, sym, subst}
+use Rattle.std.proofs.Common.{◌≡◌, ◌≢◌, ◌≤◌, arith, ℕ, List, [], ◌∷◌, map, Bool, true, false, not, ◌&&◌, ◌==◌, nat_lt, Option, Some, None, refl, sym, subst, ◌∙◌}
 use Rattle.std.specs.Option.{option_or}
 use Rattle.std.specs.List.{AllByRecursion}
 use Rattle.std.specs.List.Sorted.{IsStrictlySortedBy}
@@ -27,14 +27,16 @@ use Rattle.hk_key.proofs.Rising.{view_never_lowers}
 use Rattle.hk_node.specs.Rows.{Rows, row_at, is_touched, with_row}
 use Rattle.hk_node.specs.Node.{NodeState, epoch_of, members_of, is_member, is_other}
 use Rattle.hk_node.specs.Copies.{merged, is_next, takes_copy}
-use Rattle.hk_node.specs.Steps.{installed_in, installs, received, is_addressed, receives_from, receives}
-use Rattle.hk_node.specs.declared.event.NodeEvent.TheVariants.{Call, Receive, Resend, Replay, AskCopy, Tick, Grant, Install}
+use Rattle.hk_node.specs.Heard.{raised, is_greatest, has_majority}
+use Rattle.hk_node.specs.Steps.{installed_in, installs, installs_by_majority, activated_by, heard, received, is_addressed, receives_from, receives}
+use Rattle.hk_node.specs.declared.event.NodeEvent.TheVariants.{Call, Receive, Resend, Replay, AskLease, AskCopy, Tick, Grant, Install}
 use Rattle.hk_node.specs.Sound.{IsNode}
 use Rattle.hk_node.specs.Laws.{StepKeepsNode}
 use Rattle.hk_node.proofs.Order.{Rising, AreTouched, holds_at, all_with, rising_with, touched_with}
 use Rattle.hk_node.proofs.Leaving.{IsItem, batch_items}
 use Rattle.hk_node.proofs.Parts.{other_is, other_seen, inv_pends_none, ack_pends_none, val_pends_none, view_pends_none, copy_pends_none}
-use Rattle.hk_node.proofs.Keeps.{if_kept, view_of_same, sound_at, none_pending_at, row_step_kept, on_found_kept, called_kept, resent_kept, replayed_kept, asks_copy_kept, gives_copy_kept, ticks_kept, grants_kept}
+use Rattle.hk_node.proofs.Keeps.{if_kept, view_of_same, sound_at, none_pending_at, row_step_kept, on_found_kept, called_kept, resent_kept, replayed_kept, asks_copy_kept, gives_copy_kept, ticks_kept, grants_kept, granted_kept, noted_kept, asks_lease_kept}
+use Rattle.hk_node.proofs.Managed.{length-raised}
 
 -- ---- copies: what holds of each row, and of each that an item makes of such a row, holds of the merged rows
 pub all_merged : (P : Row → Type 0) → P first_row → (items : List CopyItem) → AllByRecursion (λ (item : CopyItem). (row : Row) → P row → P (on_copy row item)) items →
@@ -87,6 +89,7 @@ takes_copy_kept node after done items seen fit ok = if_kept (not node.ready && i
       clock = ok.clock;
       granted = ok.granted;
       skew = ok.skew;
+      heard = ok.heard;
     })
   where
     after_copy : NodeState
@@ -113,6 +116,7 @@ installs_kept node view is_view ok = if_kept (nat_lt (epoch_of node) view.epoch 
       clock = ok.clock;
       granted = ok.granted;
       skew = ok.skew;
+      heard = ok.heard;
     })
   where
     new : NodeState
@@ -145,11 +149,37 @@ received_kept (Accepted ballot) node from within other ok = ok
 received_kept (Chosen view) node from within other ok = ok
 received_kept (Activate view) node from within other ok = ok
 
+-- ---- managers
+-- a view that a majority activated is installed, or it is not
+pub majority_kept : (node : NodeState) (view : View) → IsView view → IsNode node → IsNode (installs_by_majority node view).node
+majority_kept node view is_view ok = if_kept (has_majority view.epoch node.activated) node (installs node view) ok (λ many. installs_kept node view is_view ok)
+
+activated_kept : (node : NodeState) (manager : ℕ) (view : View) → IsView view → IsNode node → IsNode (activated_by node manager view).node
+activated_kept node manager view is_view ok =
+    if_kept (is_greatest view.epoch node.activated) node (installs_by_majority (record node { activated = raised manager view.epoch node.activated }) view) ok
+    (λ greatest. majority_kept (record node { activated = raised manager view.epoch node.activated }) view is_view
+    (noted_kept node (raised manager view.epoch node.activated) (length-raised manager view.epoch node.activated ∙ ok.heard.each_epoch) ok))
+
+heard_kept : (body : Body) (node : NodeState) (manager : ℕ) → IsBody body → IsNode node → IsNode (heard body node manager).node
+heard_kept (LeaseGive end) node manager within ok = granted_kept node manager end within ok
+heard_kept (Activate view) node manager within ok = activated_kept node manager view within ok
+heard_kept (Inv key s kind content) node manager within ok = ok
+heard_kept (Ack key s top) node manager within ok = ok
+heard_kept (Val key s) node manager within ok = ok
+heard_kept (CopyAsk after room) node manager within ok = ok
+heard_kept (CopyGive after done items) node manager within ok = ok
+heard_kept (LeaseAsk asked) node manager within ok = ok
+heard_kept (Prepare ballot) node manager within ok = ok
+heard_kept (Promise ballot vote) node manager within ok = ok
+heard_kept (Accept ballot view) node manager within ok = ok
+heard_kept (Accepted ballot) node manager within ok = ok
+heard_kept (Chosen view) node manager within ok = ok
+
 pub receives_kept : (node : NodeState) (letter : Letter) → IsLetter letter → IsNode node → IsNode (receives node letter).node
 receives_kept node letter within ok = by_sender letter.from
   where
     by_sender : (actor : Actor) → IsNode (receives_from actor node letter).node
-    by_sender (Manager from) = ok
+    by_sender (Manager from) = if_kept (is_addressed node letter.to && nat_lt from node.managers) node (heard letter.body node from) ok (λ t. heard_kept letter.body node from within.body ok)
     by_sender (Node from) = if_kept (is_addressed node letter.to && ((letter.epoch == epoch_of node) && is_other node from)) node (received letter.body node from) ok (λ t.
         let rest = and_parts (is_addressed node letter.to) ((letter.epoch == epoch_of node) && is_other node from) t in
         let other = and_parts (letter.epoch == epoch_of node) (is_other node from) rest.1 in
@@ -160,6 +190,7 @@ step_keeps_node node (Call call key op) ok within = called_kept node call key op
 step_keeps_node node (Receive letter) ok within = receives_kept node letter within ok
 step_keeps_node node (Resend key) ok within = resent_kept node key ok
 step_keeps_node node (Replay key) ok within = replayed_kept node key ok
+step_keeps_node node (AskLease manager) ok within = asks_lease_kept node manager ok
 step_keeps_node node (AskCopy from room) ok within = asks_copy_kept node from room ok
 step_keeps_node node (Tick now) ok within = ticks_kept node now within ok
 step_keeps_node node (Grant end) ok within = grants_kept node end within ok

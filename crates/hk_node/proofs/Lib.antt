@@ -3,6 +3,7 @@ pub mod Givings
 pub mod Order
 pub mod Leaving
 pub mod Parts
+pub mod Managed
 pub mod Keeps
 pub mod KeepsMore
 pub mod Sent
@@ -19,6 +20,7 @@ pub mod Laid
 pub mod Merged
 pub mod Taken
 pub mod Installed
+pub mod Activations
 pub mod Acts
 pub mod Batched
 pub mod Ways

@@ -20,7 +20,7 @@ use Rattle.hk_node.specs.Rows.{find_row, row_at}
 use Rattle.hk_node.specs.Node.{NodeState, epoch_of, members_of, is_other}
 use Rattle.hk_node.specs.Stepped.{Stepped, idle}
 use Rattle.hk_node.specs.Calls.{kind_of, next_stamp, register_in, at_limit, at_turn, at_state, at_lease, lease_end, called}
-use Rattle.hk_node.specs.Steps.{on_found, received, is_addressed, receives_from, receives}
+use Rattle.hk_node.specs.Steps.{on_found, heard, received, is_addressed, receives_from, receives}
 use Rattle.hk_node.specs.Laws.{key_in, ChangesOneRow}
 use Rattle.hk_node.proofs.Order.{find-with_other}
 use Rattle.hk_node.proofs.Keeps.{begun}
@@ -76,11 +76,18 @@ module _ (node : NodeState) (other : List ℕ) where
   by_body (Val k s) from key names ne = by_found k (λ row. still (on_val row s)) (λ e. ne (e ∙ some_same k key names))
   by_body body from key names ne = absurd (none-some key names)
 
+  -- a letter of a manager that names a key changes nothing
+  by_heard : (body : Body) (manager : ℕ) (key : List ℕ) → key_in body ≡ Some key → Keeps (heard body node manager)
+  by_heard (Inv k s kind content) manager key names = refl
+  by_heard (Ack k s top) manager key names = refl
+  by_heard (Val k s) manager key names = refl
+  by_heard body manager key names = absurd (none-some key names)
+
   by_letter : (letter : Letter) (key : List ℕ) → key_in letter.body ≡ Some key → other ≢ key → Keeps (receives node letter)
   by_letter letter key names ne = by_sender letter.from
     where
       by_sender : (actor : Actor) → Keeps (receives_from actor node letter)
-      by_sender (Manager from) = refl
+      by_sender (Manager from) = by_if (is_addressed node letter.to && nat_lt from node.managers) (heard letter.body node from) (by_heard letter.body from key names)
       by_sender (Node from) = by_if (is_addressed node letter.to && ((letter.epoch == epoch_of node) && is_other node from)) (received letter.body node from)
           (by_body letter.body from key names ne)
 

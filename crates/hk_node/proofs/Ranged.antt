@@ -1,10 +1,8 @@
 -- All letters of a step are in range.
 use Rattle.std.proofs.Common.{ℕ, List, [], ◌∷◌, ◌++◌, Option, Some, None, IfSome}
 use Rattle.std.specs.List.{AllByRecursion, flat_map}
-use Rattle.hk_base.specs.declared.stamp.NodeId.{NodeId}
 use Rattle.hk_base.specs.declared.call.CallNo.{CallNo}
 use Rattle.hk_base.specs.declared.call.Op.{Op}
-use Rattle.hk_base.specs.declared.letter.Body.{Body}
 use Rattle.hk_base.specs.Range.{IsBody, IsLetter}
 use Rattle.hk_base.specs.Register.{act}
 use Rattle.hk_base.specs.Stamp.{tag_of}
@@ -13,7 +11,7 @@ use Rattle.hk_key.specs.Table.{Done}
 use Rattle.hk_node.specs.declared.event.NodeEvent.TheVariants.{Call}
 use Rattle.hk_node.specs.Rows.{Rows, row_at}
 use Rattle.hk_node.specs.Node.{NodeState, members_of}
-use Rattle.hk_node.specs.Sends.{letters_to, body_of, addressees, sent}
+use Rattle.hk_node.specs.Sends.{body_of, addressees, sent}
 use Rattle.hk_node.specs.Stepped.{Stepped}
 use Rattle.hk_node.specs.Calls.{kind_of, register_in}
 use Rattle.hk_node.specs.Steps.{viewed}
@@ -22,11 +20,7 @@ use Rattle.hk_node.proofs.Leaving.{act_leaves}
 use Rattle.hk_node.proofs.Parts.{next_is_next}
 use Rattle.hk_node.proofs.Keeps.{begun}
 use Rattle.hk_node.proofs.Acts.{SendsWithin, Acts, begin_sends}
-use Rattle.hk_node.proofs.Ways.{CallWays, Ways, by_call, by_event}
-
-letters_within : (node : NodeState) (body : Body) (to : List NodeId) → IsBody body → AllByRecursion IsLetter (letters_to node body to)
-letters_within node body [] h = tt
-letters_within node body (n ∷ to) h = (record { from = tt; to = tt; body = h }, letters_within node body to h)
+use Rattle.hk_node.proofs.Ways.{CallWays, Ways, letters_within, by_call, by_event}
 
 sent_within : (node : NodeState) (key : List ℕ) (done : Done) → SendsWithin key done → AllByRecursion IsLetter (sent node key done.row done.out.send)
 sent_within node key done h = by_send done.out.send h
@@ -54,12 +48,12 @@ each_view new (r ∷ rows) all = (sent_within new r.0 (viewed new r) all.0.sends
 
 ways : (node : NodeState) (named : Option (List ℕ)) → Ways Within node named
 ways node named = record {
-  quiet = λ clock granted. tt;
-  sends = λ body to within. letters_within node body to within;
+  quiet = λ clock granted ends activated. tt;
+  sends = λ letters within. within;
   row = λ key done names acts. sent_within node key done acts.sends;
   takes = λ cursor done items none unready within. tt;
-  installs = λ view none acts. all_parts IsLetter (λ r. sent (record node { view = Some view }) r.0 (viewed (record node { view = Some view }) r).row (viewed (record node { view = Some view }) r).out.send) node.rows
-      (each_view (record node { view = Some view }) node.rows acts);
+  installs = λ view activated none acts. let new = record node { view = Some view; activated = activated } in
+      all_parts IsLetter (λ r. sent new r.0 (viewed new r).row (viewed new r).out.send) node.rows (each_view new node.rows acts);
 }
 
 call_ways : (node : NodeState) (call : CallNo) (key : List ℕ) (op : Op) → CallWays Within node call key op

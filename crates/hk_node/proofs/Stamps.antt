@@ -100,11 +100,11 @@ module _ (node : NodeState) (key : List ℕ) (small : (row_at key node.rows).sta
 
   ways : (named : Option (List ℕ)) → Ways Up node named
   ways named = record {
-    quiet = λ clock granted. up_itself (row_at key node.rows);
-    sends = λ body to within. up_itself (row_at key node.rows);
+    quiet = λ clock granted ends activated. up_itself (row_at key node.rows);
+    sends = λ letters within. up_itself (row_at key node.rows);
     row = λ k done names acts. with_up key k done.row node.rows acts.rises;
     takes = λ cursor done items none unready within. merged_up key items node.rows;
-    installs = λ view none acts. viewed_up node.id view.members key node.rows;
+    installs = λ view activated none acts. viewed_up node.id view.members key node.rows;
   }
 
   call_ways : (call : CallNo) (k : List ℕ) (op : Op) → CallWays Up node call k op

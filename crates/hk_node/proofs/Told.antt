@@ -54,12 +54,12 @@ each_view new all (r ∷ rows) acts found = (told_waited all r.0 r.1 (viewed new
 
 pub told_were_waiting : ToldWereWaiting
 told_were_waiting node event ok within other = by_event (λ stepped. AllByRecursion (Waited node.rows) stepped.told) node ok event within other (record {
-  quiet = λ clock granted. tt;
-  sends = λ body to w. tt;
+  quiet = λ clock granted ends activated. tt;
+  sends = λ letters within. tt;
   row = λ key done names acts. told_waited node.rows key (row_at key node.rows) done acts refl;
   takes = λ cursor done items none unready within. tt;
-  installs = λ view none acts. all_parts (Waited node.rows) (λ r. told_of r.0 (viewed (record node { view = Some view }) r).out.reply) node.rows
-      (each_view (record node { view = Some view }) node.rows node.rows acts (rows_found node.rows ok.ordered));
+  installs = λ view activated none acts. let new = record node { view = Some view; activated = activated } in
+      all_parts (Waited node.rows) (λ r. told_of r.0 (viewed new r).out.reply) node.rows (each_view new node.rows node.rows acts (rows_found node.rows ok.ordered));
 })
 
 -- ---- where a row's step answers the call of a reply, the step of its node tells it

@@ -92,12 +92,12 @@ module _ (node : NodeState) (ok : IsNode node) (key : List ℕ) (p : Pending) (r
   found None e = absurd (none-some p e)
   found (Some row) e = (row, (refl, e))
 
-  view_goes : (view : View) → Goes (installed_in (record node { view = Some view }) view.epoch)
-  view_goes view =
+  view_goes : (view : View) (activated : List ℕ) → Goes (installed_in (record node { view = Some view; activated = activated }) view.epoch)
+  view_goes view activated =
       let is = found (find_row key node.rows) pending in
       let row = is.0 in
       let sound = subst (λ (r : Row). IsSound node.id (members_of node) r) (ap (λ (o : Option Row). unwrap_or o first_row) is.1.0) (sound_at node key ok) in
-      stepped_row (installed_in (record node { view = Some view }) view.epoch) (on_view node.id view.members row)
+      stepped_row (installed_in (record node { view = Some view; activated = activated }) view.epoch) (on_view node.id view.members row)
       (ap (λ (o : Option Row). unwrap_or o first_row) (row_mapped (λ r. (on_view node.id view.members r).row) key node.rows ∙ ap (option_map (λ r. (on_view node.id view.members r).row)) is.1.0))
       (tells_among (on_view node.id view.members) key reply row node.rows is.1.0)
       (silent_among (on_view node.id view.members) key row node.rows ok.ordered is.1.0)
@@ -105,11 +105,11 @@ module _ (node : NodeState) (ok : IsNode node) (key : List ℕ) (p : Pending) (r
 
   ways : (named : Option (List ℕ)) → Ways Goes node named
   ways named = record {
-    quiet = λ clock granted. inl (waiting, tt);
-    sends = λ body to within. inl (waiting, tt);
+    quiet = λ clock granted ends activated. inl (waiting, tt);
+    sends = λ letters within. inl (waiting, tt);
     row = λ k done names acts. row_goes k done acts;
     takes = λ cursor done items none unready within. absurd (none-some p (sym (none_pending_at node key ok unready) ∙ pending));
-    installs = λ view none acts. view_goes view;
+    installs = λ view activated none acts. view_goes view activated;
   }
 
   -- a call changes a row only where none is pending

@@ -1,11 +1,10 @@
 -- A walk over the open rows of a node, by an index of their keys.
-use Rattle.std.proofs.Common.{◌≡◌, ◌≢◌, ℕ, List, [], ◌∷◌, ◌++◌, Bool, true, false, cond, not, ◌&&◌, ◌||◌, map, Option, Some, None, option_map, unwrap_or, Result, Ok, Err, IfOk, IfSome, slice_get, refl, sym, ap, ◌∙◌, arith, subst, ⊎_elim, inl, inr, ◌⊎◌}
-use Rattle.std.specs.Option.{IsSome, is_some, option_or}
-use Rattle.std.specs.Ordering.{match_ordering, is_eq, is_lt}
+use Rattle.std.proofs.Common.{◌≡◌, ◌≢◌, List, [], ◌∷◌, ◌++◌, Bool, true, false, cond, not, ◌&&◌, ◌||◌, map, Option, Some, None, option_map, unwrap_or, Result, Ok, Err, IfOk, IfSome, refl, sym, ap, ◌∙◌, arith, subst, ⊎_elim, inl, inr, ◌⊎◌}
+use Rattle.std.specs.Option.{option_or}
+use Rattle.std.specs.Ordering.{match_ordering}
 use Rattle.std.specs.declared.cmp.Ordering.{Ordering}
 use Rattle.std.specs.declared.cmp.Ordering.TheVariants.{Less, Equal, Greater}
-use Rattle.std.specs.declared.ops.Bound.TheVariants.{Excluded, Unbounded}
-use Rattle.std.specs.List.{AllByRecursion, list_any, flat_map, filter, find}
+use Rattle.std.specs.List.{AllByRecursion, flat_map, filter, find}
 use Rattle.std.specs.List.Sorted.{IsStrictlySortedBy}
 use Rattle.std.specs.Map.{keys_of}
 use Rattle.std.specs.BTreeSet.{insert_key}
@@ -15,7 +14,7 @@ use Rattle.std.proofs.lemmas.List.Concat.{flat_map-cons}
 use Rattle.hk_copy.specs.Batches.{key_cmp}
 use Rattle.hk_key.specs.declared.row.Row.{Row}
 use Rattle.hk_key.specs.Table.{first_row}
-use Rattle.hk_node.specs.Rows.{Rows, find_row, row_at, put_row, with_row, is_touched}
+use Rattle.hk_node.specs.Rows.{Rows, find_row, put_row, with_row, is_touched}
 use Rattle.hk_node.specs.Copies.{is_valid}
 use Rattle.hk_node.specs.Open.{is_behind, is_open_behind, next_open}
 use Rattle.hk_node.specs.Index.{is_listed, HasOpen, IsGrown, is_open_at, of_found, at_key}

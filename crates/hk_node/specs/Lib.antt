@@ -1,5 +1,6 @@
 pub mod Rows
 pub mod Node
+pub mod Heard
 pub mod Sends
 pub mod Stepped
 pub mod Calls

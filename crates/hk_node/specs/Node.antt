@@ -17,6 +17,11 @@ pub record NodeState : Type 0 where
   pub granted : ℕ
   pub clock : ℕ
   pub skew : ℕ
+  -- how many managers the group has, and of each, manager 0 first: the greatest end of a lease that it granted, and the greatest
+  -- epoch of which it sent ACTIVATE; 0 where there was none
+  pub managers : ℕ
+  pub ends : List ℕ
+  pub activated : List ℕ
   pub rows : Rows
 
 -- epochs begin at 1: a node with no view is in epoch 0

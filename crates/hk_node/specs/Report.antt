@@ -12,7 +12,7 @@ use Rattle.hk_key.specs.Same.{is_same_row}
 use Rattle.hk_node.specs.declared.report.Former.{Former}
 use Rattle.hk_node.specs.declared.report.Report.{Report}
 use Rattle.hk_node.specs.declared.report.Beside.{Beside}
-use Rattle.hk_node.specs.declared.report.Beside.TheVariants.{Nothing, Clock, Lease, View, Cursor}
+use Rattle.hk_node.specs.declared.report.Beside.TheVariants.{Nothing, Clock, Lease, Granted, Activated, View, Cursor}
 use Rattle.hk_node.specs.Rows.{Rows, find_row, row_at, put_row, is_touched}
 use Rattle.hk_node.specs.Node.{NodeState, epoch_of}
 
@@ -66,7 +66,9 @@ abbrev pub beside_given_back : Beside → NodeState → NodeState
 beside_given_back Nothing node = node
 beside_given_back (Clock now) node = record node { clock = now }
 beside_given_back (Lease end) node = record node { granted = end }
-beside_given_back (View view) node = record node { view = view }
+beside_given_back (Granted end ends) node = record node { granted = end; ends = ends }
+beside_given_back (Activated activated) node = record node { activated = activated }
+beside_given_back (View view activated) node = record node { view = view; activated = activated }
 -- the cursor, of a node that was not ready
 beside_given_back (Cursor cursor) node = record node { ready = false; cursor = cursor }
 

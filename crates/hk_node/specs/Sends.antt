@@ -44,7 +44,7 @@ addressees node row NotAcked = filter (λ member. not (is_noted member (notes_in
 
 -- A node's number and view: no more of it matters to what it sends.
 abbrev pub at_view : NodeId → View → NodeState
-at_view id view = record { id = id; view = Some view; ready = true; cursor = None; granted = 0; clock = 1; skew = 0; rows = [] }
+at_view id view = record { id = id; view = Some view; ready = true; cursor = None; granted = 0; clock = 1; skew = 0; managers = 0; ends = []; activated = []; rows = [] }
 
 -- whether a member is one of the others, or of the others that are not noted
 abbrev pub is_aimed : Bool → NodeId → Row → NodeId → Bool

@@ -10,9 +10,10 @@ use Rattle.hk_base.specs.Range.{IsLetter, IsRoom}
 use Rattle.hk_copy.specs.Batches.{key_cmp}
 use Rattle.hk_key.specs.Sound.{IsSound}
 use Rattle.hk_node.specs.declared.event.NodeEvent.{NodeEvent}
-use Rattle.hk_node.specs.declared.event.NodeEvent.TheVariants.{Call, Receive, Resend, Replay, AskCopy, Tick, Grant, Install}
+use Rattle.hk_node.specs.declared.event.NodeEvent.TheVariants.{Call, Receive, Resend, Replay, AskLease, AskCopy, Tick, Grant, Install}
 use Rattle.hk_node.specs.Rows.{is_touched}
 use Rattle.hk_node.specs.Node.{NodeState, members_of, is_member}
+use Rattle.hk_node.specs.Heard.{AreHeard}
 
 -- it is a view, and the node is a member of it
 pub record IsViewOf (node : NodeState) (view : View) : Type 0 where
@@ -35,6 +36,7 @@ pub record IsNode (node : NodeState) : Type 0 where
   pub clock : node.clock ≤ MAX_TIME
   pub granted : node.granted ≤ MAX_TIME
   pub skew : node.skew ≤ MAX_TIME
+  pub heard : AreHeard node.managers node.ends node.activated
 
 -- letters are in range, a batch has 1 to 64 items, times are within the limit, and a view is one
 abbrev pub IsEvent : NodeEvent → Type 0
@@ -42,6 +44,7 @@ IsEvent (Call call key op) = ⊤
 IsEvent (Receive letter) = IsLetter letter
 IsEvent (Resend key) = ⊤
 IsEvent (Replay key) = ⊤
+IsEvent (AskLease manager) = ⊤
 IsEvent (AskCopy from room) = IsRoom room
 IsEvent (Tick now) = now ≤ MAX_TIME
 IsEvent (Grant end) = end ≤ MAX_TIME

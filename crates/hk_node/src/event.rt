@@ -13,6 +13,8 @@ pub enum NodeEvent {
     Resend(Key),
     /// The update of an Invalid row is sent again, as its coordinator did.
     Replay(Key),
+    /// The node asks a manager for a lease. One whose number is not below the group's number of managers is not asked.
+    AskLease { manager: u8 },
     /// A joiner asks another member for its next rows, `room` of them at most, 1 to 64.
     AskCopy { from: NodeId, room: u8 },
     /// The clock reads `now`, in milliseconds up to `MAX_TIME`. A clock never falls.

@@ -10,6 +10,7 @@
 mod decide;
 mod event;
 mod give;
+mod heard;
 mod laws;
 mod letters;
 mod node;

@@ -14,6 +14,7 @@ mod copying;
 mod finish;
 mod install;
 mod letter;
+mod managers;
 mod merging;
 mod receive;
 mod rows;
@@ -21,15 +22,16 @@ mod step;
 
 use crate::event::NodeEvent;
 use crate::give::give_rows_back;
+use crate::heard::of_each;
 use crate::out::NodeOut;
 use crate::report::{Beside, Report};
-use hk_base::{CallNo, Key, Letter, Memory, NodeId, Op, View};
+use hk_base::{CallNo, Key, Letter, Memory, NodeId, Op, Sequence, View};
 use hk_key::Row;
 use std::alloc::Global;
 use std::collections::{BTreeMap, BTreeSet};
 use std::marker::Model;
 
-/// A node of a group that has no managers.
+/// A node of a group.
 #[derive(Drop)]
 pub struct Node {
     id: NodeId,
@@ -39,6 +41,11 @@ pub struct Node {
     granted: u64,
     clock: u64,
     skew: u64,
+    managers: u8,
+    /// Of each manager, the greatest end of a lease that it granted.
+    ends: Sequence<u64>,
+    /// Of each manager, the greatest epoch of which it sent ACTIVATE.
+    activated: Sequence<u64>,
     rows: BTreeMap<Key, Row>,
     /// The keys of the rows that are not Valid, and maybe of some that became Valid since.
     index: BTreeSet<Key>,
@@ -52,9 +59,9 @@ impl Model for Node {
 
     ghost Value = { NodeState };
 
-    ghost view = { λ n. record { id = n.id; view = n.view; ready = n.ready; cursor = n.cursor; granted = n.granted; clock = n.clock; skew = n.skew; rows = n.rows.entries } };
+    ghost view = { λ n. record { id = n.id; view = n.view; ready = n.ready; cursor = n.cursor; granted = n.granted; clock = n.clock; skew = n.skew; managers = n.managers; ends = n.ends; activated = n.activated; rows = n.rows.entries } };
 
-    ghost invariant = { λ n. IsIndexed (record { id = n.id; view = n.view; ready = n.ready; cursor = n.cursor; granted = n.granted; clock = n.clock; skew = n.skew; rows = n.rows.entries }) n.index.keys n.whole };
+    ghost invariant = { λ n. IsIndexed (record { id = n.id; view = n.view; ready = n.ready; cursor = n.cursor; granted = n.granted; clock = n.clock; skew = n.skew; managers = n.managers; ends = n.ends; activated = n.activated; rows = n.rows.entries }) n.index.keys n.whole };
 }
 
 // The epoch of a view, 0 where there is none.
@@ -75,21 +82,31 @@ impl Node {
     ghost use Rattle.hk_node.specs.Made.{founder, joiner};
     ghost use Rattle.hk_node.specs.Calls.{called};
     ghost use Rattle.hk_node.specs.Copies.{asks_copy};
-    ghost use Rattle.hk_node.specs.Steps.{node_step, receives, resent, replayed, installs, ticks, grants};
+    ghost use Rattle.hk_node.specs.Steps.{node_step, receives, resent, replayed, installs, ticks, grants, asks_lease};
     ghost use Rattle.hk_node.specs.Sound.{IsNode, IsEvent};
     ghost use Rattle.hk_node.specs.Report.{given_back};
     ghost use Rattle.hk_node.specs.Outs.{IsOutOf};
 
-    /// A founder of the group: it is a member of the first view, is ready, and has a lease that ends at `lease_end`. Clocks
-    /// begin at 1, and differ by `skew` at most. It takes no memory.
-    pub fn founder(alloc: Global, id: NodeId, view: View, lease_end: u64, skew: u64) -> Node
+    /// A founder of the group: it is a member of the first view, is ready, and has a lease that ends at `lease_end`, from each
+    /// of the group's managers, 0 to 9. Clocks begin at 1, and differ by `skew` at most.
+    pub fn founder(
+        alloc: Global,
+        id: NodeId,
+        view: View,
+        lease_end: u64,
+        skew: u64,
+        managers: u8,
+    ) -> Result<Node, Memory>
         requires view { IsView view }
         requires member { is_member id view.members ≡ true }
         requires lease_end { lease_end ≤ MAX_TIME }
         requires skew { skew ≤ MAX_TIME }
-        ensures { result ≡ founder id view lease_end skew }
+        requires managers { managers ≤ 9 }
+        ensures { IfOk result (λ node. node ≡ founder id view lease_end skew managers) }
     {
-        Node {
+        let ends = of_each(alloc, managers, lease_end)?;
+        let activated = of_each(alloc, managers, 0)?;
+        Ok(Node {
             id,
             view: Some(view),
             ready: true,
@@ -97,18 +114,24 @@ impl Node {
             granted: lease_end,
             clock: 1,
             skew,
+            managers,
+            ends,
+            activated,
             rows: BTreeMap::new(alloc),
             index: BTreeSet::new(alloc),
             whole: true,
-        }
+        })
     }
 
-    /// A node that is to join: it has no view and no rows, and is not ready. It takes no memory.
-    pub fn joiner(alloc: Global, id: NodeId, skew: u64) -> Node
-        requires { skew ≤ MAX_TIME }
-        ensures { result ≡ joiner id skew }
+    /// A node that is to join a group of so many managers, 0 to 9: it has no view, no rows and no lease, and is not ready.
+    pub fn joiner(alloc: Global, id: NodeId, skew: u64, managers: u8) -> Result<Node, Memory>
+        requires skew { skew ≤ MAX_TIME }
+        requires managers { managers ≤ 9 }
+        ensures { IfOk result (λ node. node ≡ joiner id skew managers) }
     {
-        Node {
+        let ends = of_each(alloc, managers, 0)?;
+        let activated = of_each(alloc, managers, 0)?;
+        Ok(Node {
             id,
             view: None,
             ready: false,
@@ -116,10 +139,13 @@ impl Node {
             granted: 0,
             clock: 1,
             skew,
+            managers,
+            ends,
+            activated,
             rows: BTreeMap::new(alloc),
             index: BTreeSet::new(alloc),
             whole: true,
-        }
+        })
     }
 
     /// Undoes a step, by what it reported and what it replaced beside rows: behind that step this makes the node as it was
@@ -136,7 +162,15 @@ impl Node {
             Beside::Nothing => {}
             Beside::Clock(now) => self.clock = now,
             Beside::Lease(end) => self.granted = end,
-            Beside::View(view) => self.view = view,
+            Beside::Granted { granted, ends } => {
+                self.granted = granted;
+                self.ends = ends;
+            }
+            Beside::Activated(activated) => self.activated = activated,
+            Beside::View { view, activated } => {
+                self.view = view;
+                self.activated = activated;
+            }
             Beside::Cursor(cursor) => {
                 self.ready = false;
                 self.cursor = cursor;

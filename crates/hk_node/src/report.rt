@@ -32,8 +32,18 @@ pub enum Beside {
     Clock(u64),
     /// The greatest end of a lease.
     Lease(u64),
-    /// The view that was installed before, if there was one.
-    View(Option<View>),
+    /// The greatest end of a lease, and of each manager the greatest end that it granted.
+    Granted {
+        granted: u64,
+        ends: Sequence<u64>,
+    },
+    /// Of each manager the greatest epoch of which it sent ACTIVATE.
+    Activated(Sequence<u64>),
+    /// The view that was installed before, if there was one, and the same of each manager.
+    View {
+        view: Option<View>,
+        activated: Sequence<u64>,
+    },
     /// The cursor of a node that was not ready.
     Cursor(Option<Key>),
 }

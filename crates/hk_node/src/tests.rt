@@ -42,7 +42,8 @@ fn founder(alloc: Global) -> Result<Node, Fail> {
         members,
         next: 2,
     };
-    Ok(Node::founder(alloc, NodeId(0), view, 1000, 10))
+    let node = Node::founder(alloc, NodeId(0), view, 1000, 10, 0)?;
+    Ok(node)
 }
 
 // Makes the step of an event.
@@ -130,7 +131,7 @@ fn drops_letters_of_old_epochs(rt: HostRuntime) -> Result<(), Fail> {
 #[test]
 fn a_shadow_has_no_lease(rt: HostRuntime) -> Result<(), Fail> {
     let alloc = rt.alloc();
-    let mut node = Node::joiner(alloc, NodeId(2), 10);
+    let mut node = Node::joiner(alloc, NodeId(2), 10, 0)?;
     step(alloc, &mut node, NodeEvent::Grant { end: 1000 })?;
     let key = Key::read(alloc, b"k")?;
     let out = call(alloc, &mut node, &key, Op::Read)?;

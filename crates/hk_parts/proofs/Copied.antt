@@ -27,7 +27,8 @@ use Rattle.hk_node.specs.Node.{NodeState, epoch_of, members_of, is_member, is_ot
 use Rattle.hk_node.specs.Rows.{find_row, row_at}
 use Rattle.hk_node.specs.Sends.{letters_to}
 use Rattle.hk_node.specs.Stepped.{Stepped, idle}
-use Rattle.hk_node.specs.Steps.{on_found, installed_in, received, is_addressed, receives_from, receives}
+use Rattle.hk_node.specs.Heard.{raised, is_greatest, has_majority}
+use Rattle.hk_node.specs.Steps.{on_found, installed_in, received, is_addressed, receives_from, receives, installs, installs_by_majority, heard}
 use Rattle.hk_world.specs.declared.event.Event.{Event}
 use Rattle.hk_world.specs.declared.event.Event.TheVariants.{Call, Take, Tick, TickAll, Crash, Resend, Replay, Copy, Start, Agree, Install, Lease, AskLease, Propose, Activate as ActivateEvent}
 use Rattle.hk_world.specs.World.{WorldState, numbered}
@@ -179,11 +180,45 @@ module _ (key : List ℕ) (w : WorldState) (x : NodeState) (told : (l : Letter) 
     received_copies (Chosen view) is = inl
     received_copies (Activate view) is = inl
 
+  -- what is heard from managers copies nothing
+  heard_copies : (body : Body) (manager : ℕ) → Copies (heard body x manager)
+  heard_copies (LeaseGive end) manager = inl
+  heard_copies (Activate view) manager = by_greatest (is_greatest view.epoch x.activated)
+    where
+      after : List ℕ
+      after = raised manager view.epoch x.activated
+
+      noted : NodeState
+      noted = record x { activated = after }
+
+      by_install : (b : Bool) → Copies (cond b (installed_in (record noted { view = Some view }) view.epoch) (idle noted))
+      by_install true = inl
+      by_install false = inl
+
+      by_majority : (b : Bool) → Copies (cond b (installs noted view) (idle noted))
+      by_majority true = by_install (ltb (epoch_of x) view.epoch && is_member x.id view.members)
+      by_majority false = inl
+
+      by_greatest : (b : Bool) → Copies (cond b (installs_by_majority noted view) (idle x))
+      by_greatest true = by_majority (has_majority view.epoch after)
+      by_greatest false = inl
+  heard_copies (Inv k s kind content) manager = inl
+  heard_copies (Ack k s top) manager = inl
+  heard_copies (Val k s) manager = inl
+  heard_copies (CopyAsk after room) manager = inl
+  heard_copies (CopyGive after done items) manager = inl
+  heard_copies (LeaseAsk asked) manager = inl
+  heard_copies (Prepare ballot) manager = inl
+  heard_copies (Promise ballot vote) manager = inl
+  heard_copies (Accept ballot view) manager = inl
+  heard_copies (Accepted ballot) manager = inl
+  heard_copies (Chosen view) manager = inl
+
   receives_copies : (n : ℕ) → event ≡ Take n → (l : Letter) → numbered n w.letters ≡ Some l → Copies (receives x l)
   receives_copies n take l got = by_from l.from refl
     where
       by_from : (a : Actor) → l.from ≡ a → Copies (receives_from a x l)
-      by_from (A.Manager m) sender = inl
+      by_from (A.Manager m) sender = either (is_addressed x l.to && ltb m x.managers) (heard l.body x m) (λ e. heard_copies l.body m)
       by_from (A.Node from) sender = either (is_addressed x l.to && (eqb l.epoch (epoch_of x) && is_other x from)) (received l.body x from) (λ e.
           let p = and_parts (is_addressed x l.to) (eqb l.epoch (epoch_of x) && is_other x from) e in
           let q = and_parts (eqb l.epoch (epoch_of x)) (is_other x from) p.1 in

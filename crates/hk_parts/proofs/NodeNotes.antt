@@ -29,7 +29,8 @@ use Rattle.hk_node.specs.Node.{NodeState, epoch_of, members_of, is_member, is_ot
 use Rattle.hk_node.specs.Rows.{Rows, find_row, row_at, with_row}
 use Rattle.hk_node.specs.Sends.{letters_to}
 use Rattle.hk_node.specs.Stepped.{Stepped, idle, row_step}
-use Rattle.hk_node.specs.Steps.{on_found, installed_in, installs, received, is_addressed, receives_from, receives}
+use Rattle.hk_node.specs.Heard.{raised, is_greatest, has_majority}
+use Rattle.hk_node.specs.Steps.{on_found, installed_in, installs, installs_by_majority, heard, received, is_addressed, receives_from, receives}
 use Rattle.hk_world.specs.declared.event.Event.{Event}
 use Rattle.hk_world.specs.declared.event.Event.TheVariants.{Call, Take, Tick, TickAll, Crash, Resend, Replay, Copy, Start, Agree, Install, Lease, AskLease, Propose, Activate as ActivateEvent}
 use Rattle.hk_world.specs.World.{WorldState}
@@ -110,18 +111,52 @@ module _ (key : List ℕ) (w : WorldState) (x : NodeState) (ok : IsNoted (row_at
   received_keeps l sent (Chosen view) is from = ok
   received_keeps l sent (Activate view) is from = ok
 
+  -- by whether it installs, with ACTIVATEs that say nothing of rows
+  noted_installs : (v : View) (activated : List ℕ) → Noted (installs (record x { activated = activated }) v)
+  noted_installs v activated = by_test (ltb (epoch_of x) v.epoch && is_member x.id v.members)
+    where
+      y : NodeState
+      y = record x { view = Some v; activated = activated }
+
+      by_test : (b : Bool) → Noted (cond b (installed_in y v.epoch) (idle (record x { activated = activated })))
+      by_test true = subst (λ (r : Row). IsNoted r.pending) (sym (row-viewed y key x.rows)) (view_noted y.id (members_of y) (row_at key x.rows))
+      by_test false = ok
+
+  heard_keeps : (body : Body) (manager : ℕ) → Noted (heard body x manager)
+  heard_keeps (LeaseGive end) manager = ok
+  heard_keeps (Activate view) manager = by_greatest (is_greatest view.epoch x.activated)
+    where
+      after : List ℕ
+      after = raised manager view.epoch x.activated
+
+      by_majority : (b : Bool) → Noted (cond b (installs (record x { activated = after }) view) (idle (record x { activated = after })))
+      by_majority true = noted_installs view after
+      by_majority false = ok
+
+      by_greatest : (b : Bool) → Noted (cond b (installs_by_majority (record x { activated = after }) view) (idle x))
+      by_greatest true = by_majority (has_majority view.epoch after)
+      by_greatest false = ok
+  heard_keeps (Inv k s kind content) manager = ok
+  heard_keeps (Ack k s top) manager = ok
+  heard_keeps (Val k s) manager = ok
+  heard_keeps (CopyAsk after room) manager = ok
+  heard_keeps (CopyGive after done items) manager = ok
+  heard_keeps (LeaseAsk asked) manager = ok
+  heard_keeps (Prepare ballot) manager = ok
+  heard_keeps (Promise ballot vote) manager = ok
+  heard_keeps (Accept ballot view) manager = ok
+  heard_keeps (Accepted ballot) manager = ok
+  heard_keeps (Chosen view) manager = ok
+
   receives_keeps : (l : Letter) → In w.letters l → Noted (receives x l)
   receives_keeps l sent = by_from l.from
     where
       by_from : (a : Actor) → Noted (receives_from a x l)
-      by_from (A.Manager m) = ok
+      by_from (A.Manager m) = either (is_addressed x l.to && ltb m x.managers) (heard l.body x m) (heard_keeps l.body m)
       by_from (A.Node from) = either (is_addressed x l.to && (eqb l.epoch (epoch_of x) && is_other x from)) (received l.body x from) (received_keeps l sent l.body refl from)
 
   installs_keeps : (v : View) → Noted (installs x v)
-  installs_keeps v =
-      let y : NodeState = record x { view = Some v } in
-      either (ltb (epoch_of x) v.epoch && is_member x.id v.members) (installed_in y v.epoch)
-      (subst (λ (r : Row). IsNoted r.pending) (sym (row-viewed y key x.rows)) (view_noted y.id (members_of y) (row_at key x.rows)))
+  installs_keeps v = noted_installs v x.activated
 
   pub step_keeps : (event : Event) (s : Stepped) → Steps w x event s → IsNoted (row_at key s.node.rows).pending
   step_keeps (Call id k op) s is = rw is (called_keeps (record { 0 = w.calls + 1 }) k op)

@@ -35,7 +35,8 @@ use Rattle.hk_node.specs.Rows.{Rows, find_row, row_at, with_row}
 use Rattle.hk_node.specs.Sends.{letters_to, sent}
 use Rattle.hk_node.specs.Sound.{IsNode}
 use Rattle.hk_node.specs.Stepped.{Stepped, idle, row_step}
-use Rattle.hk_node.specs.Steps.{on_found, resent, replayed, viewed, installed_in, installs, received, is_addressed, receives_from, receives}
+use Rattle.hk_node.specs.Heard.{raised, is_greatest, has_majority}
+use Rattle.hk_node.specs.Steps.{on_found, resent, replayed, viewed, installed_in, installs, installs_by_majority, heard, received, is_addressed, receives_from, receives}
 use Rattle.hk_world.specs.declared.event.Event.{Event}
 use Rattle.hk_world.specs.declared.event.Event.TheVariants.{Call, Take, Tick, TickAll, Crash, Resend, Replay, Copy, Start, Agree, Install, Lease, AskLease, Propose, Activate}
 use Rattle.hk_world.specs.World.{WorldState}
@@ -129,6 +130,53 @@ module _ (x : NodeState) (ok : IsNode x) where
   received_said (Chosen view) from inside = idle_said
   received_said (Activate view) from inside = idle_said
 
+  -- a view over all rows
+  viewed_said : (y : NodeState) (q rs : Rows) → (l : Letter) → In (flat_map (λ r. sent y r.0 (viewed y r).row (viewed y r).out.send) rs) l → Says (record y { rows = q }) l
+  viewed_said y q [] l h = absurd h
+  viewed_said y q (r ∷ rs) l h =
+      ⊎_elim
+      (sent_said (record y { rows = q }) r.0 (viewed y r).row (viewed y r).out.send (view_aims y.id (members_of y) r.1) l)
+      (viewed_said y q rs l)
+      (in_either (sent y r.0 (viewed y r).row (viewed y r).out.send) (flat_map (λ r. sent y r.0 (viewed y r).row (viewed y r).out.send) rs) l h)
+
+  -- with whatever ACTIVATEs
+  noted_installs : (v : View) (activated : List ℕ) → AreSaid (installs (record x { activated = activated }) v)
+  noted_installs v activated = by_test (ltb (epoch_of x) v.epoch && is_member x.id v.members)
+    where
+      by_test : (b : Bool) → AreSaid (cond b (installed_in (record x { view = Some v; activated = activated }) v.epoch) (idle (record x { activated = activated })))
+      by_test true = let y : NodeState = record x { view = Some v; activated = activated } in viewed_said y (map (λ r. (r.0, (viewed y r).row)) x.rows) x.rows
+      by_test false = λ l h. absurd h
+
+  installs_said : (v : View) → AreSaid (installs x v)
+  installs_said v = noted_installs v x.activated
+
+  -- what is heard from managers
+  heard_said : (body : Body) (manager : ℕ) → AreSaid (heard body x manager)
+  heard_said (LeaseGive end) manager = λ l h. absurd h
+  heard_said (Activate view) manager = by_greatest (is_greatest view.epoch x.activated)
+    where
+      after : List ℕ
+      after = raised manager view.epoch x.activated
+
+      by_majority : (b : Bool) → AreSaid (cond b (installs (record x { activated = after }) view) (idle (record x { activated = after })))
+      by_majority true = noted_installs view after
+      by_majority false = λ l h. absurd h
+
+      by_greatest : (b : Bool) → AreSaid (cond b (installs_by_majority (record x { activated = after }) view) (idle x))
+      by_greatest true = by_majority (has_majority view.epoch after)
+      by_greatest false = idle_said
+  heard_said (Inv k s kind content) manager = idle_said
+  heard_said (Ack k s top) manager = idle_said
+  heard_said (Val k s) manager = idle_said
+  heard_said (CopyAsk after room) manager = idle_said
+  heard_said (CopyGive after done items) manager = idle_said
+  heard_said (LeaseAsk asked) manager = idle_said
+  heard_said (Prepare ballot) manager = idle_said
+  heard_said (Promise ballot vote) manager = idle_said
+  heard_said (Accept ballot view) manager = idle_said
+  heard_said (Accepted ballot) manager = idle_said
+  heard_said (Chosen view) manager = idle_said
+
   receives_said : (l : Letter) → AreSaid (receives x l)
   receives_said l = by_from l.from
     where
@@ -139,25 +187,13 @@ module _ (x : NodeState) (ok : IsNode x) where
           received_said l.body from (other_in from q.1)
       by_test from false e = idle_said
 
+      by_heard : (m : ℕ) (b : Bool) → AreSaid (cond b (heard l.body x m) (idle x))
+      by_heard m true = heard_said l.body m
+      by_heard m false = idle_said
+
       by_from : (a : Actor) → AreSaid (receives_from a x l)
-      by_from (A.Manager m) = idle_said
+      by_from (A.Manager m) = by_heard m (is_addressed x l.to && ltb m x.managers)
       by_from (A.Node from) = by_test from (is_addressed x l.to && (eqb l.epoch (epoch_of x) && is_other x from)) refl
-
-  -- a view over all rows
-  viewed_said : (y : NodeState) (q rs : Rows) → (l : Letter) → In (flat_map (λ r. sent y r.0 (viewed y r).row (viewed y r).out.send) rs) l → Says (record y { rows = q }) l
-  viewed_said y q [] l h = absurd h
-  viewed_said y q (r ∷ rs) l h =
-      ⊎_elim
-      (sent_said (record y { rows = q }) r.0 (viewed y r).row (viewed y r).out.send (view_aims y.id (members_of y) r.1) l)
-      (viewed_said y q rs l)
-      (in_either (sent y r.0 (viewed y r).row (viewed y r).out.send) (flat_map (λ r. sent y r.0 (viewed y r).row (viewed y r).out.send) rs) l h)
-
-  installs_said : (v : View) → AreSaid (installs x v)
-  installs_said v = by_test (ltb (epoch_of x) v.epoch && is_member x.id v.members)
-    where
-      by_test : (b : Bool) → AreSaid (cond b (installed_in (record x { view = Some v }) v.epoch) (idle x))
-      by_test true = let y : NodeState = record x { view = Some v } in viewed_said y (map (λ r. (r.0, (viewed y r).row)) x.rows) x.rows
-      by_test false = idle_said
 
   pub step_said : (w : WorldState) (event : Event) (s : Stepped) → Steps w x event s → AreSaid s
   step_said w (Call id key op) s is = rw is (called_said (record { 0 = w.calls + 1 }) key op)

@@ -8,7 +8,6 @@ use Rattle.hk_base.specs.declared.letter.Actor.{Actor}
 use Rattle.hk_base.specs.declared.letter.Actor.TheVariants.{Node}
 use Rattle.hk_node.specs.Node.{NodeState, is_member}
 use Rattle.hk_node.specs.Made.{joiner}
-use Rattle.hk_node.specs.Steps.{ticks}
 use Rattle.hk_world.specs.declared.event.Event.TheVariants.{Start, Crash, Agree}
 use Rattle.hk_world.specs.declared.process.Process.{Process}
 use Rattle.hk_world.specs.declared.shown.Shown.{Shown}
@@ -26,8 +25,8 @@ told_aside w shown processes = Ok (record { world = record w { processes = proce
 abbrev process_with : Bool → NodeState → Process
 process_with crashed node = record { node = node; crashed = crashed }
 
-pub joined : (w : WorldState) (id : NodeId) (made : NodeState) (after : Process) (g : ℕ) → made ≡ joiner id w.skew → g ≡ greatest_clock 1 w.processes → after ≡ ticked g (process_with false made) → after ≡ joining w id
-joined w id made after g m c t = t ∙ ap (λ (n : NodeState). ticked g (process_with false n)) m ∙ ap (λ (k : ℕ). ticked k (process_with false (joiner id w.skew))) c
+pub joined : (w : WorldState) (id : NodeId) (made : NodeState) (after : Process) (g : ℕ) → made ≡ joiner id w.skew 0 → g ≡ greatest_clock 1 w.processes → after ≡ ticked g (process_with false made) → after ≡ joining w id
+joined w id made after g m c t = t ∙ ap (λ (n : NodeState). ticked g (process_with false n)) m ∙ ap (λ (k : ℕ). ticked k (process_with false (joiner id w.skew 0))) c
 
 pub start_is : (w : WorldState) (id : NodeId) (process : Process) (entries : Processes) (shown : Shown) → process_at id w.processes ≡ None → is_member id (last_view w.views).members ≡ true →
     process ≡ joining w id → entries ≡ put_process id process w.processes → shown ≡ nothing → world_step w (Start id) ≡ told_aside w shown entries

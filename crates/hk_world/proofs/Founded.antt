@@ -65,12 +65,12 @@ unfolding id_of
 counted_next k n old new same so_far pushed = pushed ∙ ap (λ (l : List NodeId). l ++ record { 0 = n } ∷ []) so_far ∙ ap (λ (m : ℕ). counted 0 k ++ id_of m ∷ []) same ∙ counted_more k
 
 abbrev process_by : Header → NodeId → View → Process
-process_by h id view = record { node = founder id view h.lease h.skew; crashed = false }
+process_by h id view = record { node = founder id view h.lease h.skew 0; crashed = false }
 
 abbrev process_with : NodeState → Process
 process_with node = record { node = node; crashed = false }
 
-pub founders_next : (h : Header) (k n : ℕ) (node : NodeState) (view : View) (old new : Processes) → n ≡ k → view ≡ founding_view h → node ≡ founder (record { 0 = n }) view h.lease h.skew → old ≡ founded h (counted 0 k) →
+pub founders_next : (h : Header) (k n : ℕ) (node : NodeState) (view : View) (old new : Processes) → n ≡ k → view ≡ founding_view h → node ≡ founder (record { 0 = n }) view h.lease h.skew 0 → old ≡ founded h (counted 0 k) →
     new ≡ insert_entry by_number old (record { 0 = n }) (record { node = node; crashed = false }) → new ≡ founded h (counted 0 (k + 1))
 unfolding id_of
 founders_next h k n node view old new same first made so_far put =

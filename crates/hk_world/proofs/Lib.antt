@@ -1,5 +1,6 @@
 pub mod Processes
 pub mod Steady
+pub mod Unmanaged
 pub mod Viewed
 pub mod Soundness
 pub mod Starting

@@ -7,7 +7,6 @@ use Rattle.std.specs.Map.{keys_of}
 use Rattle.std.proofs.lemmas.Bool.{eqb-false, leb-false}
 use Rattle.hk_base.specs.declared.time.TheConstants.{MAX_TIME}
 use Rattle.hk_base.specs.declared.stamp.NodeId.{NodeId}
-use Rattle.hk_base.specs.declared.call.CallNo.{CallNo}
 use Rattle.hk_base.specs.declared.view.View.{View}
 use Rattle.hk_base.specs.declared.view.Change.{Change}
 use Rattle.hk_base.specs.declared.view.Change.TheVariants.{Drop, Add}
@@ -15,9 +14,9 @@ use Rattle.hk_base.specs.declared.letter.Actor.{Actor}
 use Rattle.hk_base.specs.declared.letter.Actor.TheVariants.{Node, Manager}
 use Rattle.hk_base.specs.declared.letter.Letter.{Letter}
 use Rattle.hk_base.specs.View.{IsView}
-use Rattle.hk_base.specs.Range.{IsLetter, IsActor}
+use Rattle.hk_base.specs.Range.{IsLetter}
 use Rattle.hk_node.specs.declared.event.NodeEvent.{NodeEvent}
-use Rattle.hk_node.specs.declared.event.NodeEvent.TheVariants.{Call as NodeCall, Receive, Resend as NodeResend, Replay as NodeReplay, AskCopy, Tick as NodeTick, Grant, Install as NodeInstall}
+use Rattle.hk_node.specs.declared.event.NodeEvent.TheVariants.{Call as NodeCall, Receive, Resend as NodeResend, Replay as NodeReplay, AskLease as NodeAsk, AskCopy, Tick as NodeTick, Grant, Install as NodeInstall}
 use Rattle.hk_node.specs.Node.{NodeState, is_member, epoch_of}
 use Rattle.hk_node.specs.Made.{joiner}
 use Rattle.hk_node.specs.Stepped.{Stepped, idle}
@@ -34,7 +33,7 @@ use Rattle.hk_world.specs.Steps.{Accepted, world_step, with_step, live, live_at,
 use Rattle.hk_world.specs.Sound.{IsEvent, IsWorld, IsProcess, AreViews}
 use Rattle.hk_world.specs.Views.{dropped, added}
 use Rattle.hk_world.proofs.Processes.{sorted_put, all_put, found_holds, all_map}
-use Rattle.hk_world.proofs.Steady.{IsSteady, call_steady, resend_steady, replay_steady, copy_steady, install_steady, receive_steady}
+use Rattle.hk_world.proofs.Steady.{IsSteady, call_steady, resend_steady, replay_steady, copy_steady, install_steady, receive_steady, asks_steady}
 use Rattle.hk_world.proofs.Viewed.{numbered_holds, all_append, views_next, dropped_next, added_next}
 
 abbrev pub NodeLaws : Type 0
@@ -47,16 +46,17 @@ pub record IsSoundStep (before : NodeState) (stepped : Stepped) : Type 0 where
   pub letters : AllByRecursion IsLetter stepped.letters
 
 idle_sound : (node : NodeState) → IsNode node → IsSoundStep node (idle node)
-idle_sound node is = record { steady = record { id = refl; skew = refl }; node = is; letters = tt }
+idle_sound node is = record { steady = record { id = refl; skew = refl; managers = refl }; node = is; letters = tt }
 
 event_steady : (node : NodeState) (event : NodeEvent) → IsSteady node (node_step node event)
 event_steady node (NodeCall call key op) = call_steady node call key op
 event_steady node (Receive letter) = receive_steady node letter
 event_steady node (NodeResend key) = resend_steady node key
 event_steady node (NodeReplay key) = replay_steady node key
+event_steady node (NodeAsk manager) = asks_steady node manager
 event_steady node (AskCopy from room) = copy_steady node from room
-event_steady node (NodeTick now) = record { id = refl; skew = refl }
-event_steady node (Grant end) = record { id = refl; skew = refl }
+event_steady node (NodeTick now) = record { id = refl; skew = refl; managers = refl }
+event_steady node (Grant end) = record { id = refl; skew = refl; managers = refl }
 event_steady node (NodeInstall view) = install_steady node view
 
 by_laws : NodeLaws → (node : NodeState) (event : NodeEvent) → IsNode node → IsNodeEvent event → IsSoundStep node (node_step node event)
@@ -64,7 +64,7 @@ by_laws laws node event is range = record { steady = event_steady node event; no
 
 -- a process of one world is one of another with the same skew
 carried : (w new : WorldState) → w.skew ≡ new.skew → (p : NodeId × Process) → IsProcess w p → IsProcess new p
-carried w new same p is = record { own = is.own; same_skew = is.same_skew ∙ same; node = is.node }
+carried w new same p is = record { own = is.own; same_skew = is.same_skew ∙ same; unmanaged = is.unmanaged; node = is.node }
 
 pub step_world : (w : WorldState) (id : NodeId) (p : Process) (stepped : Stepped) (calls : ℕ) → IsWorld w → process_at id w.processes ≡ Some p → IsSoundStep p.node stepped →
     IsWorld (record (with_step w id stepped) { calls = calls })
@@ -75,7 +75,7 @@ step_world w id p stepped calls sound found step =
       skew = sound.skew;
       ordered = sorted_put id (record { node = stepped.node; crashed = false }) w.processes sound.ordered;
       processes = all_put (IsProcess new) id (record { node = stepped.node; crashed = false }) w.processes (all_map (IsProcess w) (IsProcess new) (carried w new refl) w.processes sound.processes)
-          (record { own = step.steady.id ∙ old.own; same_skew = step.steady.skew ∙ old.same_skew; node = step.node });
+          (record { own = step.steady.id ∙ old.own; same_skew = step.steady.skew ∙ old.same_skew; unmanaged = step.steady.managers ∙ old.unmanaged; node = step.node });
       letters = all_append IsLetter w.letters stepped.letters sound.letters step.letters;
       views = sound.views;
     }
@@ -139,7 +139,7 @@ ticked_process : NodeLaws → (w : WorldState) (to : ℕ) → to ≤ MAX_TIME �
 ticked_process laws w to range p is = at (is_live p)
   where
     at : (b : Bool) → IsProcess w (p.0, cond b (record p.1 { node = (ticks p.1.node to).node }) p.1)
-    at true = record { own = is.own; same_skew = is.same_skew; node = laws.0 p.1.node (NodeTick to) is.node range }
+    at true = record { own = is.own; same_skew = is.same_skew; unmanaged = is.unmanaged; node = laws.0 p.1.node (NodeTick to) is.node range }
     at false = is
 
 ticked_all : NodeLaws → (w : WorldState) (to : ℕ) → to ≤ MAX_TIME → (ps : Processes) → AllByRecursion (IsProcess w) ps → AllByRecursion (IsProcess w) (map (process_ticked to) ps)
@@ -157,7 +157,7 @@ greatest_within w (p ∷ ps) low within all = greatest_within w ps (cond (is_liv
     at true = let k = all.0.node.clock in omega arith
     at false = within
 
-joiner_is_node : (id : NodeId) (skew : ℕ) → skew ≤ MAX_TIME → IsNode (joiner id skew)
+joiner_is_node : (id : NodeId) (skew : ℕ) → skew ≤ MAX_TIME → IsNode (joiner id skew 0)
 unfolding IsStrictlySortedBy
 joiner_is_node id skew within = record {
   view = tt;
@@ -171,19 +171,21 @@ joiner_is_node id skew within = record {
   clock = omega arith;
   granted = omega arith;
   skew = within;
+  heard = record { few = omega arith; each_end = refl; each_epoch = refl; within = tt };
 }
 
 pub start_world : NodeLaws → (w : WorldState) (id : NodeId) → IsWorld w → IsWorld (record w { processes = put_process id (joining w id) w.processes })
 start_world laws w id sound = put_world w id (joining w id) sound (record {
   own = refl;
   same_skew = refl;
-  node = laws.0 (joiner id w.skew) (NodeTick (greatest_clock 1 w.processes)) (joiner_is_node id w.skew sound.skew) (greatest_within w w.processes 1 (omega arith) sound.processes);
+  unmanaged = refl;
+  node = laws.0 (joiner id w.skew 0) (NodeTick (greatest_clock 1 w.processes)) (joiner_is_node id w.skew sound.skew) (greatest_within w w.processes 1 (omega arith) sound.processes);
 })
 
 pub crash_world : (w : WorldState) (id : NodeId) (p : Process) → IsWorld w → process_at id w.processes ≡ Some p → IsWorld (record w { processes = put_process id (record { node = p.node; crashed = true }) w.processes })
 crash_world w id p sound found =
     let old : IsProcess w (id, p) = found_holds (IsProcess w) id p w.processes sound.processes found in
-    put_world w id (record { node = p.node; crashed = true }) sound (record { own = old.own; same_skew = old.same_skew; node = old.node })
+    put_world w id (record { node = p.node; crashed = true }) sound (record { own = old.own; same_skew = old.same_skew; unmanaged = old.unmanaged; node = old.node })
 
 -- ---- views
 pub view_world : (w : WorldState) (v : View) → IsWorld w → AreViews (w.views ++ v ∷ []) → IsWorld (record w { views = w.views ++ v ∷ [] })

@@ -86,7 +86,7 @@ founding_views h is = record {
         let one = o.0 in
         or_left _ _ (and_from _ _ (lt-ltb 1 (e + 1) (omega arith)) (counted_has 0 h.nodes id (omega arith) (omega arith)))
 
-founder_is_node : (h : Header) → IsHeader h → (id : NodeId) → is_member id (counted 0 h.nodes) ≡ true → IsNode (founder id (founding_view h) h.lease h.skew)
+founder_is_node : (h : Header) → IsHeader h → (id : NodeId) → is_member id (counted 0 h.nodes) ≡ true → IsNode (founder id (founding_view h) h.lease h.skew 0)
 unfolding IsStrictlySortedBy
 founder_is_node h is id member = record {
   view = record { is_view = founding_is_view h is; member = member };
@@ -100,12 +100,13 @@ founder_is_node h is id member = record {
   clock = omega arith;
   granted = is.lease;
   skew = is.skew;
+  heard = record { few = omega arith; each_end = refl; each_epoch = refl; within = tt };
 }
 
 founders : (h : Header) → IsHeader h → (ids : List NodeId) → AllByRecursion (λ (id : NodeId). is_member id (counted 0 h.nodes) ≡ true) ids →
     AllByRecursion (IsProcess (start h)) (map (λ id. (id, founding_process h id)) ids)
 founders h is [] members = tt
-founders h is (id ∷ ids) members = (record { own = refl; same_skew = refl; node = founder_is_node h is id members.0 }, founders h is ids members.1)
+founders h is (id ∷ ids) members = (record { own = refl; same_skew = refl; unmanaged = refl; node = founder_is_node h is id members.0 }, founders h is ids members.1)
 
 pub founder_keys : (h : Header) (ids : List NodeId) → keys_of (map (λ id. (id, founding_process h id)) ids) ≡ ids
 founder_keys h [] = refl

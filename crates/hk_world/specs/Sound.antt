@@ -1,5 +1,5 @@
 -- What every world keeps, which headers and events there are, and what a step tells.
-use Rattle.std.specs.Prelude.{◌≡◌, ℕ, ◌+◌, ◌<◌, ◌≤◌, List, length, true, Option, Some, Result, Ok, Err, ⊤}
+use Rattle.std.specs.Prelude.{◌≡◌, ℕ, ◌+◌, ◌<◌, ◌≤◌, List, length, true, Some, Result, Ok, Err, ⊤}
 use Rattle.std.specs.List.{AllByRecursion}
 use Rattle.std.specs.List.Sorted.{IsStrictlySortedBy}
 use Rattle.std.specs.Map.{keys_of}
@@ -44,10 +44,11 @@ IsEvent (AskLease id manager) = manager < 9
 IsEvent (Propose manager base change) = manager < 9
 IsEvent (Activate manager) = manager < 9
 
--- each process stands under its node's number, and its node is one of this world's
+-- each process stands under its node's number, and its node is one of this world's, which has no managers
 pub record IsProcess (world : WorldState) (p : NodeId × Process) : Type 0 where
   pub own : p.1.node.id ≡ p.0
   pub same_skew : p.1.node.skew ≡ world.skew
+  pub unmanaged : p.1.node.managers ≡ 0
   pub node : IsNode p.1.node
 
 -- the views are numbered by their epochs, `next` does not fall from one to a later one, and a number below it was a member of this view or of an earlier one

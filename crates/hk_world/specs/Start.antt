@@ -16,8 +16,9 @@ counted n (suc k) = record { 0 = n } ∷ counted (n + 1) k
 abbrev pub founding_view : Header → View
 founding_view h = record { epoch = 1; members = counted 0 h.nodes; next = h.nodes }
 
+-- the group has no managers
 abbrev pub founding_process : Header → NodeId → Process
-founding_process h id = record { node = founder id (founding_view h) h.lease h.skew; crashed = false }
+founding_process h id = record { node = founder id (founding_view h) h.lease h.skew 0; crashed = false }
 
 abbrev pub start : Header → WorldState
 start h = record {

@@ -155,7 +155,7 @@ crashes_at world id node = aside (record world { processes = put_process id (rec
 
 -- a joiner's clock starts at the greatest of a live node, or at 1
 abbrev pub joining : WorldState → NodeId → Process
-joining world id = record { node = (ticks (joiner id world.skew) (greatest_clock 1 world.processes)).node; crashed = false }
+joining world id = record { node = (ticks (joiner id world.skew 0) (greatest_clock 1 world.processes)).node; crashed = false }
 
 abbrev pub starts_at : Option Process → WorldState → NodeId → Result Accepted Refused
 starts_at (Some process) world id = Err Started

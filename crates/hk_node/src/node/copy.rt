@@ -4,6 +4,7 @@ ghost use Rattle.std.specs.Prelude.{◌≡◌, IfOk, OnOk};
 ghost use Rattle.hk_node.specs.Rows.{put_row};
 
 use super::Node;
+use crate::heard::share;
 use hk_base::{Key, Memory, View};
 use hk_key::Row;
 use std::alloc::Global;
@@ -65,6 +66,8 @@ impl Node {
     {
         let view = copy_view(alloc, &self.view)?;
         let cursor = copy_key(&self.cursor)?;
+        let ends = share(alloc, &self.ends)?;
+        let activated = share(alloc, &self.activated)?;
         let rows = copy_rows(alloc, &self.rows)?;
         Ok(Node {
             id: self.id,
@@ -74,6 +77,9 @@ impl Node {
             granted: self.granted,
             clock: self.clock,
             skew: self.skew,
+            managers: self.managers,
+            ends,
+            activated,
             rows,
             index: BTreeSet::new(alloc),
             whole: false,

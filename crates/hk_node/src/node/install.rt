@@ -1,6 +1,6 @@
 //! Views that are installed.
 
-ghost use Rattle.std.specs.Prelude.{◌≡◌, true, ◌&&◌, Some, nat_lt, IfOk, OnOk, OnErr};
+ghost use Rattle.std.specs.Prelude.{◌≡◌, length, true, ◌&&◌, Some, nat_lt, IfOk, OnOk, OnErr};
 ghost use Rattle.hk_base.specs.View.{IsView};
 ghost use Rattle.hk_node.specs.Node.{epoch_of, is_member};
 ghost use Rattle.hk_node.specs.Steps.{installs};
@@ -9,28 +9,35 @@ ghost use Rattle.hk_node.specs.Outs.{IsOutOf};
 use super::Node;
 use super::receive::is_member;
 use crate::give::give_rows_back;
+use crate::heard::share;
 use crate::open::mend;
 use crate::out::NodeOut;
 use crate::report::{Beside, Report};
 use crate::viewed::view_rows;
-use hk_base::{Memory, View};
+use hk_base::{Memory, Sequence, View};
 use std::alloc::Global;
 use std::mem;
 
 impl Node {
-    // Whether it is a later view that has the node as a member.
-    fn installs(&self, view: &View) -> bool
+    /// Whether it is a later view that has the node as a member.
+    pub(super) fn installs(&self, view: &View) -> bool
         ensures { result ≡ (nat_lt (epoch_of self.now) view.now.epoch && is_member self.now.id view.now.members) }
     {
         self.epoch() < view.epoch && is_member(self.id, view.members.as_slice())
     }
 
-    // Installs such a view.
-    fn install_view(&mut self, alloc: Global, view: &View) -> Result<NodeOut, Memory>
+    /// Installs such a view, and keeps these ACTIVATEs.
+    pub(super) fn install_view(
+        &mut self,
+        alloc: Global,
+        view: &View,
+        activated: Sequence<u64>,
+    ) -> Result<NodeOut, Memory>
         requires view { IsView view.now }
+        requires activated { length activated ≡ self.old.managers }
         requires later { (nat_lt (epoch_of self.old) view.now.epoch && is_member self.old.id view.now.members) ≡ true }
-        ensures node { OnOk result (self.new ≡ (installs self.old view.now).node) }
-        ensures out { IfOk result (λ out. IsOutOf out self.old (installs self.old view.now)) }
+        ensures node { OnOk result (self.new ≡ (installs (record self.old { activated = activated }) view.now).node) }
+        ensures out { IfOk result (λ out. IsOutOf out self.old (installs (record self.old { activated = activated }) view.now)) }
         ensures err { OnErr result (self.new ≡ self.old) }
     {
         let epoch = self.epoch();
@@ -38,7 +45,8 @@ impl Node {
         mend(&mut self.index, self.whole, &self.rows)?;
         self.whole = true;
         let viewed = view_rows(&self.rows, &self.index, alloc, self.id, view)?;
-        let before = mem::replace(&mut self.view, Some(same));
+        let view_before = mem::replace(&mut self.view, Some(same));
+        let activated_before = mem::replace(&mut self.activated, activated);
         give_rows_back(&mut self.rows, viewed.fresh.into_vec());
         Ok(NodeOut {
             letters: viewed.letters,
@@ -49,7 +57,10 @@ impl Node {
                 readied: false,
                 rows: viewed.former,
             },
-            beside: Beside::View(before),
+            beside: Beside::View {
+                view: view_before,
+                activated: activated_before,
+            },
         })
     }
 
@@ -64,6 +75,7 @@ impl Node {
         if !self.installs(view) {
             return Ok(self.idle(alloc));
         }
-        self.install_view(alloc, view)
+        let activated = share(alloc, &self.activated)?;
+        self.install_view(alloc, view, activated)
     }
 }

@@ -44,8 +44,8 @@ impl Node {
         }
     }
 
-    /// Takes a letter. One that is not addressed to the node, is of another epoch, comes from no other member of its
-    /// view, or is of no kind that a node takes, is dropped and changes nothing.
+    /// Takes a letter. One that is not addressed to the node, comes from nobody whom it takes letters of, is of an update or a copy
+    /// and of another epoch, or is of no kind that a node takes from its sender, is dropped and changes nothing.
     pub(super) fn receive(&mut self, alloc: Global, letter: &Letter) -> Result<NodeOut, Memory>
         requires { IsLetter letter.now }
         ensures node { OnOk result (self.new ≡ (receives self.old letter.now).node) }
@@ -60,7 +60,7 @@ impl Node {
                     Ok(self.idle(alloc))
                 }
             }
-            Actor::Manager(_) => Ok(self.idle(alloc)),
+            Actor::Manager(from) => self.receive_from_manager(alloc, from, letter),
         }
     }
 }

@@ -33,8 +33,8 @@ impl Node {
         }
     }
 
-    // Whether it is the node itself that is addressed.
-    fn is_addressed(&self, to: Actor) -> bool
+    /// Whether it is the node itself that is addressed.
+    pub(super) fn is_addressed(&self, to: Actor) -> bool
         ensures { result ≡ is_addressed self.now to }
     {
         match to {

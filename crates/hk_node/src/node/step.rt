@@ -49,6 +49,7 @@ impl Node {
             NodeEvent::Receive(letter) => self.receive(alloc, letter),
             NodeEvent::Resend(key) => self.resend(alloc, key),
             NodeEvent::Replay(key) => self.replay(alloc, key),
+            NodeEvent::AskLease { manager } => self.ask_lease(alloc, *manager),
             NodeEvent::AskCopy { from, room } => self.ask_copy(alloc, *from, *room),
             NodeEvent::Tick { now } => Ok(self.tick(alloc, *now)),
             NodeEvent::Grant { end } => Ok(self.grant(alloc, *end)),

@@ -88,7 +88,7 @@ impl World {
         if !is_member(id, self.last_view()) {
             return Err(WorldFault::Refused(Refused::NotMember));
         }
-        let node = Node::joiner(alloc, id, self.skew);
+        let node = Node::joiner(alloc, id, self.skew, 0)?;
         let mut process = Process {
             node,
             crashed: false,

@@ -49,7 +49,7 @@ pub(super) fn founders(
     for number in 0..header.nodes {
         let id = NodeId(u16::from(number));
         let view = view.copy(alloc)?;
-        let node = Node::founder(alloc, id, view, header.lease, header.skew);
+        let node = Node::founder(alloc, id, view, header.lease, header.skew, 0)?;
         let process = Process {
             node,
             crashed: false,

@@ -1,7 +1,7 @@
 use Rattle.std.proofs.Common.{◌≡◌, ◌++◌, map}
-use Rattle.std.specs.List.{AllByRecursion, flat_map}
+use Rattle.std.specs.List.{flat_map}
 use Rattle.hk_node.specs.Index.{at_key}
-use Rattle.hk_node.specs.Viewed.{IsFitRow, view_letters, view_told, view_new, view_old}
+use Rattle.hk_node.specs.Viewed.{view_letters, view_told, view_new, view_old}
 use Rattle.hk_node.proofs.viewed.view_keys.Given as goal
 
 -- what was made so far, and what the rows of the keys that are left make, are all

@@ -1,4 +1,4 @@
-use Rattle.std.proofs.Common.{◌≡◌, ap, sym, ◌∙◌, ◌+◌}
+use Rattle.std.proofs.Common.{ap, ◌∙◌, ◌+◌}
 use Rattle.hk_world.specs.World.{WorldState}
 use Rattle.hk_world.proofs.Answering.{answer_as, calls_is}
 use Rattle.hk_world.proofs.world.World.call.Goals as goal

@@ -1,6 +1,5 @@
-use Rattle.std.proofs.Common.{◌≡◌, ap, sym, subst, ◌∙◌}
+use Rattle.std.proofs.Common.{ap}
 use Rattle.hk_world.specs.World.{WorldState}
-use Rattle.hk_world.specs.Sound.{IsWorld}
 use Rattle.hk_world.proofs.Answering.{counted, uncounted}
 use Rattle.hk_world.proofs.Soundness.{counted_world}
 use Rattle.hk_world.proofs.world.World.count.Goals as goal

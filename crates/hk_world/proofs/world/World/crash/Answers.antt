@@ -1,5 +1,5 @@
 use Rattle.hk_world.specs.declared.refused.Refused.TheVariants.{NoActor}
-use Rattle.std.proofs.Common.{rules, ◌≡◌, true, [], Some, None, Err, refl, sym, ap, subst, ◌∙◌}
+use Rattle.std.proofs.Common.{rules, ◌≡◌, true, [], Some, Err, refl, sym, ap, subst, ◌∙◌}
 use Rattle.hk_base.specs.declared.letter.Actor.{Actor}
 use Rattle.hk_world.specs.declared.event.Event.TheVariants.{Crash}
 use Rattle.hk_world.specs.declared.process.Process.{Process}
