@@ -1,0 +1,13 @@
+pub mod Entries
+pub mod Lookups
+pub mod Ahead
+pub mod Kept
+pub mod Joins
+pub mod Deciding
+pub mod Following
+pub mod Running
+pub mod Exactly
+pub mod InTurn
+pub mod Level
+pub mod Naming
+pub mod Undoing

@@ -1,0 +1,28 @@
+//! The clocks of the live actors of a group, which need not agree, but run apart by at most a rate.
+//!
+//! While two actors are live, a thousand milliseconds of the one may be eleven hundred of the other, and a *skew* is allowed
+//! beside. So for each ordered pair there is a *lead*: how far the first clock ran ahead of eleven tenths of the second, counted
+//! from the moment that was best for it, in thousandths of a millisecond. It is 0 from when both are live. [`Clocks::tick`] and
+//! [`Clocks::tick_all`] refuse what would take a lead above a thousand times the skew, and that is exactly what would not keep the
+//! rate.
+//!
+//! Times are milliseconds, up to `MAX_TIME`, which the caller owes. That it starts no actor again after a stop is the caller's
+//! matter too: an actor that starts is taken for a new one.
+#![tactic(auto)]
+
+mod clocks;
+mod fault;
+mod laws;
+mod leads;
+mod pace;
+mod rise;
+#[cfg(test)]
+mod tests;
+mod values;
+
+pub use clocks::Clocks;
+pub use fault::ClockFault;
+pub use laws::{first_left_told, leads_decide, refused_exactly, run_paced, stop_undoes_start};
+pub use leads::Leads;
+pub use pace::Pace;
+pub use rise::Rise;
