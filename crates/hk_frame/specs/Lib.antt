@@ -1,0 +1,8 @@
+pub mod Frames
+pub mod Kept
+pub mod Lengths
+pub mod Sendable
+pub mod Fields
+pub mod Reading
+pub mod Told
+pub mod Laws
