@@ -1,0 +1,6 @@
+pub mod Prefixes
+pub mod Shows
+pub mod Keeping
+pub mod Packing
+pub mod Lists
+pub mod Leasing

@@ -1,0 +1,100 @@
+-- What was words_from is unpacked.
+use Rattle.std.proofs.Common.{◌≡◌, ℕ, zero, suc, ◌+◌, ◌*◌, ◌-◌, ◌<◌, ◌≤◌, List, [], ◌∷◌, ◌++◌, length, get_or, take, drop, replicate, refl, sym, ap, ◌∙◌, subst, arith, append_assoc, length-append, length-drop}
+use Rattle.std.specs.Int.{from_le_bytes, to_le_bytes, w64}
+use Rattle.std.proofs.lemmas.Nat.{le_bytes_8}
+use Rattle.std.proofs.lemmas.List.{append-nil}
+use Rattle.std.proofs.lemmas.Slice.{take-put_mid}
+use Rattle.std.proofs.Math.Seq.{take-suc, take-append_seam, drop-length}
+use borrow.Rule.Slice.PartMut.{put_mid}
+use Rattle.hk_snap.specs.Packed.{words_from, packed, unpacked, eight, AreBytes}
+
+zero_byte : (n i : ℕ) → get_or (replicate n 0) i 0 < 256
+zero_byte zero i = omega arith
+zero_byte (suc n) zero = omega arith
+zero_byte (suc n) (suc i) = zero_byte n i
+
+-- eight bytes, each below 256
+eight_wide : (bytes : List ℕ) → length (eight bytes) ≡ 8
+eight_wide [] = refl
+eight_wide (a ∷ []) = refl
+eight_wide (a ∷ b ∷ []) = refl
+eight_wide (a ∷ b ∷ c ∷ []) = refl
+eight_wide (a ∷ b ∷ c ∷ d ∷ []) = refl
+eight_wide (a ∷ b ∷ c ∷ d ∷ e ∷ []) = refl
+eight_wide (a ∷ b ∷ c ∷ d ∷ e ∷ f ∷ []) = refl
+eight_wide (a ∷ b ∷ c ∷ d ∷ e ∷ f ∷ g ∷ []) = refl
+eight_wide (a ∷ b ∷ c ∷ d ∷ e ∷ f ∷ g ∷ h ∷ rest) = let none : 8 - length (a ∷ b ∷ c ∷ d ∷ e ∷ f ∷ g ∷ h ∷ rest) ≡ 0 = omega arith in rw none refl
+
+take_byte : (n : ℕ) (bytes zs : List ℕ) → AreBytes bytes → ((i : ℕ) → get_or zs i 0 < 256) → (i : ℕ) → get_or (take n bytes ++ zs) i 0 < 256
+take_byte zero bytes zs all z i = z i
+take_byte (suc n) [] zs all z i = z i
+take_byte (suc n) (b ∷ bytes) zs all z zero = all zero
+take_byte (suc n) (b ∷ bytes) zs all z (suc i) = take_byte n bytes zs (λ j. all (suc j)) z i
+
+pub packs_on : (words rest : List ℕ) (n k : ℕ) → k < n → length words ≡ n → take (k + 1) (Rattle.std.proofs.Common.set words k (from_le_bytes w64 (eight rest))) ++ words_from (n - (k + 1)) (drop 8 rest) ≡ take k words ++ words_from (n - k) rest
+packs_on [] rest n k below long = absurd (omega arith)
+packs_on (x ∷ xs) rest zero k below long = absurd (omega arith)
+packs_on (x ∷ xs) rest (suc n) zero below long = let e : suc n - (0 + 1) ≡ n = omega arith in let f : suc n - 0 ≡ suc n = omega arith in rw (e, f) refl
+packs_on (x ∷ xs) rest (suc n) (suc k) below long = let e : suc n - (suc k + 1) ≡ n - (k + 1) = omega arith in let f : suc n - suc k ≡ n - k = omega arith in let g : suc k + 1 ≡ suc (k + 1) = omega arith in rw (e, f, g) (ap (λ l. x ∷ l) (packs_on xs rest n k (omega arith) (omega arith)))
+
+take_front : (xs ys : List ℕ) → take (length xs) (xs ++ ys) ≡ xs
+take_front [] ys = refl
+take_front (x ∷ xs) ys = ap (λ l. x ∷ l) (take_front xs ys)
+
+word_back : (bytes : List ℕ) → AreBytes bytes → to_le_bytes w64 (from_le_bytes w64 (eight bytes)) ≡ eight bytes
+word_back bytes all = le_bytes_8 (eight bytes) (from_le_bytes w64 (eight bytes)) (eight_wide bytes) (take_byte 8 bytes (replicate (8 - length bytes) 0) all (zero_byte (8 - length bytes))) refl
+
+unpacks_from : (n : ℕ) (bytes : List ℕ) → AreBytes bytes → length bytes ≤ 8 * n → take (length bytes) (unpacked (words_from n bytes)) ≡ bytes
+unpacks_from zero [] all fits = refl
+unpacks_from zero (b ∷ bytes) all fits = absurd (omega arith)
+unpacks_from (suc n) bytes all fits = subst (λ (w : List ℕ). take (length bytes) (w ++ unpacked (words_from n (drop 8 bytes))) ≡ bytes) (sym (word_back bytes all)) (go bytes all fits (unpacks_from n))
+  where
+    go : (bs : List ℕ) → AreBytes bs → length bs ≤ 8 * suc n → ((cs : List ℕ) → AreBytes cs → length cs ≤ 8 * n → take (length cs) (unpacked (words_from n cs)) ≡ cs) → take (length bs) (eight bs ++ unpacked (words_from n (drop 8 bs))) ≡ bs
+    go [] all' fits' again = refl
+    go (a ∷ []) all' fits' again = refl
+    go (a ∷ b ∷ []) all' fits' again = refl
+    go (a ∷ b ∷ c ∷ []) all' fits' again = refl
+    go (a ∷ b ∷ c ∷ d ∷ []) all' fits' again = refl
+    go (a ∷ b ∷ c ∷ d ∷ e ∷ []) all' fits' again = refl
+    go (a ∷ b ∷ c ∷ d ∷ e ∷ f ∷ []) all' fits' again = refl
+    go (a ∷ b ∷ c ∷ d ∷ e ∷ f ∷ g ∷ []) all' fits' again = refl
+    go (a ∷ b ∷ c ∷ d ∷ e ∷ f ∷ g ∷ h ∷ rest) all' fits' again =
+        let none : 8 - length (a ∷ b ∷ c ∷ d ∷ e ∷ f ∷ g ∷ h ∷ rest) ≡ 0 = omega arith in
+        rw none (ap (λ l. a ∷ b ∷ c ∷ d ∷ e ∷ f ∷ g ∷ h ∷ l) (again rest (λ i. all' (suc (suc (suc (suc (suc (suc (suc (suc i))))))))) (omega arith)))
+
+unpacked_more : (words : List ℕ) (word : ℕ) → unpacked (words ++ word ∷ []) ≡ unpacked words ++ to_le_bytes w64 word
+unpacked_more [] word = append-nil (to_le_bytes w64 word)
+unpacked_more (x ∷ words) word = ap (λ l. to_le_bytes w64 x ++ l) (unpacked_more words word) ∙ sym (append_assoc (to_le_bytes w64 x) (unpacked words) (to_le_bytes w64 word))
+
+-- one word more is unpacked
+pub unpacks_on : (words room bytes : List ℕ) (k n : ℕ) → k < length words → length room ≡ 8 * length words → take (8 * k) room ≡ unpacked (take k words) → bytes ≡ to_le_bytes w64 (get_or words k 0) → length bytes ≡ 8 → take (8 * (k + 1)) (put_mid (8 * k) n room bytes) ≡ unpacked (take (k + 1) words)
+unpacks_on words room bytes k n below wide done is eight_of =
+    let one : k + 1 ≡ suc k = omega arith in
+    let more : take (k + 1) words ≡ take k words ++ get_or words k 0 ∷ [] = ap (λ j. take j words) one ∙ take-suc words k 0 below in
+    take-put_mid (8 * k) n room bytes (8 * (k + 1)) (omega (arith, eight_of)) (omega (arith, below, wide))
+    ∙ ((λ i. done i ++ is i) ∙ (sym (unpacked_more (take k words) (get_or words k 0)) ∙ ap unpacked (sym more)))
+
+pub unpacks : (n : ℕ) (bytes : List ℕ) → AreBytes bytes → length bytes ≤ 8 * n → take (length bytes) (unpacked (packed n bytes)) ≡ bytes
+unfolding packed
+unpacks n bytes all fits = unpacks_from n bytes all fits
+
+length_words : (n : ℕ) (bytes : List ℕ) → length (words_from n bytes) ≡ n
+length_words zero bytes = refl
+length_words (suc n) bytes = ap suc (length_words n (drop 8 bytes))
+
+pub length_packed : (n : ℕ) (bytes : List ℕ) → length (packed n bytes) ≡ n
+unfolding packed
+length_packed n bytes = length_words n bytes
+
+-- a head of eight words, then 32 and then 125, put one after the other into 165
+pub assembles : (old head key small : List ℕ) → length old ≡ 165 → length head ≡ 8 → length key ≡ 32 → length small ≡ 125
+    → (w x y : List ℕ) → w ≡ head ++ drop 8 old → x ≡ take 8 w ++ key ++ drop 40 w → y ≡ take 40 x ++ small ++ drop 165 x → y ≡ head ++ key ++ small
+assembles old head key small l lh lk ls w x y ew ex ey =
+    let t8 : take 8 w ≡ head = ap (take 8) ew ∙ (ap (λ n. take n (head ++ drop 8 old)) (sym lh) ∙ take-append_seam head (drop 8 old)) in
+    let lw : length w ≡ 165 = ap length ew ∙ (length-append head (drop 8 old) ∙ omega (arith, lh, length-drop 8 old, l)) in
+    let front : x ≡ (head ++ key) ++ drop 40 w = ex ∙ ap (λ h. h ++ key ++ drop 40 w) t8 in
+    let lf : length (head ++ key) ≡ 40 = length-append head key ∙ omega (arith, lh, lk) in
+    let t40 : take 40 x ≡ head ++ key = ap (take 40) front ∙ (ap (λ n. take n ((head ++ key) ++ drop 40 w)) (sym lf) ∙ take-append_seam (head ++ key) (drop 40 w)) in
+    let lx : length x ≡ 165 = ap length front ∙ (length-append (head ++ key) (drop 40 w) ∙ omega (arith, lf, length-drop 40 w, lw)) in
+    let none : drop 165 x ≡ [] = ap (λ n. drop n x) (sym lx) ∙ drop-length x in
+    ey ∙ ((λ i. t40 i ++ small ++ none i) ∙ append-nil (head ++ key ++ small))

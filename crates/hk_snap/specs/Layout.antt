@@ -1,0 +1,91 @@
+-- The words of a snapshot. No contract of a public call rests on their layout: what is loaded is said by `last_shown`.
+use Rattle.std.specs.Prelude.{ℕ, ◌<◌, ◌≤◌, ◌^◌, List, [], ◌∷◌, ◌++◌, length, take, drop, replicate, slice_index, Option, Some, None, ◌==◌, if◌then◌else◌}
+use Rattle.hk_base.specs.Range.{IsWithin}
+use Rattle.hk_base.specs.declared.call.State.{State}
+use Rattle.hk_base.specs.declared.call.State.TheVariants.{Valid, Invalid, Write, Replay, Trans}
+use Rattle.hk_base.specs.declared.stamp.TheConstants.{MAX_VERSION}
+use Rattle.hk_snap.specs.declared.snapshot.Snapshot.{Snapshot}
+use Rattle.hk_snap.specs.declared.snapshot.Shape.{Shape}
+use Rattle.hk_snap.specs.declared.snapshot.Shape.TheVariants.{Small, Large, Missing}
+use Rattle.hk_snap.specs.Packed.{packed, unpacked, AreBytes}
+
+abbrev pub state_number : State → ℕ
+state_number Valid = 0
+state_number Invalid = 1
+state_number Write = 2
+state_number Replay = 3
+state_number Trans = 4
+
+abbrev pub state_numbered : ℕ → State
+state_numbered n = if n == 0 then Valid else if n == 1 then Invalid else if n == 2 then Write else if n == 3 then Replay else Trans
+
+-- 0 is the number of no shape: nothing was published
+abbrev pub shape_number : Shape → ℕ
+shape_number (Small content) = 1
+shape_number Large = 2
+shape_number Missing = 3
+
+abbrev pub flags_in : Shape → ℕ
+flags_in (Small content) = content.flags
+flags_in shape = 0
+
+abbrev pub data_in : Shape → List ℕ
+data_in (Small content) = content.bytes
+data_in shape = []
+
+abbrev pub shape_numbered : ℕ → ℕ → List ℕ → Shape
+shape_numbered n flags bytes = if n == 1 then Small (record { flags = flags; bytes = bytes }) else if n == 2 then Large else Missing
+
+-- the first eight words
+abbrev pub head_words : Snapshot → List ℕ
+head_words s =
+    shape_number s.shape ∷ state_number s.state ∷ s.stamp.version ∷ s.stamp.node ∷ s.ticket ∷ flags_in s.shape ∷ length s.key ∷ length (data_in s.shape) ∷ []
+
+-- the words that show a snapshot
+unfoldable pub words_of : Snapshot → List ℕ
+words_of s = head_words s ++ packed 32 s.key ++ packed 125 (data_in s.shape)
+
+-- the words of a cell in which nothing was published
+unfoldable pub no_words : List ℕ
+no_words = replicate 165 0
+
+abbrev pub words_at : Option Snapshot → List ℕ
+words_at None = no_words
+words_at (Some s) = words_of s
+
+abbrev pub key_in : List ℕ → List ℕ
+key_in words = take (slice_index words 6) (unpacked (take 32 (drop 8 words)))
+
+abbrev pub small_in : List ℕ → List ℕ
+small_in words = take (slice_index words 7) (unpacked (take 125 (drop 40 words)))
+
+abbrev pub snapshot_in : List ℕ → Snapshot
+snapshot_in words = record {
+  key = key_in words;
+  state = state_numbered (slice_index words 1);
+  stamp = record { version = slice_index words 2; node = slice_index words 3 };
+  ticket = slice_index words 4;
+  shape = shape_numbered (slice_index words 0) (slice_index words 5) (small_in words);
+}
+
+-- what words show
+unfoldable pub shown_in : List ℕ → Option Snapshot
+shown_in words = if slice_index words 0 == 0 then None else Some (snapshot_in words)
+
+-- words can show it: its parts are within the ranges of their types
+pub record IsInWords (s : Snapshot) : Type 0 where
+  pub key : length s.key ≤ 250
+  pub key_bytes : AreBytes s.key
+  pub version : IsWithin s.stamp
+  pub node : s.stamp.node < 2 ^ 16
+  pub flags : flags_in s.shape < 2 ^ 32
+  pub small : length (data_in s.shape) ≤ 1000
+  pub small_bytes : AreBytes (data_in s.shape)
+
+-- the first words are within the ranges of what they stand for
+pub record AreWords (words : List ℕ) : Type 0 where
+  pub version : slice_index words 2 ≤ MAX_VERSION
+  pub node : slice_index words 3 < 2 ^ 16
+  pub flags : slice_index words 5 < 2 ^ 32
+  pub key : slice_index words 6 ≤ 250
+  pub small : slice_index words 7 ≤ 1000

@@ -1,0 +1,32 @@
+//! What a shard shows of its keys and of its lease to readers that take no lock.
+//!
+//! A shard publishes each row that it changes, in one of 32 *cells*: a cell shows the row that was published last among its
+//! keys. Behind the cell stands the list of all that was ever published in it. No code keeps that list; contracts know it. A
+//! [`SnapReader`] has seen a beginning of each cell's list, which each load makes longer or leaves, and what it shows is the last
+//! row of what it has seen. The one [`SnapWriter`] has seen the whole, and by [`SnapWriter::meet`] a reader has too. A row's call
+//! and data above 1,000 bytes stand in the list alone, and not in the cell.
+//!
+//! A *lease cell* shows the end of the shard's lease and the clock of its node. Neither falls. [`read_local`] answers a read from
+//! the two, with one load each.
+//!
+//! The caller publishes in the order of the tickets, and in one ticket in the order of the keys. It brings together only a
+//! reader and a writer, or two readers, of the same cells.
+#![tactic(auto)]
+
+mod cell_set;
+mod ends;
+mod lease;
+mod lease_rule;
+mod lease_steps;
+mod local;
+mod pack;
+mod rule;
+mod snapshot;
+mod steps;
+mod words;
+
+pub use cell_set::{SnapReader, SnapWriter, cell_of, cells};
+pub use lease::{LeaseCell, LeaseKeeper, lease_cell};
+pub use local::{Local, read_local};
+pub use rule::Publication;
+pub use snapshot::{MAX_SMALL_LEN, Shape, Snapshot};

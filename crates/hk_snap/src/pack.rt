@@ -1,0 +1,39 @@
+//! Bytes in words, eight to a word.
+
+ghost use Rattle.std.specs.Prelude.{◌≡◌, ◌*◌, ◌≤◌, length, drop};
+ghost use Rattle.std.specs.Int.{from_le_bytes, w64};
+ghost use Rattle.hk_snap.specs.Packed.{packed, unpacked, eight};
+
+// The first eight bytes as a word, and the rest.
+fn first_word(bytes: &[u8]) -> (u64, &[u8])
+    ensures word { result.0 ≡ from_le_bytes w64 (eight bytes.now) }
+    ensures rest { result.1.now ≡ drop 8 bytes.now }
+{
+    let (front, rest) = bytes.split_at(bytes.len().min(8));
+    let mut eight = [0u8; 8];
+    eight[..front.len()].copy_from_slice(front);
+    (u64::from_le_bytes(eight), rest)
+}
+
+// Fills the words with the bytes, as far as they have room, and with zeros behind them.
+#[tactic(auto, unfolding(crate::specs::Packed::packed))]
+pub(crate) fn pack(bytes: &[u8], words: &mut [u64])
+    ensures { words.new ≡ packed (length words.old) bytes.now }
+{
+    let mut rest = bytes;
+    for k in 0..words.len() {
+        let (word, tail) = first_word(rest);
+        words[k] = word;
+        rest = tail;
+    }
+}
+
+// Fills the room with the bytes of the words.
+pub(crate) fn unpack(words: &[u64], room: &mut [u8])
+    requires { length room.old ≡ 8 * length words.now }
+    ensures { room.new ≡ unpacked words.now }
+{
+    for k in 0..words.len() {
+        room[8 * k..8 * k + 8].copy_from_slice(&words[k].to_le_bytes());
+    }
+}
