@@ -1,0 +1,5 @@
+pub mod Parcels
+pub mod Share
+pub mod Ends
+pub mod Rule
+pub mod Passes

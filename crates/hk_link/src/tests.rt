@@ -1,0 +1,189 @@
+ghost use Rattle.std.specs.Prelude.{◌<◌};
+ghost use Rattle.hk_link.specs.Ends.{IsSameLink};
+
+use super::*;
+use hk_base::{Actor, Body, Key, Letter, NodeId, Stamp};
+use std::alloc::Global;
+use std::sync::{Arc, Wait};
+use std::test::*;
+use std::thread;
+use std::thread::Threads;
+
+// A VAL to shard 3, which a test knows by its version.
+fn parcel(alloc: Global, version: u64) -> Result<Parcel, Fail>
+    requires { version < 1000 }
+{
+    let Ok(key) = Key::read(alloc, b"k") else {
+        return Err("no memory for a key".into());
+    };
+    let letter = Letter {
+        epoch: 1,
+        from: Actor::Node(NodeId(0)),
+        to: Actor::Node(NodeId(1)),
+        body: Body::Val {
+            key,
+            stamp: Stamp { version, node: 0 },
+        },
+    };
+    Ok(Parcel { shard: 3, letter })
+}
+
+// The version of a VAL, none of another letter.
+fn version(parcel: &Parcel) -> Option<u64> {
+    match &parcel.letter.body {
+        Body::Val { stamp, .. } => Some(stamp.version),
+        _ => None,
+    }
+}
+
+// The version of what is taken, if anything is.
+fn taken<R: Wait>(rt: &R, inlet: &mut Inlet) -> Option<u64>
+    ensures { IsSameLink inlet.new inlet.old }
+{
+    match inlet.take(rt) {
+        Some(parcel) => version_of(parcel),
+        None => None,
+    }
+}
+
+fn version_of(parcel: Parcel) -> Option<u64> {
+    version(&parcel)
+}
+
+// Puts a VAL of this version: the version of what comes back, if anything does.
+fn put<R: Wait>(rt: &R, outlet: &mut Outlet, parcel: Parcel) -> Option<u64>
+    ensures { IsSameLink outlet.new outlet.old }
+{
+    match outlet.put(rt, parcel) {
+        Ok(()) => None,
+        Err(Full(back)) => version_of(back),
+    }
+}
+
+#[test]
+fn a_link_of_one_place_holds_one_parcel(rt: HostRuntime) -> Result<(), Fail> {
+    let alloc = rt.alloc();
+    let Ok((mut outlet, mut inlet)) = link(alloc, 1) else {
+        return Err("no memory for a link".into());
+    };
+    assert_eq!(rt; put(&rt, &mut outlet, parcel(alloc, 1)?), None);
+    assert_eq!(rt; put(&rt, &mut outlet, parcel(alloc, 2)?), Some(2));
+    assert_eq!(rt; taken(&rt, &mut inlet), Some(1));
+    assert_eq!(rt; taken(&rt, &mut inlet), None);
+    Ok(())
+}
+
+// Puts through two outlets and takes through two inlets, which are joined again: what was taken.
+fn through_split_ends<R: Wait>(
+    rt: &R,
+    ends: (Outlet, Inlet),
+    first: Parcel,
+    second: Parcel,
+) -> Option<(Option<u64>, Option<u64>)>
+    requires { IsSameLink ends.1 ends.0 }
+{
+    let (mut outlet, mut inlet) = ends;
+    let mut other_outlet = outlet.split().ok()?;
+    let mut other_inlet = inlet.split().ok()?;
+    put(rt, &mut outlet, first);
+    put(rt, &mut other_outlet, second);
+    let one = taken(rt, &mut other_inlet);
+    outlet.join(other_outlet);
+    inlet.learn(&mut outlet);
+    inlet.join(other_inlet);
+    let two = taken(rt, &mut inlet);
+    Some((one, two))
+}
+
+// Whether there was memory for a link, which is closed at once.
+fn opens_and_closes(alloc: Global) -> bool {
+    let Ok((outlet, inlet)) = link(alloc, 2) else {
+        return false;
+    };
+    close_link(outlet, inlet);
+    true
+}
+
+#[test]
+fn a_link_may_be_closed_at_once(rt: HostRuntime) -> Result<(), Fail> {
+    assert!(rt; opens_and_closes(rt.alloc()));
+    Ok(())
+}
+
+#[test]
+fn split_ends_share_one_queue_and_are_joined_again(rt: HostRuntime) -> Result<(), Fail> {
+    let alloc = rt.alloc();
+    let first = parcel(alloc, 1)?;
+    let second = parcel(alloc, 2)?;
+    let Ok(ends) = link(alloc, 4) else {
+        return Err("no memory for a link".into());
+    };
+    assert_eq!(rt;
+        through_split_ends(&rt, ends, first, second),
+        Some((Some(1), Some(2)))
+    );
+    Ok(())
+}
+
+// The version of the next parcel. It sleeps while the link is empty.
+fn wait_for_next<R: Wait>(rt: &R, inlet: &mut Inlet, bell: &Bell) -> Option<u64> {
+    for _ in rt.forever() {
+        let heard = bell.rings();
+        match inlet.take(rt) {
+            Some(parcel) => return version_of(parcel),
+            None => bell.wait(rt, heard),
+        }
+    }
+    None
+}
+
+// Whether the versions 0 up to this one come one after the other.
+fn take_in_order<R: Wait>(rt: &R, inlet: &mut Inlet, bell: &Bell, end: u64) -> bool {
+    for expected in 0..end {
+        if wait_for_next(rt, inlet, bell) != Some(expected) {
+            return false;
+        }
+    }
+    true
+}
+
+// Puts a parcel, as often as the link is full.
+fn put_when_there_is_room<R: Wait>(rt: &R, outlet: &mut Outlet, parcel: Parcel) {
+    let mut parcel = parcel;
+    for _ in rt.forever() {
+        match outlet.put(rt, parcel) {
+            Ok(()) => return,
+            Err(Full(back)) => {
+                parcel = back;
+                thread::yield_now();
+            }
+        }
+    }
+}
+
+// Whether the versions 0 up to this one come in order through a link of four places to another thread, which sleeps while it is empty.
+fn comes_in_order<R>(rt: R, alloc: Global, end: u64) -> Result<bool, Fail>
+where
+    R: Threads + Wait + Copy + Send + Sync + 'static,
+    requires { end < 1000 }
+{
+    let Ok((outlet, mut inlet)) = link(alloc, 4) else {
+        return Err("no memory for a link".into());
+    };
+    let bell = Arc::new(alloc, Bell::new())?;
+    let mut outlet = outlet.with_bell(Arc::try_clone(&bell)?);
+    let taker = thread::spawn(&rt, move || take_in_order(&rt, &mut inlet, &bell, end))?;
+    for version in 0..end {
+        let parcel = parcel(alloc, version)?;
+        put_when_there_is_room(&rt, &mut outlet, parcel);
+    }
+    Ok(taker.join(&rt))
+}
+
+#[test]
+fn parcels_come_in_order_to_a_thread_that_sleeps_while_there_are_none(
+    rt: HostRuntime,
+) -> Result<(), Fail> {
+    assert!(rt; comes_in_order(rt, rt.alloc(), 500)?);
+    Ok(())
+}
