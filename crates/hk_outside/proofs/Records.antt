@@ -1,5 +1,5 @@
 -- What is recorded, joined.
-use Rattle.std.proofs.Common.{◌≡◌, ℕ, List, [], ◌∷◌, ◌++◌, ◌∙◌, sym, ap, subst, append-nil, append_assoc, take, Option, Some, None, Result, Ok, Err}
+use Rattle.std.proofs.Common.{◌≡◌, ℕ, List, [], ◌∷◌, ◌++◌, ◌∙◌, sym, ap, subst, append-nil, append_assoc, take, Option, Some, None, Ok, Err}
 use Rattle.std.specs.List.{concat}
 use Rattle.hk_outside.specs.Records.{RecordsRead, Gave, GaveAll}
 

@@ -1,5 +1,5 @@
 -- Bytes that are written, or read, one piece after the other.
-use Rattle.std.proofs.Common.{◌≡◌, ℕ, ◌+◌, ◌++◌, List, Option, Some, None, take, drop, sym, append_assoc}
+use Rattle.std.proofs.Common.{ℕ, ◌+◌, ◌++◌, List, Option, Some, None, take, drop, sym, append_assoc}
 use Rattle.std.proofs.Math.Seq.{take-add}
 use Rattle.std.specs.Io.KnownBytes.{Appends, Consumes}
 

@@ -1,5 +1,5 @@
 -- What a source records of its reads.
-use Rattle.std.specs.Prelude.{◌≡◌, ℕ, List, [], ◌∷◌, ◌++◌, take, Option, None, Some, Result, MatchResult, ⊤}
+use Rattle.std.specs.Prelude.{◌≡◌, ℕ, List, [], ◌∷◌, ◌++◌, take, Option, None, Some, Result, MatchResult, IfSome, ⊤}
 use Rattle.std.specs.List.{concat}
 
 -- a read adds the n bytes that it gave at `Ok(n)` as one piece, and nothing at `Err`
@@ -16,3 +16,9 @@ Gave (Some before) now bytes = (pieces : List (List ℕ)) × (now ≡ Some (befo
 abbrev pub GaveAll : Option (List (List ℕ)) → Option (List (List ℕ)) → List ℕ → Type 0
 GaveAll None now bytes = ⊤
 GaveAll (Some before) now bytes = (pieces : List (List ℕ)) × (now ≡ Some (before ++ (pieces ++ [] ∷ []))) × (concat pieces ≡ bytes)
+
+-- A source was read to its end, and these bytes came. Where it tells what is left, they are all that was left, and nothing is left now. Where it
+-- records what it gives, they are what it gave since, and then it told its end.
+pub record HasRead (left left' : Option (List ℕ)) (given given' : Option (List (List ℕ))) (input : List ℕ) : Type 0 where
+  pub told : IfSome left (λ bytes. (input ≡ bytes) × (left' ≡ Some []))
+  pub recorded : GaveAll given given' input

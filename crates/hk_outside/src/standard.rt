@@ -1,6 +1,6 @@
 //! Adapters over std's readers and writers, as standard input and standard output.
 
-ghost use Rattle.std.specs.Prelude.{None, Some};
+ghost use Rattle.std.specs.Prelude.{◌≡◌, None, Some, []};
 ghost use Rattle.std.specs.List.{concat};
 
 use crate::record::Record;
@@ -16,7 +16,12 @@ pub struct ReaderSource<R> {
 }
 
 impl<R> ReaderSource<R> {
-    pub fn new(reader: R) -> ReaderSource<R> {
+    /// A source over the reader, which has recorded nothing and never failed.
+    pub fn new(reader: R) -> ReaderSource<R>
+        ensures reader { result.reader ≡ reader }
+        ensures given { result.given.pieces ≡ [] }
+        ensures faults { result.faults ≡ 0 }
+    {
         ReaderSource {
             reader,
             faults: 0,
@@ -57,7 +62,12 @@ pub struct WriterSink<W> {
 }
 
 impl<W> WriterSink<W> {
-    pub fn new(writer: W) -> WriterSink<W> {
+    /// A sink over the writer, which has recorded nothing and never failed.
+    pub fn new(writer: W) -> WriterSink<W>
+        ensures writer { result.writer ≡ writer }
+        ensures taken { result.taken.pieces ≡ [] }
+        ensures faults { result.faults ≡ 0 }
+    {
         WriterSink {
             writer,
             faults: 0,

@@ -1,12 +1,13 @@
 //! Connections over TCP on 127.0.0.1.
 
-ghost use Rattle.std.specs.Prelude.{None, Some, refl};
+ghost use Rattle.std.specs.Prelude.{◌≡◌, None, Some, [], refl, IfOk, IfSome};
 ghost use Rattle.std.specs.List.{concat};
+ghost use Rattle.hk_outside.specs.Causes.{HasCause};
 
 use crate::doors::Doors;
 use crate::record::Record;
 use crate::stream::{Connection, Failed, Sink, Source};
-use std::io::{Read, Write};
+use std::io::{Eprint, Read, Write};
 use std::net::{Ipv4Addr, Net, OpenListener, SocketAddr, TcpListener, TcpStream};
 
 /// A connection over TCP. It records the bytes that came and those that were taken, and can't tell what is left.
@@ -77,15 +78,16 @@ impl Connection for TcpConnection {
     ghost one_record = { λ c. refl };
 }
 
-/// Doors on a port of 127.0.0.1. Before a port is open no connection comes.
+/// Doors on a port of 127.0.0.1. Before a port is open no connection comes. That it was opened is written on standard error, for
+/// the person who started the program.
 #[derive(Drop)]
-pub struct TcpDoors<R: Net<Listener = TcpListener, Stream = TcpStream> + Drop> {
+pub struct TcpDoors<R: Net<Listener = TcpListener, Stream = TcpStream> + Eprint + Drop> {
     rt: R,
     listener: Option<TcpListener>,
     faults: u64,
 }
 
-impl<R: Net<Listener = TcpListener, Stream = TcpStream> + Drop> TcpDoors<R> {
+impl<R: Net<Listener = TcpListener, Stream = TcpStream> + Eprint + Drop> TcpDoors<R> {
     pub fn new(rt: R) -> TcpDoors<R> {
         TcpDoors {
             rt,
@@ -95,7 +97,7 @@ impl<R: Net<Listener = TcpListener, Stream = TcpStream> + Drop> TcpDoors<R> {
     }
 }
 
-impl<R: Net<Listener = TcpListener, Stream = TcpStream> + Drop> Doors for TcpDoors<R> {
+impl<R: Net<Listener = TcpListener, Stream = TcpStream> + Eprint + Drop> Doors for TcpDoors<R> {
     type Conn = TcpConnection;
 
     ghost left = { λ d. None };
@@ -109,6 +111,7 @@ impl<R: Net<Listener = TcpListener, Stream = TcpStream> + Drop> Doors for TcpDoo
         ) {
             Ok(listener) => {
                 self.listener = Some(listener);
+                let _ = eprintln!(self.rt; "hermes: serves on port {port} of 127.0.0.1");
                 Ok(())
             }
             Err(_) => {
@@ -118,18 +121,28 @@ impl<R: Net<Listener = TcpListener, Stream = TcpStream> + Drop> Doors for TcpDoo
         }
     }
 
-    fn accept(&mut self) -> Result<Option<TcpConnection>, Failed> {
+    fn accept(&mut self) -> Result<Option<TcpConnection>, Failed>
+        ensures cause { HasCause self.old.faults self.new.faults result }
+
+        // A new connection has recorded nothing.
+        ensures given { IfOk result (λ come. IfSome come (λ c. c.given.pieces ≡ [])) }
+        ensures taken { IfOk result (λ come. IfSome come (λ c. c.taken.pieces ≡ [])) }
+    {
         let Some(listener) = &self.listener else {
             return Ok(None);
         };
         match listener.accept() {
-            Ok((stream, _)) => Ok(Some(TcpConnection {
-                stream,
-                read_faults: 0,
-                write_faults: 0,
-                given: Record::new(),
-                taken: Record::new(),
-            })),
+            Ok((stream, _)) => {
+                // a reply leaves at once; where that can't be had, the connection is slower
+                let _ = stream.set_nodelay(true);
+                Ok(Some(TcpConnection {
+                    stream,
+                    read_faults: 0,
+                    write_faults: 0,
+                    given: Record::new(),
+                    taken: Record::new(),
+                }))
+            }
             Err(_) => {
                 self.faults = self.faults.saturating_add(1);
                 Err(Failed)
