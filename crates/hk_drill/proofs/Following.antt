@@ -1,51 +1,47 @@
--- How following lines goes on from one line to the next.
-use Rattle.std.proofs.Common.{◌≡◌, ℕ, ◌+◌, ◌<◌, List, [], ◌∷◌, length, map, drop, get_or, Bool, true, false, Option, Some, None, Result, Ok, Err, ◌⊎◌, if◌then◌else◌, IfOk, refl, sym, ap, subst, ◌∙◌, inl, inr}
-use Rattle.std.proofs.lemmas.List.{at_drop_more}
-use Rattle.hk_outside.specs.declared.status.Status.{Status}
-use Rattle.hk_outside.specs.declared.status.Status.TheVariants.{Done, BadLine, TooLong}
+-- How a script goes on from one line to the next.
+use Rattle.std.proofs.Common.{◌≡◌, ℕ, ◌+◌, ◌<◌, ◌≤◌, List, [], ◌∷◌, ◌++◌, length, Bool, true, false, Option, Some, None, Result, Ok, Err, if◌then◌else◌, nat_lt, IfSome, IfOk, refl, sym, ap, subst, ◌∙◌, arith, append-nil, append_assoc, length-append}
+use Rattle.std.proofs.lemmas.Bool.Decides.{nat_tests}
+use Rattle.hk_world.specs.declared.event.Header.{Header}
 use Rattle.hk_script.specs.Lines.{header_of}
 use Rattle.hk_drill.specs.declared.stop.Stop.{Stop}
-use Rattle.hk_drill.specs.declared.stop.Stop.TheVariants.{Bad, Long, Lines, Letters}
-use Rattle.hk_drill.specs.Transcript.{Course, Followed, line_at, limit_at, is_skipped, stopped, follow, follow_under, script_from, status_of, written}
-use Rattle.hk_drill.specs.Taken.{IsTaken, IsFollowed, told}
-use Rattle.hk_drill.specs.declared.script.Written.{Written}
-use Rattle.hk_drill.specs.Drilled.{EndsDrill}
+use Rattle.hk_drill.specs.declared.stop.Stop.TheVariants.{Bad, Long, Lines}
+use Rattle.hk_drill.specs.declared.line.TheConstants.{MAX_LINE_LEN, MAX_LINES}
+use Rattle.hk_drill.specs.Transcript.{Course, Next, Followed, line_at, limit_at, read_at, is_skipped, behind, stopped, first_course, follow, follow_under, script_from}
+use Rattle.hk_drill.specs.Taken.{IsTaken}
+use Rattle.hk_drill.specs.Progress.{further, IsPassed, IsBegun, IsCounted, course_under, begun_by}
+use Rattle.hk_script.specs.declared.fault.LineFault.{LineFault}
+use Rattle.hk_script.specs.declared.fault.LineFault.TheVariants.{Memory, Bad as BadRead}
+use Rattle.hk_script.specs.Reading.{IsHeaderRead}
+use Rattle.hk_script.specs.Grammar.{IsHeaderLine}
+use Rattle.hk_script.proofs.Exact.{header_read}
+use Rattle.hk_drill.proofs.Reading.{header_refused}
+use Rattle.hk_drill.proofs.Courses.{count_next}
 
--- ---- one line
-abbrev pub go_on : ℕ → Course → List (List ℕ) → Result Course Stop → Followed
-go_on n c lines (Ok d) = follow (n + 1) d lines
+-- ---- what was told before
+pub behind_none : (f : Followed) → behind [] f ≡ f
+behind_none f = refl
+
+pub behind_both : (a b : List ℕ) (f : Followed) → behind a (behind b f) ≡ behind (a ++ b) f
+behind_both a b f = ap (λ (t : List ℕ). let g : Followed = record { course = f.course; text = t; stop = f.stop } in g) (sym (append_assoc a b f.text))
+
+-- ---- one line behind the header
+abbrev pub go_on : ℕ → Course → List (List ℕ) → Result Next Stop → Followed
+go_on n c lines (Ok next) = behind next.text (follow (n + 1) next.course lines)
 go_on n c lines (Err stop) = stopped (Some c) n stop
 
 pub follow-cons : (n : ℕ) (c : Course) (line : List ℕ) (lines : List (List ℕ)) → follow n c (line ∷ lines) ≡ go_on n c lines (line_at n line c)
 unfolding follow
 follow-cons n c line lines = at (line_at n line c)
   where
-    at : (r : Result Course Stop) → elim r [ Ok d ↦ follow (n + 1) d lines | Err stop ↦ stopped (Some c) n stop ] ≡ go_on n c lines r
-    at (Ok d) = refl
+    at : (r : Result Next Stop) → elim r [ Ok next ↦ behind next.text (follow (n + 1) next.course lines) | Err stop ↦ stopped (Some c) n stop ] ≡ go_on n c lines r
+    at (Ok next) = refl
     at (Err stop) = refl
 
--- a line that was taken leads to the lines behind it
-pub follow_next : (n : ℕ) (c d : Course) (line : List ℕ) (lines : List (List ℕ)) → IsTaken None c d (line_at n line c)
-    → follow n c (line ∷ lines) ≡ follow (n + 1) d lines
-follow_next n c d line lines taken = follow-cons n c line lines ∙ ap (go_on n c lines) taken
+line_at_limit : (n : ℕ) (line : List ℕ) (c : Course) (limit : Option Stop) → limit_at n line ≡ limit → line_at n line c ≡ read_at c limit line
+unfolding line_at
+line_at_limit n line c limit e = ap (λ l. read_at c l line) e
 
--- line n is the one at this place
-pub follow_turn : {X : Type 0} (f : X → List ℕ) (xs : List X) (i n : ℕ) (x : X) (c d : Course) → i < length xs
-    → IsTaken None c d (line_at n (f (get_or xs i x)) c)
-    → follow n c (map f (drop i xs)) ≡ follow (n + 1) d (map f (drop (i + 1) xs))
-follow_turn f xs i n x c d within taken =
-    at_drop_more (λ ys. follow n c (map f ys)) xs i x within ∙ follow_next n c d (f (get_or xs i x)) (map f (drop (i + 1) xs)) taken
-
--- a script stops at a line that was not
-pub follow_stops : (n : ℕ) (c d : Course) (line : List ℕ) (lines : List (List ℕ)) (stop : Stop) → IsTaken (Some stop) c d (line_at n line c)
-    → IsFollowed (Some (n, stop)) d (follow n c (line ∷ lines))
-follow_stops n c d line lines stop taken = rw (follow-cons n c line lines, taken.0) (refl, sym taken.1)
-
-pub follow_ends : (n : ℕ) (c : Course) → IsFollowed None c (follow n c [])
-unfolding follow
-follow_ends n c = refl
-
--- ---- the lines before the header
+-- ---- a line before the header
 abbrev pub begin_at : ℕ → List ℕ → List (List ℕ) → Option Stop → Followed
 begin_at n line lines None = if is_skipped line then script_from (n + 1) lines else follow_under n (header_of line) lines
 begin_at n line lines (Some stop) = stopped None n stop
@@ -58,47 +54,145 @@ script_from-cons n line lines = at (limit_at n line)
     at None = refl
     at (Some stop) = refl
 
-pub script_stops : (n : ℕ) (line : List ℕ) (lines : List (List ℕ)) (stop : Stop) → limit_at n line ≡ Some stop
-    → script_from n (line ∷ lines) ≡ stopped None n stop
-script_stops n line lines stop e = script_from-cons n line lines ∙ ap (begin_at n line lines) e
-
-abbrev begin_unless : ℕ → List ℕ → List (List ℕ) → Bool → Followed
-begin_unless n line lines skipped = if skipped then script_from (n + 1) lines else follow_under n (header_of line) lines
-
-pub script_skips : (n : ℕ) (line : List ℕ) (lines : List (List ℕ)) → limit_at n line ≡ None → is_skipped line ≡ true
-    → script_from n (line ∷ lines) ≡ script_from (n + 1) lines
-script_skips n line lines e skipped = script_from-cons n line lines ∙ ap (begin_at n line lines) e ∙ ap (begin_unless n line lines) skipped
-
-pub script_begins : (n : ℕ) (line : List ℕ) (lines : List (List ℕ)) → limit_at n line ≡ None → is_skipped line ≡ false
-    → script_from n (line ∷ lines) ≡ follow_under n (header_of line) lines
-script_begins n line lines e skipped = script_from-cons n line lines ∙ ap (begin_at n line lines) e ∙ ap (begin_unless n line lines) skipped
-
 pub script_ends : (n : ℕ) → script_from n [] ≡ stopped None n Bad
 unfolding script_from
 script_ends n = refl
 
--- ---- what is written
-abbrev pub IsEnd : Status → Type 0
-IsEnd status = (status ≡ Done) ⊎ (status ≡ BadLine) ⊎ (status ≡ TooLong)
+pub follow_ends : (n : ℕ) (c : Course) → follow n c [] ≡ record { course = Some c; text = []; stop = None }
+unfolding follow
+follow_ends n c = refl
 
-stop_ends : (stop : Stop) → IsEnd (status_of stop)
-stop_ends Bad = inr (inl refl)
-stop_ends Long = inr (inr refl)
-stop_ends Lines = inr (inr refl)
-stop_ends Letters = inr (inr refl)
+-- ---- limits
+pub within_line : (n : ℕ) (line : List ℕ) → limit_at n line ≡ None → (n ≤ MAX_LINES) × (length line ≤ MAX_LINE_LEN)
+unfolding limit_at
+within_line n line e = at (nat_lt MAX_LINES n) (nat_lt MAX_LINE_LEN (length line)) refl refl e
+  where
+    at : (a b : Bool) → nat_lt MAX_LINES n ≡ a → nat_lt MAX_LINE_LEN (length line) ≡ b → ◌≡◌ {A = Option Stop} (if a then Some Lines else (if b then Some Long else None)) None
+        → (n ≤ MAX_LINES) × (length line ≤ MAX_LINE_LEN)
+    at true b p q e = cc
+    at false true p q e = cc
+    at false false p q e = (grind (arith, nat_tests), grind (arith, nat_tests))
 
-written_ends : (stop : Option (ℕ × Stop)) (course : Option Course) → IsEnd (written stop course).status
-written_ends None course = inl refl
-written_ends (Some stop) course = stop_ends stop.1
+-- a limit that a part of a line passes, the line passes
+pub limit_more : (n : ℕ) (part end : List ℕ) (stop : Stop) → limit_at n part ≡ Some stop → limit_at n (part ++ end) ≡ Some stop
+unfolding limit_at
+limit_more n part end stop e = at (nat_lt MAX_LINES n) (nat_lt MAX_LINE_LEN (length part)) refl e
+  where
+    at : (a b : Bool) → nat_lt MAX_LINE_LEN (length part) ≡ b → ◌≡◌ {A = Option Stop} (if a then Some Lines else (if b then Some Long else None)) (Some stop)
+        → ◌≡◌ {A = Option Stop} (if a then Some Lines else (if nat_lt MAX_LINE_LEN (length (part ++ end)) then Some Long else None)) (Some stop)
+    at true b p e = e
+    at false false p e = cc
+    at false true p e = let longer : nat_lt MAX_LINE_LEN (length (part ++ end)) ≡ true = grind (arith, nat_tests, length-append) in rw longer e
 
-pub told_ends : (f : Followed) → IsEnd (told f).status
-told_ends f = written_ends f.stop f.course
+-- ---- a line is passed
+stops_is : (n : ℕ) (stop : Stop) (course : Option Course) (f : Followed) → f ≡ stopped course n stop → (f.text ≡ []) × (f.stop ≡ Some (n, stop))
+stops_is n stop course f e = (ap (λ g. g.text) e, ap (λ g. g.stop) e)
 
-ends_drill : (status : Status) → IsEnd status → EndsDrill status
-ends_drill status (inl e) = subst EndsDrill (sym e) tt
-ends_drill status (inr (inl e)) = subst EndsDrill (sym e) tt
-ends_drill status (inr (inr e)) = subst EndsDrill (sym e) tt
+pub passes_limit : (n : ℕ) (line : List ℕ) (course : Option Course) (stop : Stop) (later : List (List ℕ)) → limit_at n line ≡ Some stop
+    → ((further n course (line ∷ later)).text ≡ []) × ((further n course (line ∷ later)).stop ≡ Some (n, stop))
+passes_limit n line None stop later e = stops_is n stop None (script_from n (line ∷ later)) (script_from-cons n line later ∙ ap (begin_at n line later) e)
+passes_limit n line (Some c) stop later e = stops_is n stop (Some c) (follow n c (line ∷ later)) (follow-cons n c line later ∙ ap (go_on n c later) (line_at_limit n line c (Some stop) e))
 
-pub all_end : {E : Type 0} (r : Result Written E) → IfOk r (λ w. IsEnd w.status) → IfOk r (λ w. EndsDrill w.status)
-all_end (Ok w) is = ends_drill w.status is
-all_end (Err e) is = tt
+pub limit_passed : (n : ℕ) (line : List ℕ) (course next : Option Course) (stop : Stop) (text : List ℕ) → Some stop ≡ limit_at n line → IsPassed (Some stop) n line course next text text
+limit_passed n line course next stop text e = (refl, λ later. passes_limit n line course stop later (sym e))
+
+passes_read : (n : ℕ) (line : List ℕ) (c d : Course) (before after : List ℕ) (made : Result Next Stop) → limit_at n line ≡ None → line_at n line c ≡ made
+    → (stop : Option Stop) → IsTaken stop d before after made → IsPassed stop n line (Some c) (Some d) before after
+passes_read n line c d before after (Ok next) e is None taken =
+    let same : (later : List (List ℕ)) → go_on n c later (Ok next) ≡ behind next.text (follow (n + 1) d later) = λ later. ap (λ (x : Course). behind next.text (follow (n + 1) x later)) taken.0 in
+    ((within_line n line e).1, (next.text, taken.1, λ later. follow-cons n c line later ∙ ap (go_on n c later) is ∙ same later))
+passes_read n line c d before after (Err stop) e is None taken = absurd taken
+passes_read n line c d before after made e is (Some stop) taken =
+    (taken.1, λ later. stops_is n stop (Some c) (follow n c (line ∷ later)) (follow-cons n c line later ∙ ap (go_on n c later) (is ∙ taken.0)))
+
+pub course_passed : (stop : Option Stop) (n : ℕ) (line : List ℕ) (c d : Course) (before after : List ℕ) → limit_at n line ≡ None → IsTaken stop d before after (read_at c None line)
+    → IsPassed stop n line (Some c) (Some d) before after
+course_passed stop n line c d before after e taken = passes_read n line c d before after (read_at c None line) e (line_at_limit n line c None e) stop taken
+
+-- what a line before the header makes
+abbrev begins_with : ℕ → Option Header → List (List ℕ) → Result (Option Course) Stop → Followed
+begins_with n header lines (Ok course) = further (n + 1) course lines
+begins_with n header lines (Err stop) = stopped None n stop
+
+begun_is : (n : ℕ) (line : List ℕ) (later : List (List ℕ)) → limit_at n line ≡ None → script_from n (line ∷ later) ≡ begins_with n (header_of line) later (begun_by line)
+begun_is n line later e = script_from-cons n line later ∙ ap (begin_at n line later) e ∙ at (is_skipped line) (header_of line)
+  where
+    under : (header : Option Header) → follow_under n header later ≡ begins_with n header later (course_under header)
+    under None = refl
+    under (Some h) = refl
+
+    at : (skipped : Bool) (header : Option Header) → (if skipped then script_from (n + 1) later else follow_under n header later) ≡ begins_with n header later (if skipped then Ok None else course_under header)
+    at true header = refl
+    at false header = under header
+
+pub begun_passed : (stop : Option Stop) (n : ℕ) (line : List ℕ) (next : Option Course) (text : List ℕ) → limit_at n line ≡ None → IsBegun stop next (begun_by line)
+    → IsPassed stop n line None next text text
+begun_passed None n line next text e begun =
+    ((within_line n line e).1, ([], sym (append-nil text), λ later. begun_is n line later e ∙ ap (begins_with n (header_of line) later) begun))
+begun_passed (Some stop) n line next text e begun =
+    (refl, λ later. stops_is n stop None (script_from n (line ∷ later)) (begun_is n line later e ∙ ap (begins_with n (header_of line) later) begun))
+
+-- ---- counts
+counted_more : (n : ℕ) (line : List ℕ) (c d : Course) (before after : List ℕ) → limit_at n line ≡ None → c.count < n → IsTaken None d before after (read_at c None line)
+    → IsCounted (n + 1) (Some d)
+counted_more n line c d before after e few taken =
+    let next : d.count ≤ c.count + 1 = count_next line c d before after taken in
+    record { within = (let w : n ≤ MAX_LINES = (within_line n line e).0 in omega (arith, w)); fewer = omega (arith, next, few) }
+
+pub counted_begun : (n : ℕ) (line : List ℕ) (next : Option Course) → limit_at n line ≡ None → IsBegun None next (begun_by line) → IsCounted (n + 1) next
+counted_begun n line next e begun = record { within = (let w : n ≤ MAX_LINES = (within_line n line e).0 in omega (arith, w)); fewer = at (is_skipped line) (header_of line) begun }
+  where
+    under : (header : Option Header) → course_under header ≡ Ok next → IfSome next (λ c. c.count < n + 1)
+    under None e = absurd (cc)
+    under (Some h) e = subst (λ (r : Result (Option Course) Stop). IfOk r (λ o. IfSome o (λ c. c.count < n + 1))) e (omega arith)
+
+    at : (skipped : Bool) (header : Option Header) → (if skipped then Ok None else course_under header) ≡ Ok next → IfSome next (λ c. c.count < n + 1)
+    at true header e = subst (λ (r : Result (Option Course) Stop). IfOk r (λ o. IfSome o (λ c. c.count < n + 1))) e tt
+    at false header e = under header e
+
+-- ---- what the code of one line does
+all_stop : {E : Type 0} (r : Result (Option Stop) E) (P Q : Option Stop → Type 0) → ((stop : Option Stop) → P stop → Q stop) → IfOk r P → IfOk r Q
+all_stop (Ok stop) P Q f p = f stop p
+all_stop (Err e) P Q f p = tt
+
+pub course_passes : {E : Type 0} (r : Result (Option Stop) E) (n : ℕ) (line : List ℕ) (course : Option Course) (c d : Course) (before after : List ℕ) → course ≡ Some c → limit_at n line ≡ None
+    → IfOk r (λ stop. IsTaken stop d before after (read_at c None line)) → IfOk r (λ stop. IsPassed stop n line course (Some d) before after)
+course_passes r n line course c d before after e within taken =
+    rw e (all_stop r (λ stop. IsTaken stop d before after (read_at c None line)) (λ stop. IsPassed stop n line (Some c) (Some d) before after)
+    (λ stop is. course_passed stop n line c d before after within is) taken)
+
+pub course_counts : {E : Type 0} (r : Result (Option Stop) E) (n : ℕ) (line : List ℕ) (course : Option Course) (c d : Course) (before after : List ℕ) → course ≡ Some c → limit_at n line ≡ None
+    → IsCounted n course → IfOk r (λ stop. IsTaken stop d before after (read_at c None line)) → IfOk r (λ stop. stop ≡ None → IsCounted (n + 1) (Some d))
+course_counts r n line course c d before after e within counted taken =
+    let few : c.count < n = subst (λ o. IfSome o (λ x. x.count < n)) e counted.fewer in
+    all_stop r (λ stop. IsTaken stop d before after (read_at c None line)) (λ stop. stop ≡ None → IsCounted (n + 1) (Some d))
+    (λ stop is none. counted_more n line c d before after within few (subst (λ s. IsTaken s d before after (read_at c None line)) none is)) taken
+
+pub begun_passes : {E : Type 0} (r : Result (Option Stop) E) (n : ℕ) (line : List ℕ) (course next : Option Course) (text : List ℕ) → course ≡ None → limit_at n line ≡ None
+    → IfOk r (λ stop. IsBegun stop next (begun_by line)) → IfOk r (λ stop. IsPassed stop n line course next text text)
+begun_passes r n line course next text e within begun =
+    rw e (all_stop r (λ stop. IsBegun stop next (begun_by line)) (λ stop. IsPassed stop n line None next text text) (λ stop is. begun_passed stop n line next text within is) begun)
+
+pub begun_counts : {E : Type 0} (r : Result (Option Stop) E) (n : ℕ) (line : List ℕ) (next : Option Course) → limit_at n line ≡ None
+    → IfOk r (λ stop. IsBegun stop next (begun_by line)) → IfOk r (λ stop. stop ≡ None → IsCounted (n + 1) next)
+begun_counts r n line next within begun =
+    all_stop r (λ stop. IsBegun stop next (begun_by line)) (λ stop. stop ≡ None → IsCounted (n + 1) next)
+    (λ stop is none. counted_begun n line next within (subst (λ s. IsBegun s next (begun_by line)) none is)) begun
+
+-- ---- the header
+bad_header : (line : List ℕ) (fault : LineFault) → IsHeaderRead (Err fault) line → ◌≡◌ {A = Result Header LineFault} (Err fault) (Err BadRead)
+    → header_of line ≡ None
+bad_header line Memory read e = cc
+bad_header line BadRead read e = header_refused line read
+
+begun_under : (line : List ℕ) → is_skipped line ≡ false → begun_by line ≡ course_under (header_of line)
+begun_under line e = ap (λ b. if b then Ok None else course_under (header_of line)) e
+
+pub begun_bad : (line : List ℕ) (fault : LineFault) → is_skipped line ≡ false → IsHeaderRead (Err fault) line → ◌≡◌ {A = Result Header LineFault} (Err fault) (Err BadRead)
+    → begun_by line ≡ Err Bad
+begun_bad line fault e read is = begun_under line e ∙ ap course_under (bad_header line fault read is)
+
+pub begun_header : (line : List ℕ) (header : Header) (c : Course) → is_skipped line ≡ false → IsHeaderLine line header → c ≡ first_course header
+    → begun_by line ≡ Ok (Some c)
+begun_header line header c e is same =
+    begun_under line e ∙ ap course_under (header_read line header is) ∙ ap (λ (k : Course). let r : Result (Option Course) Stop = Ok (Some k) in r) (sym same)

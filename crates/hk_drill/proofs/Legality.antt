@@ -5,19 +5,19 @@ use Rattle.hk_world.specs.Sound.{IsHeader}
 use Rattle.hk_script.specs.Lines.{header_of}
 use Rattle.hk_safety.specs.Run.{IsRun, RunsAreLegal}
 use Rattle.hk_drill.specs.declared.stop.Stop.{Stop}
-use Rattle.hk_drill.specs.Transcript.{Course, Followed, line_at, limit_at, is_skipped, first_course, follow, follow_under, script_from, lines_of, followed}
+use Rattle.hk_drill.specs.Transcript.{Course, Next, Followed, line_at, limit_at, is_skipped, first_course, follow, follow_under, script_from, lines_of, followed}
 use Rattle.hk_drill.specs.Drilled.{AllLegal}
 use Rattle.hk_drill.proofs.Reading.{read_header_ok}
-use Rattle.hk_drill.proofs.Courses.{IsNext, line_next}
+use Rattle.hk_drill.proofs.Courses.{LeadsOn, line_next}
 use Rattle.hk_drill.proofs.Following.{go_on, follow-cons, begin_at, script_from-cons}
 
 -- the run that was followed, if there is one, is a run
 abbrev HasRun : Followed → Type 0
 HasRun f = IfSome f.course (λ c. IsRun c.run)
 
-goes_on : (n : ℕ) (c : Course) (lines : List (List ℕ)) (made : Result Course Stop) → IfOk made (IsNext c) → IsRun c.run
+goes_on : (n : ℕ) (c : Course) (lines : List (List ℕ)) (made : Result Next Stop) → IfOk made (LeadsOn c) → IsRun c.run
     → ((d : Course) → IsRun d.run → HasRun (follow (n + 1) d lines)) → HasRun (go_on n c lines made)
-goes_on n c lines (Ok d) next is rest = rest d (next.run is)
+goes_on n c lines (Ok d) next is rest = rest d.course (next.run is)
 goes_on n c lines (Err stop) next is rest = is
 
 follow_runs : (lines : List (List ℕ)) (n : ℕ) (c : Course) → IsRun c.run → HasRun (follow n c lines)
@@ -47,6 +47,5 @@ course_legal : RunsAreLegal → (course : Option Course) → IfSome course (λ c
 course_legal legal None is = tt
 course_legal legal (Some c) is = legal c.run is
 
-pub told_legal : RunsAreLegal → (left : Option (List ℕ)) → IfSome left (λ input. IfSome (followed input).course (λ c. AllLegal c.run))
-told_legal legal None = tt
-told_legal legal (Some input) = course_legal legal (followed input).course (script_runs (lines_of input) 1)
+pub told_legal : RunsAreLegal → (input : List ℕ) → IfSome (followed input).course (λ c. AllLegal c.run)
+told_legal legal input = course_legal legal (followed input).course (script_runs (lines_of input) 1)

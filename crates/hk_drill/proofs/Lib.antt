@@ -1,7 +1,13 @@
 pub mod Reading
 pub mod Runs
 pub mod Courses
-pub mod Legality
+pub mod Cutting
 pub mod Following
+pub mod Progressing
 pub mod Telling
+pub mod Finishing
+pub mod Legality
+pub mod Drilling
+pub mod Turns
+pub mod Answering
 pub mod Drawings

@@ -1,76 +1,148 @@
--- What the code writes is what the definition tells.
-use Rattle.std.proofs.Common.{◌≡◌, ℕ, ◌+◌, ◌++◌, List, [], Some, None, Result, Ok, Err, IfOk, refl, sym, ap, ◌∙◌}
-use Rattle.hk_outside.specs.declared.status.Status.{Status}
-use Rattle.hk_outside.specs.declared.status.Status.TheVariants.{Done}
-use Rattle.hk_world.specs.declared.event.Header.{Header}
-use Rattle.hk_script.specs.declared.fault.LineFault.{LineFault}
-use Rattle.hk_script.specs.declared.fault.LineFault.TheVariants.{Memory, Bad as BadRead}
-use Rattle.hk_script.specs.Lines.{header_of}
-use Rattle.hk_script.specs.Reading.{IsHeaderRead}
-use Rattle.hk_script.specs.Grammar.{IsHeaderLine}
-use Rattle.hk_script.proofs.Exact.{header_read}
+-- What is written, one piece after the other, is what the definition tells.
+use Rattle.std.proofs.Common.{◌≡◌, ℕ, ◌+◌, ◌<◌, ◌≤◌, List, [], ◌++◌, length, take, drop, get_or, Option, Some, None, Result, Ok, Err, refl, sym, ap, subst, ◌∙◌, arith, append-nil, append_assoc}
+use Rattle.std.specs.Prelude.{IfErr}
+use Rattle.std.specs.Io.KnownBytes.{Appends}
+use Rattle.std.proofs.lemmas.List.{at_drop_more}
+use Rattle.hk_safety.specs.Run.{RunState, history, printed}
 use Rattle.hk_drill.specs.declared.stop.Stop.{Stop}
-use Rattle.hk_drill.specs.declared.stop.Stop.TheVariants.{Bad}
-use Rattle.hk_drill.specs.declared.script.Written.{Written}
-use Rattle.hk_drill.specs.Transcript.{Course, Followed, Transcript, stopped, first_course, follow, follow_under, status_of, stop_text, course_text, text_so_far, written}
-use Rattle.hk_drill.specs.Taken.{IsFollowed, told}
-use Rattle.hk_drill.proofs.Reading.{header_refused}
+use Rattle.hk_drill.specs.declared.fault.Fault.{Fault}
+use Rattle.hk_drill.specs.declared.fault.Fault.TheVariants.{Memory, Read, Write}
+use Rattle.hk_drill.specs.Text.{key_text}
+use Rattle.hk_drill.specs.Transcript.{Course, Followed, behind, lines_of, keys_text, status_of, stop_text, written, written_of}
+use Rattle.hk_drill.specs.Progress.{HasFront, IsRest, further, ending}
+use Rattle.hk_drill.specs.Drilled.{IsSinkFault}
+use Rattle.hk_drill.proofs.Cutting.{take_drop}
 
--- a script that stopped there behind this text, or one that went to its end
-abbrev pub IsStopped : List ℕ → ℕ → Stop → Written → Type 0
-IsStopped text n stop w = (w.status ≡ status_of stop) × (w.text.items ≡ text ++ stop_text n stop)
+-- ---- bytes that are written
+pub appends_none : (held : Option (List ℕ)) → Appends held held []
+appends_none None = tt
+appends_none (Some xs) = sym (append-nil xs)
 
-abbrev pub IsWhole : Course → Written → Type 0
-IsWhole c w = (w.status ≡ Done) × (w.text.items ≡ course_text c)
+pub appends_more : (old mid new : Option (List ℕ)) (a b : List ℕ) → Appends old mid a → Appends mid new b → Appends old new (a ++ b)
+appends_more None mid new a b h k = tt
+appends_more (Some xs) None new a b h k = absurd h
+appends_more (Some xs) (Some ys) None a b h k = absurd k
+appends_more (Some xs) (Some ys) (Some zs) a b h k = rw (k, h) (append_assoc xs a b)
 
-abbrev pub IsTold : Followed → Written → Type 0
-IsTold f w = told f ≡ record { status = w.status; text = w.text.items }
+pub appends_same : (old new : Option (List ℕ)) (a b : List ℕ) → a ≡ b → Appends old new a → Appends old new b
+appends_same old new a b e h = subst (Appends old new) e h
 
-transcript_is : (status : Status) (text : List ℕ) (w : Written) → w.status ≡ status → w.text.items ≡ text
-    → ◌≡◌ {A = Transcript} (record { status = status; text = text }) (record { status = w.status; text = w.text.items })
-transcript_is status text w e f = rw (e, f) refl
+-- ---- fronts
+pub front_nothing : (held : Option (List ℕ)) (text : List ℕ) → HasFront held held text
+front_nothing held text = record { front = []; rest = text; same = refl; put = appends_none held }
 
-stopped_is : (f : Followed) (text : List ℕ) (n : ℕ) (stop : Stop) (w : Written) → f.stop ≡ Some (n, stop) → text_so_far f.course ≡ text
-    → IsStopped text n stop w → IsTold f w
-stopped_is f text n stop w e same is =
-    ap (λ s. written s f.course) e ∙ ap (λ (t : List ℕ). let told : Transcript = record { status = status_of stop; text = t ++ stop_text n stop } in told) same
-    ∙ transcript_is (status_of stop) (text ++ stop_text n stop) w is.0 is.1
+pub front_taken : (old new : Option (List ℕ)) (text : List ℕ) (n : ℕ) → Appends old new (take n text) → HasFront old new text
+front_taken old new text n put = record { front = take n text; rest = drop n text; same = take_drop n text; put = put }
 
-pub stopped_told : {E : Type 0} (r : Result Written E) (f : Followed) (text : List ℕ) (n : ℕ) (stop : Stop) → f.stop ≡ Some (n, stop)
-    → text_so_far f.course ≡ text → IfOk r (IsStopped text n stop) → IfOk r (IsTold f)
-stopped_told (Ok w) f text n stop e same is = stopped_is f text n stop w e same is
-stopped_told (Err e) f text n stop is_stop same is = tt
+pub front_same : (old new : Option (List ℕ)) (a b : List ℕ) → a ≡ b → HasFront old new a → HasFront old new b
+front_same old new a b e h = subst (HasFront old new) e h
 
--- without a course nothing was told before
-pub nowhere_told : {E : Type 0} (r : Result Written E) (f : Followed) (text : List ℕ) (n : ℕ) (stop : Stop) → f ≡ stopped None n stop → text ≡ []
-    → IfOk r (IsStopped text n stop) → IfOk r (IsTold f)
-nowhere_told r f text n stop e empty is = stopped_told r f text n stop (ap (λ g. g.stop) e) (ap (λ g. text_so_far g.course) e ∙ sym empty) is
+pub front_longer : (old new : Option (List ℕ)) (a b : List ℕ) → HasFront old new a → HasFront old new (a ++ b)
+front_longer old new a b h = record { front = h.front; rest = h.rest ++ b; same = ap (λ (t : List ℕ). t ++ b) h.same ∙ append_assoc h.front h.rest b; put = h.put }
 
-whole_is : (f : Followed) (c : Course) (w : Written) → f ≡ record { course = Some c; stop = None } → IsWhole c w → IsTold f w
-whole_is f c w e is = ap told e ∙ transcript_is Done (course_text c) w is.0 is.1
+pub front_behind : (old mid new : Option (List ℕ)) (a b : List ℕ) → Appends old mid a → HasFront mid new b → HasFront old new (a ++ b)
+front_behind old mid new a b put h = record {
+  front = a ++ h.front;
+  rest = h.rest;
+  same = ap (λ (t : List ℕ). a ++ t) h.same ∙ sym (append_assoc a h.front h.rest);
+  put = appends_more old mid new a h.front put h.put;
+}
 
-pub whole_told : {E : Type 0} (r : Result Written E) (f : Followed) (c : Course) → f ≡ record { course = Some c; stop = None } → IfOk r (IsWhole c)
-    → IfOk r (IsTold f)
-whole_told (Ok w) f c e is = whole_is f c w e is
-whole_told (Err e) f c whole is = tt
+-- ---- counts of faults
+pub fault_later : (before mid now : ℕ) (fault : Fault) → before ≤ mid → IsSinkFault mid now fault → IsSinkFault before now fault
+fault_later before mid now Memory later is = tt
+fault_later before mid now Read later is = is
+fault_later before mid now Write later is = omega (arith, later, is)
 
--- the code has followed the lines behind the header
-pub followed_told : {E : Type 0} (r : Result Written E) (f g : Followed) (d : Course) (text : List ℕ) (n : ℕ) (stop : Stop) → f ≡ g
-    → IsFollowed (Some (n, stop)) d g → d.text ≡ text
-    → IfOk r (IsStopped text n stop) → IfOk r (IsTold f)
-followed_told r f g d text n stop e is same = stopped_told r f text n stop (ap (λ h. h.stop) e ∙ is.0) (ap (λ h. text_so_far h.course) e ∙ is.1 ∙ same)
+pub faults_later : {T : Type 0} (r : Result T Fault) (before mid now : ℕ) → before ≤ mid → IfErr r (IsSinkFault mid now) → IfErr r (IsSinkFault before now)
+faults_later (Ok x) before mid now later is = tt
+faults_later (Err fault) before mid now later is = fault_later before mid now fault later is
 
--- ---- the header
-bad_header : (line : List ℕ) (fault : LineFault) → IsHeaderRead (Err fault) line → ◌≡◌ {A = Result Header LineFault} (Err fault) (Err BadRead)
-    → header_of line ≡ None
-bad_header line Memory read e = cc
-bad_header line BadRead read e = header_refused line read
+-- ---- the keys of a run
+-- the keys before one were written
+pub record KeysPut (old now : Option (List ℕ)) (run : RunState) (keys left : List (List ℕ)) : Type 0 where
+  pub done : List ℕ
+  pub same : keys_text run keys ≡ done ++ keys_text run left
+  pub put : Appends old now done
 
-pub no_header : (n : ℕ) (line : List ℕ) (others : List (List ℕ)) (fault : LineFault) → IsHeaderRead (Err fault) line
-    → ◌≡◌ {A = Result Header LineFault} (Err fault) (Err BadRead)
-    → follow_under n (header_of line) others ≡ stopped None n Bad
-no_header n line others fault read e = ap (λ h. follow_under n h others) (bad_header line fault read e)
+pub keys_begin : (held : Option (List ℕ)) (run : RunState) (keys : List (List ℕ)) → KeysPut held held run keys keys
+keys_begin held run keys = record { done = []; same = refl; put = appends_none held }
 
-pub under_header : (n : ℕ) (line : List ℕ) (others : List (List ℕ)) (header : Header) (c : Course) → IsHeaderLine line header → c ≡ first_course header
-    → follow_under n (header_of line) others ≡ follow (n + 1) c others
-under_header n line others header c is same = ap (λ h. follow_under n h others) (header_read line header is) ∙ ap (λ k. follow (n + 1) k others) (sym same)
+abbrev pub told_key : RunState → List ℕ → List ℕ
+told_key run key = key_text key (history run key) (printed run key)
+
+module _ (old mid : Option (List ℕ)) (run : RunState) (keys : List (List ℕ)) (i : ℕ) (key : List ℕ) (within : i < length keys) (put : KeysPut old mid run keys (drop i keys))
+    (is_key : key ≡ get_or keys i key) where
+  key_same : keys_text run keys ≡ put.done ++ (told_key run key ++ keys_text run (drop (i + 1) keys))
+  key_same = put.same ∙ ap (λ (t : List ℕ). put.done ++ t) (at_drop_more (keys_text run) keys i key within ∙ ap (λ (k : List ℕ). told_key run k ++ keys_text run (drop (i + 1) keys)) (sym is_key))
+
+  pub key_put : (new : Option (List ℕ)) → Appends mid new (told_key run key) → KeysPut old new run keys (drop (i + 1) keys)
+  key_put new more = record {
+    done = put.done ++ told_key run key;
+    same = key_same ∙ sym (append_assoc put.done (told_key run key) (keys_text run (drop (i + 1) keys)));
+    put = appends_more old mid new put.done (told_key run key) put.put more;
+  }
+
+  pub key_front : (new : Option (List ℕ)) → HasFront mid new (told_key run key) → HasFront old new (keys_text run keys)
+  key_front new front =
+      front_same old new (put.done ++ (told_key run key ++ keys_text run (drop (i + 1) keys))) (keys_text run keys) (sym key_same)
+      (front_behind old mid new put.done (told_key run key ++ keys_text run (drop (i + 1) keys)) put.put (front_longer mid new (told_key run key) (keys_text run (drop (i + 1) keys)) front))
+
+pub keys_done : (old now : Option (List ℕ)) (run : RunState) (keys left : List (List ℕ)) → KeysPut old now run keys left → left ≡ [] → Appends old now (keys_text run keys)
+keys_done old now run keys left put e =
+    appends_same old now put.done (keys_text run keys) (sym (append-nil put.done) ∙ ap (λ (l : List (List ℕ)). put.done ++ keys_text run l) (sym e) ∙ sym put.same) put.put
+
+-- ---- the end of a script
+written_behind : (text more : List ℕ) (stop : Option (ℕ × Stop)) (course : Option Course) → (written (text ++ more) stop course).text ≡ text ++ (written more stop course).text
+written_behind text more None course = append_assoc text more _
+written_behind text more (Some stop) course = append_assoc text more _
+
+written_status : (text more : List ℕ) (stop : Option (ℕ × Stop)) (course : Option Course) → (written text stop course).status ≡ (written more stop course).status
+written_status text more None course = refl
+written_status text more (Some stop) course = refl
+
+pub behind_text : (text : List ℕ) (f : Followed) → (written_of (behind text f)).text ≡ text ++ (written_of f).text
+behind_text text f = written_behind text f.text f.stop f.course
+
+pub behind_status : (text : List ℕ) (f : Followed) → (written_of (behind text f)).status ≡ (written_of f).status
+behind_status text f = written_status (text ++ f.text) f.text f.stop f.course
+
+pub stopped_text : (f : Followed) (told : List ℕ) (n : ℕ) (stop : Stop) → f.text ≡ told → f.stop ≡ Some (n, stop) → (written_of f).text ≡ told ++ stop_text n stop
+stopped_text f told n stop e is = ap (λ s. (written f.text s f.course).text) is ∙ ap (λ (t : List ℕ). t ++ stop_text n stop) e
+
+pub stopped_status : (f : Followed) (n : ℕ) (stop : Stop) → f.stop ≡ Some (n, stop) → (written_of f).status ≡ status_of stop
+stopped_status f n stop is = ap (λ s. (written f.text s f.course).status) is
+
+-- ---- what a script tells behind which no line comes
+pub rest_text : (stop : Option Stop) (n m : ℕ) (part : List ℕ) (course next : Option Course) (before after : List ℕ) → stop ≡ None → before ≡ [] → IsRest stop n part course m next before after
+    → (ending n part course).text ≡ after ++ (written_of (further m next [])).text
+rest_text None n m part course next before after e empty rest =
+    ap (λ f. (written_of f).text) rest.2 ∙ behind_text rest.0 (further m next [])
+    ∙ ap (λ (t : List ℕ). t ++ (written_of (further m next [])).text) (sym (rest.1 ∙ ap (λ (t : List ℕ). t ++ rest.0) empty))
+rest_text (Some stop) n m part course next before after e empty rest = absurd (cc)
+
+pub rest_status : (stop : Option Stop) (n m : ℕ) (part : List ℕ) (course next : Option Course) (before after : List ℕ) → stop ≡ None → IsRest stop n part course m next before after
+    → (ending n part course).status ≡ (written_of (further m next [])).status
+rest_status None n m part course next before after e rest = ap (λ f. (written_of f).status) rest.2 ∙ behind_status rest.0 (further m next [])
+rest_status (Some stop) n m part course next before after e rest = absurd (cc)
+
+pub rest_stop_text : (stop : Option Stop) (s : Stop) (n m : ℕ) (part : List ℕ) (course next : Option Course) (before after : List ℕ) → stop ≡ Some s → before ≡ [] → IsRest stop n part course m next before after
+    → (ending n part course).text ≡ after ++ stop_text m s
+rest_stop_text None s n m part course next before after e empty rest = absurd (cc)
+rest_stop_text (Some t) s n m part course next before after e empty rest =
+    let same : t ≡ s = some_same t s e in
+    stopped_text (further n course (lines_of part)) [] n t rest.2 rest.3
+    ∙ ap (λ k. stop_text k t) (sym rest.1) ∙ ap (stop_text m) same ∙ ap (λ (x : List ℕ). x ++ stop_text m s) (sym (rest.0 ∙ empty))
+  where
+    some_same : (a b : Stop) → ◌≡◌ {A = Option Stop} (Some a) (Some b) → a ≡ b
+    some_same a b p = cc
+
+pub rest_stop_status : (stop : Option Stop) (s : Stop) (n m : ℕ) (part : List ℕ) (course next : Option Course) (before after : List ℕ) → stop ≡ Some s → IsRest stop n part course m next before after
+    → (ending n part course).status ≡ status_of s
+rest_stop_status None s n m part course next before after e rest = absurd (cc)
+rest_stop_status (Some t) s n m part course next before after e rest =
+    let same : t ≡ s = some_same t s e in
+    stopped_status (further n course (lines_of part)) n t rest.3 ∙ ap status_of same
+  where
+    some_same : (a b : Stop) → ◌≡◌ {A = Option Stop} (Some a) (Some b) → a ≡ b
+    some_same a b p = cc

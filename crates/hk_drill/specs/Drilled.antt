@@ -1,15 +1,22 @@
--- What a drill leaves, by the bytes that were left before it and those that were held.
-use Rattle.std.specs.Prelude.{◌≡◌, ℕ, List, [], ◌++◌, Option, Some, take, IfSome, ⊤}
+-- What a drill leaves, by the bytes that it read and those that its sink held before it.
+use Rattle.std.specs.Prelude.{◌≡◌, ℕ, List, [], ◌++◌, ◌⊎◌, Option, None, IfSome, ⊤}
+use Rattle.std.specs.Io.KnownBytes.{Appends}
+use Rattle.hk_outside.specs.Causes.{Rose}
+use Rattle.hk_outside.specs.Records.{HasRead}
 use Rattle.hk_outside.specs.declared.status.Status.{Status}
-use Rattle.hk_outside.specs.declared.status.Status.TheVariants.{Done, Memory, Usage, ReadFault, WriteFault, BadLine, TooLong, Gap, DoorFault, SpawnFault}
+use Rattle.hk_outside.specs.declared.status.Status.TheVariants.{Done, Memory as Wanting, Usage, ReadFault, WriteFault, BadLine, TooLong, Gap, DoorFault, SpawnFault}
 use Rattle.hk_history.specs.Legal.{Legal}
 use Rattle.hk_safety.specs.Run.{RunState, history, printed}
-use Rattle.hk_drill.specs.Transcript.{transcript, followed}
+use Rattle.hk_drill.specs.declared.fault.Fault.{Fault}
+use Rattle.hk_drill.specs.declared.fault.Fault.TheVariants.{Memory, Read, Write}
+use Rattle.hk_drill.specs.declared.stop.Stop.{Stop}
+use Rattle.hk_drill.specs.Transcript.{Course, transcript, followed, events_text}
+use Rattle.hk_drill.specs.Progress.{AreLines, Came, HasCome}
 
 -- the statuses with which a drill may end
 abbrev pub EndsDrill : Status → Type 0
 EndsDrill Done = ⊤
-EndsDrill Memory = ⊤
+EndsDrill Wanting = ⊤
 EndsDrill Usage = ⊥
 EndsDrill ReadFault = ⊤
 EndsDrill WriteFault = ⊤
@@ -19,23 +26,78 @@ EndsDrill Gap = ⊥
 EndsDrill DoorFault = ⊥
 EndsDrill SpawnFault = ⊥
 
--- all that was left, where it is told, has been read, and nothing is left
-pub record HasRead (before now : Option (List ℕ)) (all : List ℕ) : Type 0 where
-  pub same : IfSome before (λ input. all ≡ input)
-  pub ended : IfSome before (λ input. now ≡ Some [])
-
 -- the order that is printed for a key is legal for the history that is printed for it
 abbrev pub AllLegal : RunState → Type 0
 AllLegal run = (key : List ℕ) → Legal (history run key) (printed run key)
 
--- Where the bytes are told, the source was read to its end, this is the transcript's status, and its text was
--- written, whole; and what the text says of each key is legal.
-pub record IsDone (told : Status) (left left' held held' : Option (List ℕ)) : Type 0 where
-  pub ended : IfSome left (λ input. left' ≡ Some [])
-  pub status : IfSome left (λ input. (transcript input).status ≡ told)
-  pub legal : IfSome left (λ input. IfSome (followed input).course (λ course. AllLegal course.run))
-  pub text : IfSome left (λ input. IfSome held (λ before. held' ≡ Some (before ++ (transcript input).text)))
+-- In what follows `left` and `given` are what the source tells that it has left and what it records that it gave, and `held` is what the sink
+-- tells that it holds; each before the drill, and with a mark behind it.
 
--- a front of the transcript's text was written
-abbrev pub IsFront : Option (List ℕ) → Option (List ℕ) → Option (List ℕ) → Type 0
-IsFront left held held' = IfSome left (λ input. IfSome held (λ before. (n : ℕ) × (held' ≡ Some (before ++ take n (transcript input).text))))
+-- The source was read to its end, this is the status of the transcript of what was read, and its text was written, whole; and what the text
+-- says of each key is legal.
+pub record IsDone (told : Status) (left left' : Option (List ℕ)) (given given' : Option (List (List ℕ))) (held held' : Option (List ℕ)) : Type 0 where
+  pub input : List ℕ
+  pub read : HasRead left left' given given' input
+  pub status : (transcript input).status ≡ told
+  pub legal : IfSome (followed input).course (λ course. AllLegal course.run)
+  pub text : Appends held held' (transcript input).text
+
+-- what may still come behind bytes that were read: nothing, where they are all
+abbrev pub MayFollow : Option (List ℕ) → Option (List ℕ) → Option (List (List ℕ)) → Option (List (List ℕ)) → List ℕ → List ℕ → Type 0
+MayFollow left left' given given' read more = HasRead left left' given given' read → more ≡ []
+
+-- The bytes that were read decide the transcript, whatever may still come: this is its status, and its text was written, whole; and what the
+-- text says of each key is legal.
+pub record IsStopped (told : Status) (left left' : Option (List ℕ)) (given given' : Option (List (List ℕ))) (held held' : Option (List ℕ)) : Type 0 where
+  pub read : List ℕ
+  pub came : Came left left' given given' read
+  pub decided : (more : List ℕ) → MayFollow left left' given given' read more → transcript (read ++ more) ≡ transcript read
+  pub status : (transcript read).status ≡ told
+  pub legal : IfSome (followed read).course (λ course. AllLegal course.run)
+  pub text : Appends held held' (transcript read).text
+
+-- what was written is a front of the text of the transcript, whatever may still come behind what was read
+pub record IsFront (left left' : Option (List ℕ)) (given given' : Option (List (List ℕ))) (held held' : Option (List ℕ)) : Type 0 where
+  pub read : List ℕ
+  pub front : List ℕ
+  pub came : Came left left' given given' read
+  pub begins : (more : List ℕ) → MayFollow left left' given given' read more → (rest : List ℕ) × ((transcript (read ++ more)).text ≡ front ++ rest)
+  pub put : Appends held held' front
+
+-- memory ran out; or the status is that of the transcript, whatever may still come behind what was read
+abbrev pub IsExact : Status → Option (List ℕ) → Option (List ℕ) → Option (List (List ℕ)) → Option (List (List ℕ)) → Type 0
+IsExact told left left' given given' = (told ≡ Wanting) ⊎
+    ((read : List ℕ) × Came left left' given given' read × ((more : List ℕ) → MayFollow left left' given given' read more → (transcript (read ++ more)).status ≡ told))
+
+-- Some bytes were read, and what was written is what the lines tell whose feed is among them.
+pub record HasTold (left left' : Option (List ℕ)) (given given' : Option (List (List ℕ))) (held held' : Option (List ℕ)) : Type 0 where
+  pub read : List ℕ
+  pub lines : List (List ℕ)
+  pub part : List ℕ
+  pub came : Came left left' given given' read
+  pub cut : AreLines read lines part
+  pub told : Appends held held' (events_text lines)
+
+-- ---- how a drill comes to its end
+-- a script was followed to the end of its source, with nothing left to write, or to the line at which it stops
+pub record HasGone (stop : Option Stop) (left left' : Option (List ℕ)) (given given' : Option (List (List ℕ))) (held held' : Option (List ℕ)) (n : ℕ) (part : List ℕ) (course : Option Course) : Type 0 where
+  pub come : HasCome stop left left' given given' held held' n part course
+  pub ended : stop ≡ None → HasRead left left' given given' come.read
+
+-- a drill that found its transcript: it is done only where it read to the end
+pub record IsDrilled (told : Status) (left left' : Option (List ℕ)) (given given' : Option (List (List ℕ))) (held held' : Option (List ℕ)) : Type 0 where
+  pub stopped : IsStopped told left left' given given' held held'
+  pub ended : told ≡ Done → HasRead left left' given given' stopped.read
+  pub ends : EndsDrill told
+
+-- ---- faults
+abbrev pub fault_status : Fault → Status
+fault_status Memory = Wanting
+fault_status Read = ReadFault
+fault_status Write = WriteFault
+
+-- what a fault of a call that only writes has to do with the sink's count: it rose, unless memory was wanting
+abbrev pub IsSinkFault : ℕ → ℕ → Fault → Type 0
+IsSinkFault before now Memory = ⊤
+IsSinkFault before now Read = ⊥
+IsSinkFault before now Write = Rose before now

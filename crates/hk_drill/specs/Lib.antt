@@ -1,5 +1,6 @@
 pub mod Text
 pub mod Transcript
 pub mod Taken
+pub mod Progress
 pub mod Drilled
 pub mod Generated

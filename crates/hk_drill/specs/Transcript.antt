@@ -37,46 +37,56 @@ unfoldable pub limit_at : ℕ → List ℕ → Option Stop
 limit_at n line = if nat_lt MAX_LINES n then Some Lines else (if nat_lt MAX_LINE_LEN (length line) then Some Long else None)
 
 -- ---- events
--- how far a script has come: the run of the events that were accepted, how many event lines there were, and what they showed
+-- how far a script has come: the run of the events that were accepted, and how many event lines there were
 pub record Course : Type 0 where
   pub run : RunState
   pub count : ℕ
+
+-- the course behind a line, and what the line told
+pub record Next : Type 0 where
+  pub course : Course
   pub text : List ℕ
 
 -- an event that is refused counts, and is told; one that would send a letter too many is not made
-abbrev pub course_with : Course → Event → Result Accepted Refused → Result Course Stop
-course_with c event (Err refused) = Ok (record { run = c.run; count = c.count + 1; text = c.text ++ refused_text (c.count + 1) refused })
+abbrev pub course_with : Course → Event → Result Accepted Refused → Result Next Stop
+course_with c event (Err refused) = Ok (record { course = record { run = c.run; count = c.count + 1 }; text = refused_text (c.count + 1) refused })
 course_with c event (Ok a) =
     if nat_lt MAX_LETTERS (length a.world.letters) then Err Letters
-    else Ok (record { run = with_event c.run event; count = c.count + 1; text = c.text ++ shown_text (c.count + 1) a.shown })
+    else Ok (record { course = record { run = with_event c.run event; count = c.count + 1 }; text = shown_text (c.count + 1) a.shown })
 
-abbrev pub event_at : Course → Option Event → Result Course Stop
+abbrev pub event_at : Course → Option Event → Result Next Stop
 event_at c None = Err Bad
 event_at c (Some event) = course_with c event (world_step (world_of c.run) event)
 
-abbrev pub read_at : Course → Option Stop → List ℕ → Result Course Stop
+-- a line that says nothing leaves the course, and tells nothing
+abbrev pub read_at : Course → Option Stop → List ℕ → Result Next Stop
 read_at c (Some stop) line = Err stop
-read_at c None line = if is_skipped line then Ok c else event_at c (event_of line)
+read_at c None line = if is_skipped line then Ok (record { course = c; text = [] }) else event_at c (event_of line)
 
-unfoldable pub line_at : ℕ → List ℕ → Course → Result Course Stop
+unfoldable pub line_at : ℕ → List ℕ → Course → Result Next Stop
 line_at n line c = read_at c (limit_at n line) line
 
 -- ---- a whole script
--- how far a script was followed, which is nowhere without a header, and the line at which it stopped, if it did
+-- how far a script was followed, which is nowhere without a header, what its lines told, and the line at which it stopped, if it did
 pub record Followed : Type 0 where
   pub course : Option Course
+  pub text : List ℕ
   pub stop : Option (ℕ × Stop)
 
+-- what was told before stands in front
+abbrev pub behind : List ℕ → Followed → Followed
+behind text f = record { course = f.course; text = text ++ f.text; stop = f.stop }
+
 abbrev pub stopped : Option Course → ℕ → Stop → Followed
-stopped course n stop = record { course = course; stop = Some (n, stop) }
+stopped course n stop = record { course = course; text = []; stop = Some (n, stop) }
 
 -- the lines from line n on
 unfoldable pub follow : ℕ → Course → List (List ℕ) → Followed
-follow n c [] = record { course = Some c; stop = None }
-follow n c (line ∷ lines) = elim (line_at n line c) [ Ok d ↦ follow (n + 1) d lines | Err stop ↦ stopped (Some c) n stop ]
+follow n c [] = record { course = Some c; text = []; stop = None }
+follow n c (line ∷ lines) = elim (line_at n line c) [ Ok next ↦ behind next.text (follow (n + 1) next.course lines) | Err stop ↦ stopped (Some c) n stop ]
 
 abbrev pub first_course : Header → Course
-first_course header = record { run = record { header = header; events = [] }; count = 0; text = [] }
+first_course header = record { run = record { header = header; events = [] }; count = 0 }
 
 abbrev pub follow_under : ℕ → Option Header → List (List ℕ) → Followed
 follow_under n None lines = stopped None n Bad
@@ -111,26 +121,34 @@ abbrev pub keys_text : RunState → List (List ℕ) → List ℕ
 keys_text run [] = []
 keys_text run (key ∷ keys) = key_text key (history run key) (printed run key) ++ keys_text run keys
 
--- a run that went to its end: its events, each key that a call named, in the order of their bytes, and the end line
+-- the end line of a course
+unfoldable pub counts_text : Course → List ℕ
+counts_text c = end_text c.count (world_of c.run).calls (length (world_of c.run).letters)
+
+-- what a run that went to its end tells last: each key that a call named, in the order of their bytes, and the end line
 unfoldable pub course_text : Course → List ℕ
-course_text c = c.text ++ keys_text c.run (named c.run) ++ end_text c.count (world_of c.run).calls (length (world_of c.run).letters)
+course_text c = keys_text c.run (named c.run) ++ counts_text c
 
-abbrev pub text_so_far : Option Course → List ℕ
-text_so_far None = []
-text_so_far (Some c) = c.text
-
-abbrev pub whole_text : Option Course → List ℕ
-whole_text None = []
-whole_text (Some c) = course_text c
+abbrev pub last_text : Option Course → List ℕ
+last_text None = []
+last_text (Some c) = course_text c
 
 -- a status and a text
 pub record Transcript : Type 0 where
   pub status : Status
   pub text : List ℕ
 
-abbrev pub written : Option (ℕ × Stop) → Option Course → Transcript
-written None course = record { status = Done; text = whole_text course }
-written (Some stop) course = record { status = status_of stop.1; text = text_so_far course ++ stop_text stop.0 stop.1 }
+-- what the lines told, and behind it the line that tells the stop, or what the run tells last
+abbrev pub written : List ℕ → Option (ℕ × Stop) → Option Course → Transcript
+written text None course = record { status = Done; text = text ++ last_text course }
+written text (Some stop) course = record { status = status_of stop.1; text = text ++ stop_text stop.0 stop.1 }
+
+abbrev pub written_of : Followed → Transcript
+written_of f = written f.text f.stop f.course
 
 unfoldable pub transcript : List ℕ → Transcript
-transcript bytes = written (followed bytes).stop (followed bytes).course
+transcript bytes = written_of (followed bytes)
+
+-- what the lines of a script tell, its events, as far as they go
+abbrev pub events_text : List (List ℕ) → List ℕ
+events_text lines = (script_from 1 lines).text

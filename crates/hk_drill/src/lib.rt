@@ -8,6 +8,7 @@
 
 mod course;
 mod end;
+mod fault;
 mod generate;
 mod line;
 mod script;
@@ -18,6 +19,5 @@ mod top;
 pub use course::MAX_LETTERS;
 pub use generate::generate as generate_run;
 pub use line::{MAX_LINE_LEN, MAX_LINES};
-pub use script::{Written, transcribe};
 pub use stop::Stop;
 pub use top::drill;

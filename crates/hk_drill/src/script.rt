@@ -1,115 +1,157 @@
-//! A whole script.
+//! A script whose bytes come in pieces.
 
-ghost use Rattle.std.specs.Prelude.{◌≡◌, ◌⊎◌, ◌+◌, ◌++◌, ◌<◌, ◌^◌, map, length, IfOk, IfSome};
-ghost use Rattle.hk_script.specs.Lines.{header_of};
-ghost use Rattle.hk_drill.specs.Transcript.{transcript, followed, script_from, follow_under, course_text, status_of, stop_text};
-ghost use Rattle.hk_drill.specs.Taken.{told};
-ghost use Rattle.hk_drill.specs.Drilled.{AllLegal, EndsDrill};
+ghost use Rattle.std.specs.Prelude.{◌≡◌, ◌+◌, ◌++◌, ◌≤◌, [], ℕ, List, length, IfOk, Some, None};
+ghost use Rattle.hk_drill.specs.declared.line.TheConstants.{MAX_LINE_LEN};
+ghost use Rattle.hk_drill.specs.Progress.{HasNoFeed, IsAt, IsAfter, IsPassed, IsCounted, IsBegun, IsRest, begun_by, number_after, part_limit};
 
 use crate::course::Course;
-use crate::end::{put_keys, put_stop};
-use crate::line::{is_skipped, limit_at, lines};
+use crate::line::{is_skipped, limit_at};
 use crate::stop::Stop;
-use crate::text::put_end;
 use hk_base::Memory;
-use hk_outside::Status;
-use hk_safety::runs_are_legal;
 use hk_script::read_header;
+use memchr::memchr;
 use std::alloc::Global;
+use std::mem;
 
-/// A status with the text that goes before it.
+/// A script as far as its bytes have come. It holds no line but the part of the one whose feed has not come.
 #[derive(Drop)]
-pub struct Written {
-    pub status: Status,
-    pub text: Vec<u8>,
+pub(crate) struct Script {
+    /// The number of the line that is being read.
+    pub(crate) number: u64,
+    /// What of that line has come.
+    pub(crate) line: Vec<u8>,
+    /// What the lines behind the header made; None before the header.
+    pub(crate) course: Option<Course>,
+    /// What the lines told and is not written yet.
+    pub(crate) text: Vec<u8>,
 }
 
-// What is written of a script that stops at this line, behind the text of the lines before it.
-fn stopped(mut text: Vec<u8>, number: u64, stop: Stop) -> Result<Written, Memory>
-    ensures { IfOk result (λ w. (w.status ≡ status_of stop) × (w.text.items ≡ text.items ++ stop_text number stop)) }
+// Takes a line before the header: it says nothing, or it is the header.
+fn begin(alloc: Global, line: &[u8], course: &mut Option<Course>) -> Result<Option<Stop>, Memory>
+    requires { course.old ≡ None }
+    ensures { IfOk result (λ stop. IsBegun stop course.new (begun_by line.now)) }
 {
-    put_stop(&mut text, number, stop)?;
-    Ok(Written {
-        status: stop.status(),
-        text,
-    })
+    if is_skipped(line) {
+        return Ok(None);
+    }
+    let Ok(header) = read_header(line) else {
+        return Ok(Some(Stop::Bad));
+    };
+    *course = Some(Course::new(alloc, header)?);
+    Ok(None)
 }
 
-// What is written of a script that was followed to its end.
-#[tactic(auto, unfolding(crate::specs::Transcript::course_text))]
-fn whole(alloc: Global, course: Course) -> Result<Written, Memory>
-    ensures { IfOk result (λ w. (w.status ≡ Status.Done) × (w.text.items ≡ course_text course)) }
-{
-    let Course {
-        run,
-        count,
-        mut text,
-    } = course;
-    put_keys(&mut text, alloc, &run)?;
-    let world = run.world()?;
-    put_end(&mut text, count, world.calls(), world.letters())?;
-    Ok(Written {
-        status: Status::Done,
-        text,
-    })
-}
-
-// What is written of a script whose first line that is not skipped is this one.
-fn script_under(
+// Takes line `number`, and tells why the script stops there, if it does.
+fn pass_line(
     alloc: Global,
     number: u64,
     line: &[u8],
-    others: &[&[u8]],
-) -> Result<Written, Memory>
-    requires { number + 1 + length others.now < 2 ^ 64 }
-    ensures { IfOk result (λ w. told (follow_under number (header_of line.now) (map (λ l. l.now) others.now))
-        ≡ record { status = w.status; text = w.text.items }) }
+    course: &mut Option<Course>,
+    text: &mut Vec<u8>,
+) -> Result<Option<Stop>, Memory>
+    requires { IsCounted number course.old }
+    ensures passed { IfOk result (λ stop. IsPassed stop number line.now course.old course.new text.old.items text.new.items) }
+    ensures counted { IfOk result (λ stop. stop ≡ None → IsCounted (number + 1) course.new) }
 {
-    let Ok(header) = read_header(line) else {
-        return stopped(Vec::new(alloc), number, Stop::Bad);
-    };
-    let mut course = Course::new(alloc, header)?;
-    match course.follow(alloc, number + 1, others)? {
-        Some((number, stop)) => stopped(course.text, number, stop),
-        None => whole(alloc, course),
+    if let Some(stop) = limit_at(number, line) {
+        return Ok(Some(stop));
     }
+    if let Some(course) = course {
+        return course.take_line(alloc, line, text);
+    }
+    begin(alloc, line, course)
 }
 
-// What is written of a script of these lines.
-#[tactic(auto, unfolding(crate::specs::Transcript::script_from))]
-fn script(alloc: Global, lines: &[&[u8]]) -> Result<Written, Memory>
-    ensures { IfOk result (λ w. told (script_from 1 (map (λ l. l.now) lines.now)) ≡ record { status = w.status; text = w.text.items }) }
-{
-    for index in 0..lines.len() {
-        let line = lines[index];
-        let number = index as u64 + 1;
-        if let Some(stop) = limit_at(number, line) {
-            return stopped(Vec::new(alloc), number, stop);
-        }
-        if !is_skipped(line) {
-            return script_under(alloc, number, line, &lines[index + 1..]);
+impl Script {
+    /// A script of which nothing has come.
+    pub(crate) fn new(alloc: Global) -> Script
+        ensures at { IsAt [] [] result.number result.line.items result.course }
+        ensures counted { IsCounted result.number result.course }
+        ensures text { result.text.items ≡ [] }
+    {
+        Script {
+            number: 1,
+            line: Vec::new(alloc),
+            course: None,
+            text: Vec::new(alloc),
         }
     }
-    stopped(Vec::new(alloc), lines.len() as u64 + 1, Stop::Bad)
-}
 
-// The transcript of the bytes of a script.
-#[tactic(auto, unfolding(crate::specs::Transcript::transcript))]
-fn transcribed(alloc: Global, bytes: &[u8]) -> Result<Written, Memory>
-    ensures exact { IfOk result (λ w. transcript bytes.now ≡ record { status = w.status; text = w.text.items }) }
-    ensures ends { IfOk result (λ w. (w.status ≡ Status.Done) ⊎ (w.status ≡ Status.BadLine) ⊎ (w.status ≡ Status.TooLong)) }
-{
-    let lines = lines(alloc, bytes)?;
-    script(alloc, lines.as_slice())
-}
+    // Takes the line that is being read.
+    fn take_line(&mut self, alloc: Global, line: &[u8]) -> Result<Option<Stop>, Memory>
+        requires { IsCounted self.old.number self.old.course }
+        ensures passed { IfOk result (λ stop. IsPassed stop self.old.number line.now self.old.course self.new.course self.old.text.items self.new.text.items) }
+        ensures number { IfOk result (λ stop. self.new.number ≡ number_after stop self.old.number) }
+        ensures counted { IfOk result (λ stop. stop ≡ None → IsCounted self.new.number self.new.course) }
+        ensures line { self.new.line ≡ self.old.line }
+    {
+        let stop = pass_line(alloc, self.number, line, &mut self.course, &mut self.text)?;
+        if stop.is_none() {
+            self.number += 1;
+        }
+        Ok(stop)
+    }
 
-/// The transcript of the bytes of a script. The order that it has for each key is legal for the history that it has, whatever the bytes.
-pub fn transcribe(alloc: Global, bytes: &[u8]) -> Result<Written, Memory>
-    ensures exact { IfOk result (λ w. transcript bytes.now ≡ record { status = w.status; text = w.text.items }) }
-    ensures ends { IfOk result (λ w. (w.status ≡ Status.Done) ⊎ (w.status ≡ Status.BadLine) ⊎ (w.status ≡ Status.TooLong)) }
-    ensures drills { IfOk result (λ w. EndsDrill w.status) }
-    ensures legal { IfSome (followed bytes.now).course (λ course. AllLegal course.run) }
-{
-    runs_are_legal();
-    transcribed(alloc, bytes)
+    // Takes the line that is being read, whose last bytes and feed have come.
+    fn end_line(&mut self, alloc: Global, last: &[u8]) -> Result<Option<Stop>, Memory>
+        requires { IsCounted self.old.number self.old.course }
+        ensures passed { IfOk result (λ stop. IsPassed stop self.old.number (self.old.line.items ++ last.now) self.old.course self.new.course self.old.text.items self.new.text.items) }
+        ensures number { IfOk result (λ stop. self.new.number ≡ number_after stop self.old.number) }
+        ensures counted { IfOk result (λ stop. stop ≡ None → IsCounted self.new.number self.new.course) }
+        ensures line { IfOk result (λ stop. self.new.line.items ≡ []) }
+    {
+        if self.line.is_empty() {
+            return self.take_line(alloc, last);
+        }
+        let mut line = mem::replace(&mut self.line, Vec::new(alloc));
+        line.extend_from_slice(last)?;
+        self.take_line(alloc, line.as_slice())
+    }
+
+    // Keeps bytes without a feed, and tells the limit that the line passes already, if it does.
+    fn keep(&mut self, part: &[u8]) -> Result<Option<Stop>, Memory>
+        ensures line { IfOk result (λ stop. self.new.line.items ≡ self.old.line.items ++ part.now) }
+        ensures limit { IfOk result (λ stop. stop ≡ part_limit self.old.number self.new.line.items) }
+        ensures same { (self.new.number ≡ self.old.number) × (self.new.course ≡ self.old.course) × (self.new.text ≡ self.old.text) }
+    {
+        self.line.extend_from_slice(part)?;
+        if self.line.is_empty() {
+            return Ok(None);
+        }
+        Ok(limit_at(self.number, self.line.as_slice()))
+    }
+
+    /// Takes the next bytes, and tells why the script stops, if it does: at a line whose feed is among them, or at one that has begun
+    /// and passes a limit.
+    pub(crate) fn feed(&mut self, alloc: Global, piece: &[u8]) -> Result<Option<Stop>, Memory>
+        requires { IsCounted self.old.number self.old.course }
+        ensures after { IfOk result (λ stop. (read out : List ℕ) → IsAt read (out ++ self.old.text.items) self.old.number self.old.line.items self.old.course
+            → IsAfter stop (read ++ piece.now) (out ++ self.new.text.items) self.new.number self.new.line.items self.new.course) }
+        ensures counted { IfOk result (λ stop. stop ≡ None → IsCounted self.new.number self.new.course) }
+    {
+        let mut at = 0;
+        loop {
+            let (_, rest) = piece.split_at(at);
+            let Some(end) = memchr(b'\n', rest) else {
+                return self.keep(rest);
+            };
+            if let Some(stop) = self.end_line(alloc, &rest[..end])? {
+                return Ok(Some(stop));
+            }
+            at += end + 1;
+        }
+    }
+
+    /// Takes the part of a line that has come as the last line, if it has a byte.
+    pub(crate) fn take_rest(&mut self, alloc: Global) -> Result<Option<Stop>, Memory>
+        requires counted { IsCounted self.old.number self.old.course }
+        requires part { HasNoFeed self.old.line.items }
+        ensures { IfOk result (λ stop. IsRest stop self.old.number self.old.line.items self.old.course self.new.number self.new.course self.old.text.items self.new.text.items) }
+    {
+        if self.line.is_empty() {
+            return Ok(None);
+        }
+        let line = mem::replace(&mut self.line, Vec::new(alloc));
+        self.take_line(alloc, line.as_slice())
+    }
 }
