@@ -2,8 +2,7 @@
 #![tactic(auto)]
 
 use hk_cli::hermes;
-use hk_outside::{HandClock, MemoryDoors, NoSpawner, ReaderSource, TcpConnection, WriterSink};
-use std::collections::VecDeque;
+use hk_outside::{NoSpawner, ReaderSource, SteadyClock, TcpDoors, WriterSink};
 use std::process::ExitCode;
 use std::sync::Arc;
 use std::{env, io};
@@ -29,10 +28,11 @@ fn words(rt: &HostRuntime) -> io::Result<Vec<String>> {
 fn main(rt: HostRuntime) -> io::Result<ExitCode> {
     let alloc = rt.alloc();
     let words = words(&rt)?;
+    let serves = words.first().is_some_and(|word| word.as_str() == "serve");
     let mut source = ReaderSource::new(rt.reader());
     let mut sink = WriterSink::new(io::writer(&rt));
-    let clock = Arc::new(alloc, HandClock { at: 1 })?;
-    let mut doors: MemoryDoors<TcpConnection> = MemoryDoors::new(VecDeque::new(alloc), false);
+    let clock = Arc::new(alloc, SteadyClock::new(rt))?;
+    let mut doors = TcpDoors::new(rt);
     let mut spawner: NoSpawner<HostRuntime> = NoSpawner::new();
     let status = hermes(
         rt,
@@ -44,5 +44,11 @@ fn main(rt: HostRuntime) -> io::Result<ExitCode> {
         &mut doors,
         &mut spawner,
     );
+    if serves {
+        let _ = eprintln!(rt;
+            "hermes: the server has ended, with status {}",
+            status.number()
+        );
+    }
     Ok(ExitCode::from(status.number()))
 }

@@ -2,7 +2,7 @@
 use Rattle.std.proofs.Common.{◌≡◌, ℕ, List, Option, Some, None, refl, sym, ap, ◌∙◌}
 use Rattle.hk_script.proofs.Choices.{no_some}
 use Rattle.hk_cli.specs.declared.words.Command.{Command}
-use Rattle.hk_cli.specs.declared.words.Command.TheVariants.{Drill, Generate}
+use Rattle.hk_cli.specs.declared.words.Command.TheVariants.{Drill, Generate, Serve}
 use Rattle.hk_cli.specs.Words.{IsCommand, IsCommandRead}
 use Rattle.hk_cli.specs.Commands.{IsNoCommand, IsInRange}
 use Rattle.hk_cli.proofs.Exact.{commands_are_one}
@@ -23,3 +23,4 @@ pub in_range : (o : Option Command) (words : List (List ℕ)) → IsCommandRead 
 in_range None words read = tt
 in_range (Some Drill) words read = tt
 in_range (Some (Generate start count nodes)) words read = (read.2.some_nodes, read.2.few_nodes)
+in_range (Some (Serve lease skew port conns)) words read = read.2.skew_fits

@@ -2,10 +2,11 @@
 use Rattle.std.proofs.Common.{◌≡◌, ℕ, ◌<◌, ◌≤◌, ◌^◌, List, [], ◌∷◌, length, Bool, true, false, if◌then◌else◌, nat_le, Option, Some, None, codes, inl, inr, refl, sym, ap, subst, ◌∙◌, arith}
 use Rattle.std.specs.List.{AllByRecursion}
 use Rattle.std.proofs.lemmas.Bool.Decides.{nat_tests}
+use Rattle.hk_base.specs.declared.time.TheConstants.{MAX_TIME}
 use Rattle.hk_cli.specs.declared.words.Command.{Command}
-use Rattle.hk_cli.specs.declared.words.Command.TheVariants.{Drill, Generate}
-use Rattle.hk_cli.specs.Words.{Given, option, IsGenerate, IsCommand, IsCommandRead, WordsTellCommands}
-use Rattle.hk_cli.specs.Options.{option_count, option_is, value_of, ranged, generate_of, alone, command_of}
+use Rattle.hk_cli.specs.declared.words.Command.TheVariants.{Drill, Generate, Serve}
+use Rattle.hk_cli.specs.Words.{Given, option, IsGenerate, IsServe, IsCommand, IsCommandRead, WordsTellCommands}
+use Rattle.hk_cli.specs.Options.{option_count, option_is, value_of, ranged, generate_of, serve_of, alone, command_of}
 use Rattle.hk_script.specs.Parts.{is_text}
 use Rattle.hk_script.proofs.Choices.{chosen, held, bind_some, some_same, no_some, text_is}
 use Rattle.hk_cli.proofs.Orders.{AreApart, IsNamed, first_of, order_all, order_found, order_length, found_order, are_read, are_again}
@@ -99,6 +100,105 @@ generate_again s c n words is =
     let d = ap (ranged 1 16) (again.values (codes "nodes") ∙ found.1.1.0) ∙ ranged_again 1 16 n is.some_nodes is.few_nodes in
     rw three (rw (a, b, d) refl)
 
+-- ---- serve
+abbrev asked : ℕ → ℕ → ℕ → ℕ → List Given
+asked l e p c = option (codes "nodes") 1 ∷ option (codes "workers") 1 ∷ option (codes "managers") 0 ∷ option (codes "lease") l ∷ option (codes "skew") e ∷ option (codes "port") p
+    ∷ option (codes "conns") c ∷ []
+
+asked_apart : (l e p c : ℕ) → AreApart (asked l e p c)
+asked_apart l e p c = (
+  ((refl, refl), ((refl, refl), ((refl, refl), ((refl, refl), ((refl, refl), ((refl, refl), tt)))))),
+  (
+    ((refl, refl), ((refl, refl), ((refl, refl), ((refl, refl), ((refl, refl), tt))))),
+    (
+      ((refl, refl), ((refl, refl), ((refl, refl), ((refl, refl), tt)))),
+      (((refl, refl), ((refl, refl), ((refl, refl), tt))), (((refl, refl), ((refl, refl), tt)), (((refl, refl), tt), (tt, tt)))),
+    ),
+  ),
+)
+
+asked_named : (l e p c : ℕ) → l < 2 ^ 64 → e < 2 ^ 64 → p < 2 ^ 64 → c < 2 ^ 64 → AllByRecursion IsNamed (asked l e p c)
+asked_named l e p c ls es ps cs = ((refl, omega arith), ((refl, omega arith), ((refl, omega arith), ((refl, ls), ((refl, es), ((refl, ps), ((refl, cs), tt)))))))
+
+serve_takes : (words : List (List ℕ)) (command : Command) → serve_of words ≡ Some command → IsCommand command (codes "serve" ∷ words)
+unfolding serve_of
+serve_takes words command e =
+    let k = length words in
+    let seven = held (option_is 7 (option_count k words)) _ command e in
+    let n = bind_some (ranged 1 1 (value_of (codes "nodes") k words)) _ command seven.1 in
+    let w = bind_some (ranged 1 1 (value_of (codes "workers") k words)) _ command n.2 in
+    let m = bind_some (ranged 0 0 (value_of (codes "managers") k words)) _ command w.2 in
+    let l = bind_some (ranged 0 MAX_TIME (value_of (codes "lease") k words)) _ command m.2 in
+    let s = bind_some (ranged 0 MAX_TIME (value_of (codes "skew") k words)) _ command l.2 in
+    let p = bind_some (ranged 1 65535 (value_of (codes "port") k words)) _ command s.2 in
+    let c = bind_some (ranged 1 1000000 (value_of (codes "conns") k words)) _ command p.2 in
+    let is : Serve l.0 s.0 p.0 c.0 ≡ command = some_same _ command c.2 in
+    let read = are_read k words 7 (counted (option_count k words) 7 seven.0) in
+    let ns = ranged_takes 1 1 _ n.0 n.1 in
+    let ws = ranged_takes 1 1 _ w.0 w.1 in
+    let ms = ranged_takes 0 0 _ m.0 m.1 in
+    let ls = ranged_takes 0 MAX_TIME _ l.0 l.1 in
+    let ss = ranged_takes 0 MAX_TIME _ s.0 s.1 in
+    let ps = ranged_takes 1 65535 _ p.0 p.1 in
+    let cs = ranged_takes 1 1000000 _ c.0 c.1 in
+    let one : n.0 ≡ 1 = omega (arith, ns.1, ns.2) in
+    let single : w.0 ≡ 1 = omega (arith, ws.1, ws.2) in
+    let none : m.0 ≡ 0 = omega (arith, ms.2) in
+    let at : (name : List ℕ) (v : ℕ) → value_of name k words ≡ Some v → first_of name read.given ≡ Some v = λ name v h. sym (read.values name) ∙ h in
+    let order = found_order (asked l.0 s.0 p.0 c.0) read.given (asked_apart l.0 s.0 p.0 c.0) read.many (
+      at (codes "nodes") 1 (ns.0 ∙ ap (λ x. Some x) one),
+      (
+        at (codes "workers") 1 (ws.0 ∙ ap (λ x. Some x) single),
+        (
+          at (codes "managers") 0 (ms.0 ∙ ap (λ x. Some x) none),
+          (
+            at (codes "lease") l.0 ls.0,
+            (
+              at (codes "skew") s.0 ss.0,
+              (
+                at (codes "port") p.0 ps.0,
+                (at (codes "conns") c.0 cs.0, tt),
+              ),
+            ),
+          ),
+        ),
+      ),
+    ) in
+    subst (λ (o : Command). IsCommand o (codes "serve" ∷ words)) is (
+      words,
+      refl,
+      record {
+        lease_fits = ls.2;
+        skew_fits = ss.2;
+        some_port = ps.1;
+        port_fits = ps.2;
+        some_conns = cs.1;
+        few_conns = cs.2;
+        options = (read.given, order, read.are);
+      },
+    )
+
+serve_again : (l e p c : ℕ) (words : List (List ℕ)) → IsServe l e p c words → serve_of words ≡ Some (Serve l e p c)
+unfolding serve_of
+serve_again l e p c words is =
+    let order = is.options.1 in
+    let ls = is.lease_fits in
+    let es = is.skew_fits in
+    let ps = is.port_fits in
+    let cs = is.few_conns in
+    let all = order_all IsNamed (asked l e p c) is.options.0 order (asked_named l e p c (omega (arith, ls)) (omega (arith, es)) (omega (arith, ps)) (omega (arith, cs))) in
+    let again = are_again (length words) is.options.0 words (omega arith) all is.options.2 in
+    let found = order_found (asked l e p c) is.options.0 (asked_apart l e p c) order in
+    let seven : option_is 7 (option_count (length words) words) ≡ true = ap (option_is 7) (again.counted ∙ ap (λ k. Some k) (order_length (asked l e p c) is.options.0 order)) in
+    let nodes = ap (ranged 1 1) (again.values (codes "nodes") ∙ found.0) ∙ ranged_again 1 1 1 (omega arith) (omega arith) in
+    let workers = ap (ranged 1 1) (again.values (codes "workers") ∙ found.1.0) ∙ ranged_again 1 1 1 (omega arith) (omega arith) in
+    let managers = ap (ranged 0 0) (again.values (codes "managers") ∙ found.1.1.0) ∙ ranged_again 0 0 0 (omega arith) (omega arith) in
+    let lease = ap (ranged 0 MAX_TIME) (again.values (codes "lease") ∙ found.1.1.1.0) ∙ ranged_again 0 MAX_TIME l (omega arith) ls in
+    let skew = ap (ranged 0 MAX_TIME) (again.values (codes "skew") ∙ found.1.1.1.1.0) ∙ ranged_again 0 MAX_TIME e (omega arith) es in
+    let port = ap (ranged 1 65535) (again.values (codes "port") ∙ found.1.1.1.1.1.0) ∙ ranged_again 1 65535 p is.some_port ps in
+    let conns = ap (ranged 1 1000000) (again.values (codes "conns") ∙ found.1.1.1.1.1.1.0) ∙ ranged_again 1 1000000 c is.some_conns cs in
+    rw seven (rw (nodes, workers, managers, lease, skew, port, conns) refl)
+
 -- ---- all commands
 alone_takes : (words : List (List ℕ)) (command : Command) → alone words ≡ Some command → (words ≡ []) × (Drill ≡ command)
 alone_takes [] command e = (refl, some_same Drill command e)
@@ -113,14 +213,19 @@ command_takes (name ∷ words) command e = elim (chosen (is_text name (codes "dr
       let rest = alone_takes words command drill.1 in
       subst (λ (k : Command). IsCommand k (name ∷ words)) rest.1 (rw (name_is, rest.0) refl)
   | inr other ↦
-      let g = held (is_text name (codes "generate")) (generate_of words) command other.1 in
-      subst (λ (w : List ℕ). IsCommand command (w ∷ words)) (sym (text_is name (codes "generate") g.0)) (generate_takes words command g.1)
+      elim (chosen (is_text name (codes "generate")) _ _ (Some command) other.1) [
+        | inl g ↦ subst (λ (w : List ℕ). IsCommand command (w ∷ words)) (sym (text_is name (codes "generate") g.0)) (generate_takes words command g.1)
+        | inr last ↦
+            let s = held (is_text name (codes "serve")) (serve_of words) command last.1 in
+            subst (λ (w : List ℕ). IsCommand command (w ∷ words)) (sym (text_is name (codes "serve") s.0)) (serve_takes words command s.1)
+      ]
 ]
 
 pub command_again : (words : List (List ℕ)) (command : Command) → IsCommand command words → command_of words ≡ Some command
 unfolding command_of
 command_again words Drill is = rw is refl
 command_again words (Generate s c n) is = ap command_of is.1 ∙ generate_again s c n is.0 is.2
+command_again words (Serve l e p c) is = ap command_of is.1 ∙ serve_again l e p c is.0 is.2
 
 command_read_at : (o : Option Command) (words : List (List ℕ)) → command_of words ≡ o → IsCommandRead o words
 command_read_at (Some command) words e = command_takes words command e

@@ -2,9 +2,10 @@
 use Rattle.std.specs.Prelude.{ℕ, zero, suc, false, ◌+◌, ◌==◌, List, [], ◌∷◌, length, Bool, Option, None, Some, nat_eq, nat_le, if◌then◌else◌, option_and_then, codes, take, drop, position}
 use Rattle.std.specs.Option.{option_map}
 use Rattle.std.specs.Cmp.Lexicographic.{pointwise}
+use Rattle.hk_base.specs.declared.time.TheConstants.{MAX_TIME}
 use Rattle.hk_cli.specs.Words.{Given, option}
 use Rattle.hk_cli.specs.declared.words.Command.{Command}
-use Rattle.hk_cli.specs.declared.words.Command.TheVariants.{Drill, Generate}
+use Rattle.hk_cli.specs.declared.words.Command.TheVariants.{Drill, Generate, Serve}
 use Rattle.hk_script.specs.Parts.{is_text, number_64}
 
 -- a word behind its two dashes
@@ -70,8 +71,22 @@ generate_of words =
     (value_of (codes "start") (length words) words)
     else None
 
+unfoldable pub serve_of : List (List ℕ) → Option Command
+serve_of words =
+    if option_is 7 (option_count (length words) words) then
+    option_and_then (λ n. option_and_then (λ w. option_and_then (λ m. option_and_then (λ l. option_and_then (λ e. option_and_then (λ p. option_and_then (λ c. Some (Serve l e p c))
+    (ranged 1 1000000 (value_of (codes "conns") (length words) words)))
+    (ranged 1 65535 (value_of (codes "port") (length words) words)))
+    (ranged 0 MAX_TIME (value_of (codes "skew") (length words) words)))
+    (ranged 0 MAX_TIME (value_of (codes "lease") (length words) words)))
+    (ranged 0 0 (value_of (codes "managers") (length words) words)))
+    (ranged 1 1 (value_of (codes "workers") (length words) words)))
+    (ranged 1 1 (value_of (codes "nodes") (length words) words))
+    else None
+
 unfoldable pub command_of : List (List ℕ) → Option Command
 command_of [] = None
 command_of (name ∷ words) =
     if is_text name (codes "drill") then alone words
-    else (if is_text name (codes "generate") then generate_of words else None)
+    else (if is_text name (codes "generate") then generate_of words
+    else (if is_text name (codes "serve") then serve_of words else None))

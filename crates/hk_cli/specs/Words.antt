@@ -1,7 +1,8 @@
 -- The words of a command: specs that are read by a person.
 use Rattle.std.specs.Prelude.{◌≡◌, ◌⊎◌, ℕ, ◌<◌, ◌≤◌, ◌^◌, List, [], ◌∷◌, ◌++◌, Option, None, Some, codes, decimal}
+use Rattle.hk_base.specs.declared.time.TheConstants.{MAX_TIME}
 use Rattle.hk_cli.specs.declared.words.Command.{Command}
-use Rattle.hk_cli.specs.declared.words.Command.TheVariants.{Drill, Generate}
+use Rattle.hk_cli.specs.declared.words.Command.TheVariants.{Drill, Generate, Serve}
 
 -- ---- options
 -- an option and its value
@@ -42,10 +43,22 @@ pub record IsGenerate (start count nodes : ℕ) (words : List (List ℕ)) : Type
   pub few_nodes : nodes ≤ 16
   pub options : GiveEach (option (codes "start") start ∷ option (codes "count") count ∷ option (codes "nodes") nodes ∷ []) words
 
+-- one node with one worker and no managers; a lease and a skew within the limit of clocks, a port, 1 to 1,000,000 connections
+pub record IsServe (lease skew port conns : ℕ) (words : List (List ℕ)) : Type 0 where
+  pub lease_fits : lease ≤ MAX_TIME
+  pub skew_fits : skew ≤ MAX_TIME
+  pub some_port : 1 ≤ port
+  pub port_fits : port ≤ 65535
+  pub some_conns : 1 ≤ conns
+  pub few_conns : conns ≤ 1000000
+  pub options : GiveEach (option (codes "nodes") 1 ∷ option (codes "workers") 1 ∷ option (codes "managers") 0 ∷ option (codes "lease") lease
+      ∷ option (codes "skew") skew ∷ option (codes "port") port ∷ option (codes "conns") conns ∷ []) words
+
 -- the command comes first
 abbrev pub IsCommand : Command → List (List ℕ) → Type 0
 IsCommand Drill words = words ≡ codes "drill" ∷ []
 IsCommand (Generate start count nodes) words = (options : List (List ℕ)) × (words ≡ codes "generate" ∷ options) × IsGenerate start count nodes options
+IsCommand (Serve lease skew port conns) words = (options : List (List ℕ)) × (words ≡ codes "serve" ∷ options) × IsServe lease skew port conns options
 
 -- what is read: the command that the words are; none where they are no command's
 abbrev pub IsCommandRead : Option Command → List (List ℕ) → Type 0

@@ -3,17 +3,18 @@
 ghost use Rattle.std.specs.Prelude.{◌≡◌, ◌⊎◌, ℕ, ◌≤◌, take, Some, None, IfSome};
 ghost use Rattle.std.specs.Io.KnownBytes.{Appends};
 ghost use Rattle.hk_outside.specs.Causes.{Rose, Stayed};
-ghost use Rattle.hk_drill.specs.Transcript.{transcript};
-ghost use Rattle.hk_drill.specs.Drilled.{AllLegal, IsDone, IsFront};
+ghost use Rattle.hk_drill.specs.Drilled.{AllLegal, IsDone, IsExact, IsFront, IsStopped, HasTold};
 ghost use Rattle.hk_drill.specs.Generated.{generated, summary};
+ghost use Rattle.hk_serve.specs.Serving.{HasServed};
 ghost use Rattle.hk_cli.specs.declared.words.Command.{Command as CommandOf};
-ghost use Rattle.hk_cli.specs.declared.words.Command.TheVariants.{Drill, Generate};
+ghost use Rattle.hk_cli.specs.declared.words.Command.TheVariants.{Drill, Generate, Serve};
 ghost use Rattle.hk_cli.specs.Words.{IsCommand};
 ghost use Rattle.hk_cli.specs.Commands.{texts, IsNoCommand, usage_line, MayEnd, IsInRange};
 
 use crate::words::{Command, read_command};
 use hk_drill::{drill, generate_run};
 use hk_outside::{Clock, Doors, Sink, Source, Spawner, Status, write_all};
+use hk_serve::{ServeOptions, serve};
 use std::alloc::Global;
 use std::sync::{Arc, Wait};
 use std::thread::Threads;
@@ -32,29 +33,35 @@ fn tell_usage<K: Sink>(sink: &mut K) -> Status
 }
 
 // Does what a command says.
-fn perform<S: Source, K: Sink>(
+fn perform<S: Source, K: Sink, C: Clock + Send + Sync + Drop + 'static, D: Doors>(
     alloc: Global,
     command: Option<Command>,
     source: &mut S,
     sink: &mut K,
+    clock: Arc<C>,
+    doors: &mut D,
 ) -> Status
     requires { IsInRange command }
     ensures usage { result ≡ Status.Usage → (command ≡ None) × (source.new ≡ source.old) × Appends (K.held sink.old) (K.held sink.new) usage_line }
     ensures no_command { command ≡ None → ((result ≡ Status.Usage) ⊎ (result ≡ Status.WriteFault)) × (source.new ≡ source.old) × ((n : ℕ) × Appends (K.held sink.old) (K.held sink.new) (take n usage_line)) }
     ensures statuses { IfSome command (λ c. MayEnd c result) }
-    ensures done { command ≡ Some Drill → result ≡ Status.Done → IsDone Status.Done (S.left source.old) (S.left source.new) (K.held sink.old) (K.held sink.new) }
-    ensures bad_line { result ≡ Status.BadLine → IsDone Status.BadLine (S.left source.old) (S.left source.new) (K.held sink.old) (K.held sink.new) }
-    ensures too_long { result ≡ Status.TooLong → IsDone Status.TooLong (S.left source.old) (S.left source.new) (K.held sink.old) (K.held sink.new) }
-    ensures front { command ≡ Some Drill → IsFront (S.left source.old) (K.held sink.old) (K.held sink.new) }
+    ensures done { command ≡ Some Drill → result ≡ Status.Done → IsDone Status.Done (S.left source.old) (S.left source.new) (S.given source.old) (S.given source.new) (K.held sink.old) (K.held sink.new) }
+    ensures bad_line { result ≡ Status.BadLine → IsStopped Status.BadLine (S.left source.old) (S.left source.new) (S.given source.old) (S.given source.new) (K.held sink.old) (K.held sink.new) }
+    ensures too_long { result ≡ Status.TooLong → IsStopped Status.TooLong (S.left source.old) (S.left source.new) (S.given source.old) (S.given source.new) (K.held sink.old) (K.held sink.new) }
+    ensures front { command ≡ Some Drill → IsFront (S.left source.old) (S.left source.new) (S.given source.old) (S.given source.new) (K.held sink.old) (K.held sink.new) }
+    ensures cut_off { result ≡ Status.ReadFault → HasTold (S.left source.old) (S.left source.new) (S.given source.old) (S.given source.new) (K.held sink.old) (K.held sink.new) }
     ensures exact { command ≡ Some Drill → Stayed (S.faults source.old) (S.faults source.new) → Stayed (K.faults sink.old) (K.faults sink.new)
-        → IfSome (S.left source.old) (λ input. (result ≡ (transcript input).status) ⊎ (result ≡ Status.Memory)) }
+        → IsExact result (S.left source.old) (S.left source.new) (S.given source.old) (S.given source.new) }
     ensures written { (start count nodes : ℕ) → command ≡ Some (Generate start count nodes) → result ≡ Status.Done
         → Appends (K.held sink.old) (K.held sink.new) (summary start count nodes) }
     ensures legal { (start count nodes : ℕ) → command ≡ Some (Generate start count nodes) → AllLegal (generated start count nodes).run }
     ensures part { (start count nodes : ℕ) → command ≡ Some (Generate start count nodes)
         → (source.new ≡ source.old) × ((n : ℕ) × Appends (K.held sink.old) (K.held sink.new) (take n (summary start count nodes))) }
+    ensures aside { (lease skew port conns : ℕ) → command ≡ Some (Serve lease skew port conns) → (source.new ≡ source.old) × (sink.new ≡ sink.old) }
+    ensures served { (lease skew port conns : ℕ) → command ≡ Some (Serve lease skew port conns) → result ≡ Status.Done → HasServed (D.left doors.old) (D.left doors.new) conns }
     ensures read_fault { result ≡ Status.ReadFault → Rose (S.faults source.old) (S.faults source.new) }
     ensures write_fault { result ≡ Status.WriteFault → Rose (K.faults sink.old) (K.faults sink.new) }
+    ensures door_fault { result ≡ Status.DoorFault → Rose (D.faults doors.old) (D.faults doors.new) }
 {
     match command {
         Some(Command::Drill) => drill(alloc, source, sink),
@@ -65,18 +72,29 @@ fn perform<S: Source, K: Sink>(
                 nodes,
             },
         ) => generate_run(alloc, start, count, nodes, sink),
+        Some(
+            Command::Serve {
+                skew,
+                port,
+                conns,
+                ..
+            },
+        ) => serve(alloc, clock, doors, &ServeOptions { skew, port, conns }),
         None => tell_usage(sink),
     }
 }
 
 /// Does what the words of a command say, and answers the status that the process ends with.
 ///
-/// - `drill` reads a script to its end and writes its transcript. A script is the header of a group without managers, and the events of
-///   its world: calls, letters that are taken, clocks, crashes, views, leases and copies.
+/// - `drill` reads a script to its end, or to the line at which it stops, and writes its transcript as it goes. A script is the header of
+///   a group without managers, and the events of its world: calls, letters that are taken, clocks, crashes, views, leases and copies.
 /// - `generate --start S --count C --nodes N` makes a run of C events of N nodes that is drawn from the number S, and writes its summary.
 ///
-/// For all other words one line is written, which tells the commands, and the status is Usage. The clock, the doors, the spawner and the
-/// runtime value are not touched.
+/// - `serve --nodes 1 --workers 1 --managers 0 --lease L --skew E --port P --conns C` opens port P of 127.0.0.1 and serves C connections of
+///   memcached clients at one node, one after the other. It reads no source and writes to no sink.
+///
+/// For all other words one line is written, which tells the commands, and the status is Usage. The spawner and the runtime value are not
+/// touched.
 pub fn hermes<
     R: Threads + Wait + Copy + Send + Sync + 'static,
     S: Source,
@@ -90,8 +108,8 @@ pub fn hermes<
     words: &[String],
     source: &mut S,
     sink: &mut K,
-    _clock: Arc<C>,
-    _doors: &mut D,
+    clock: Arc<C>,
+    doors: &mut D,
     _spawner: &mut P,
 ) -> Status
     // Usage comes exactly where the words are no command's, unless writing the line failed; nothing is read then.
@@ -103,20 +121,24 @@ pub fn hermes<
 
     // A drill that is done has read its source to the end and written the transcript of what it read, and the order
     // that it printed for each key is legal for the history that it printed.
-    ensures done { IsCommand Drill (texts words.now) → result ≡ Status.Done → IsDone Status.Done (S.left source.old) (S.left source.new) (K.held sink.old) (K.held sink.new) }
+    ensures done { IsCommand Drill (texts words.now) → result ≡ Status.Done → IsDone Status.Done (S.left source.old) (S.left source.new) (S.given source.old) (S.given source.new) (K.held sink.old) (K.held sink.new) }
 
-    // One that met a line outside the grammar has written what the events before it showed, and the stop line that names it.
-    ensures bad_line { result ≡ Status.BadLine → IsDone Status.BadLine (S.left source.old) (S.left source.new) (K.held sink.old) (K.held sink.new) }
+    // A read that failed leaves what the lines told whose feed was read, and no more.
+    ensures cut_off { result ≡ Status.ReadFault → HasTold (S.left source.old) (S.left source.new) (S.given source.old) (S.given source.new) (K.held sink.old) (K.held sink.new) }
+
+    // What one read that met a line outside the grammar decides the transcript, whatever would follow. It has written what
+    // the events before that line showed, and the stop line that names it.
+    ensures bad_line { result ≡ Status.BadLine → IsStopped Status.BadLine (S.left source.old) (S.left source.new) (S.given source.old) (S.given source.new) (K.held sink.old) (K.held sink.new) }
 
     // So has one that met a line that passes a limit: too long, too many, or with an event that would send too many letters.
-    ensures too_long { result ≡ Status.TooLong → IsDone Status.TooLong (S.left source.old) (S.left source.new) (K.held sink.old) (K.held sink.new) }
+    ensures too_long { result ≡ Status.TooLong → IsStopped Status.TooLong (S.left source.old) (S.left source.new) (S.given source.old) (S.given source.new) (K.held sink.old) (K.held sink.new) }
 
-    // Whatever the answer, what a drill wrote is a front of the transcript.
-    ensures front { IsCommand Drill (texts words.now) → IsFront (S.left source.old) (K.held sink.old) (K.held sink.new) }
+    // Whatever the answer, what a drill wrote is a front of the transcript, whatever may still come behind what was read.
+    ensures front { IsCommand Drill (texts words.now) → IsFront (S.left source.old) (S.left source.new) (S.given source.old) (S.given source.new) (K.held sink.old) (K.held sink.new) }
 
     // Where no count of faults rose, a drill ends as the transcript says, unless memory ran out.
     ensures exact { IsCommand Drill (texts words.now) → Stayed (S.faults source.old) (S.faults source.new) → Stayed (K.faults sink.old) (K.faults sink.new)
-        → IfSome (S.left source.old) (λ input. (result ≡ (transcript input).status) ⊎ (result ≡ Status.Memory)) }
+        → IsExact result (S.left source.old) (S.left source.new) (S.given source.old) (S.given source.new) }
 
     // A run that was generated is told by its summary, and the order of each key is legal.
     ensures written { (start count nodes : ℕ) → IsCommand (Generate start count nodes) (texts words.now) → result ≡ Status.Done
@@ -127,9 +149,14 @@ pub fn hermes<
     ensures part { (start count nodes : ℕ) → IsCommand (Generate start count nodes) (texts words.now)
         → (source.new ≡ source.old) × ((n : ℕ) × Appends (K.held sink.old) (K.held sink.new) (take n (summary start count nodes))) }
 
+    // A server that is done took the stated number of connections, or all that were left. It reads and writes nothing else.
+    ensures served { (lease skew port conns : ℕ) → IsCommand (Serve lease skew port conns) (texts words.now) → result ≡ Status.Done → HasServed (D.left doors.old) (D.left doors.new) conns }
+    ensures aside { (lease skew port conns : ℕ) → IsCommand (Serve lease skew port conns) (texts words.now) → (source.new ≡ source.old) × (sink.new ≡ sink.old) }
+
     // A fault is the outside's.
     ensures read_fault { result ≡ Status.ReadFault → Rose (S.faults source.old) (S.faults source.new) }
     ensures write_fault { result ≡ Status.WriteFault → Rose (K.faults sink.old) (K.faults sink.new) }
+    ensures door_fault { result ≡ Status.DoorFault → Rose (D.faults doors.old) (D.faults doors.new) }
 {
-    perform(alloc, read_command(words), source, sink)
+    perform(alloc, read_command(words), source, sink, clock, doors)
 }

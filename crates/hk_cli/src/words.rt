@@ -2,9 +2,11 @@
 
 ghost use Rattle.std.specs.Prelude.{◌≡◌, ◌≤◌, map, length, string_bytes, IfSome};
 ghost use Rattle.hk_cli.specs.Words.{IsCommandRead};
-ghost use Rattle.hk_cli.specs.Options.{command_of, generate_of, option_is, option_count, ranged, value_of};
+ghost use Rattle.hk_cli.specs.Commands.{IsInRange};
+ghost use Rattle.hk_cli.specs.Options.{command_of, generate_of, serve_of, option_is, option_count, ranged, value_of};
 
 use crate::options::{option_count, value_of};
+use hk_base::MAX_TIME;
 
 /// What the program is to do.
 #[derive(Clone, Copy, Debug, PartialEq, Eq)]
@@ -12,10 +14,22 @@ pub enum Command {
     /// Read a script, and write its transcript.
     Drill,
     /// Make a run of so many events of so many nodes, drawn from a number, and write its summary.
-    Generate { start: u64, count: u32, nodes: u8 },
+    Generate {
+        start: u64,
+        count: u32,
+        nodes: u8,
+    },
+    /// Serve so many connections on a port, at one node whose clock differs from others by `skew` milliseconds at most. The
+    /// lease is a managers' matter, and there are none.
+    Serve {
+        lease: u64,
+        skew: u64,
+        port: u16,
+        conns: u32,
+    },
 }
 
-// Whether the words are three options, and so not more than each of them once.
+// Whether the words are so many options, and so not more than each of them once.
 fn are_options(words: &[String], count: usize) -> bool
     ensures { result ≡ option_is count (option_count (length words.now) (map (λ w. string_bytes w) words.now)) }
 {
@@ -58,6 +72,29 @@ fn read_generate(words: &[String]) -> Option<Command>
     })
 }
 
+// Serving is for one node with one worker and no managers.
+#[tactic(auto, unfolding(crate::specs::Options::serve_of))]
+fn read_serve(words: &[String]) -> Option<Command>
+    ensures { result ≡ serve_of (map (λ w. string_bytes w) words.now) }
+{
+    if !are_options(words, 7) {
+        return None;
+    }
+    let _nodes = ranged(words, b"nodes", 1, 1)?;
+    let _workers = ranged(words, b"workers", 1, 1)?;
+    let _managers = ranged(words, b"managers", 0, 0)?;
+    let lease = ranged(words, b"lease", 0, MAX_TIME)?;
+    let skew = ranged(words, b"skew", 0, MAX_TIME)?;
+    let port = ranged(words, b"port", 1, 65_535)?;
+    let conns = ranged(words, b"conns", 1, 1_000_000)?;
+    Some(Command::Serve {
+        lease,
+        skew,
+        port: port as u16,
+        conns: conns as u32,
+    })
+}
+
 #[tactic(auto, unfolding(crate::specs::Options::command_of))]
 fn read(words: &[String]) -> Option<Command>
     ensures { result ≡ command_of (map (λ w. string_bytes w) words.now) }
@@ -72,13 +109,15 @@ fn read(words: &[String]) -> Option<Command>
             }
         }
         "generate" => read_generate(words),
+        "serve" => read_serve(words),
         _ => None,
     }
 }
 
 /// The command that words are; none where they are no command's.
 pub fn read_command(words: &[String]) -> Option<Command>
-    ensures { IsCommandRead result (map (λ w. string_bytes w) words.now) }
+    ensures read { IsCommandRead result (map (λ w. string_bytes w) words.now) }
+    ensures range { IsInRange result }
 {
     read(words)
 }

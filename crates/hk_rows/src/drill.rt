@@ -267,7 +267,7 @@ const USAGE: &[u8] = b"usage: hermes drill | generate | storm | serve\n";
 
 #[test]
 fn other_words_are_answered_by_one_line(rt: HostRuntime) -> Result<(), Fail> {
-    let rows: [&[&str]; 10] = [
+    let rows: [&[&str]; 12] = [
         &[],
         &["drill", "now"],
         &["--help"],
@@ -280,6 +280,26 @@ fn other_words_are_answered_by_one_line(rt: HostRuntime) -> Result<(), Fail> {
         &["generate", "--start", "1", "--count", "5", "--nodes", "17"],
         &["generate", "--start", "1", "--start=1", "--nodes", "1"],
         &["--start", "1", "generate", "--count", "5", "--nodes", "1"],
+        &[
+            "serve",
+            "--nodes=2",
+            "--workers=1",
+            "--managers=0",
+            "--lease=1",
+            "--skew=0",
+            "--port=11211",
+            "--conns=1",
+        ],
+        &[
+            "serve",
+            "--nodes=1",
+            "--workers=1",
+            "--managers=0",
+            "--lease=1",
+            "--skew=0",
+            "--port=65536",
+            "--conns=1",
+        ],
     ];
     for words in rows {
         let outcome = call(rt, rt.alloc(), words, HEADER.to_vec(rt.alloc())?, &[], &[])?;
@@ -287,6 +307,29 @@ fn other_words_are_answered_by_one_line(rt: HostRuntime) -> Result<(), Fail> {
         assert_eq!(rt; outcome.text.as_slice(), USAGE);
         assert_eq!(rt; outcome.read, 0);
     }
+    Ok(())
+}
+
+#[test]
+fn a_server_is_done_where_no_connection_comes(rt: HostRuntime) -> Result<(), Fail> {
+    let words = [
+        "serve",
+        "--nodes",
+        "1",
+        "--workers",
+        "1",
+        "--managers",
+        "0",
+        "--conns=7",
+        "--lease=1000000000000",
+        "--skew=0",
+        "--port",
+        "11211",
+    ];
+    let outcome = call(rt, rt.alloc(), &words, HEADER.to_vec(rt.alloc())?, &[], &[])?;
+    assert_eq!(rt; outcome.status, Status::Done);
+    assert_eq!(rt; outcome.text.as_slice(), b"".as_slice());
+    assert_eq!(rt; outcome.read, 0);
     Ok(())
 }
 
@@ -331,6 +374,70 @@ fn faults_of_the_outside_are_told(rt: HostRuntime) -> Result<(), Fail> {
         )?;
         assert_eq!(rt; outcome.status, status);
         assert!(rt; outcome.text.is_empty());
+    }
+    Ok(())
+}
+
+#[test]
+fn a_read_that_fails_leaves_what_the_lines_before_it_told(rt: HostRuntime) -> Result<(), Fail> {
+    let alloc = rt.alloc();
+    // The lines behind the header and what they told; the last is not ended, or ends a piece.
+    let rows: [(&[u8], &[u8]); 3] = [
+        (b"call 0 set k 5 a\n", b"1 call 1\n1 reply 1 stored\n"),
+        (
+            b"call 0 set k 5 a\ncall 0 get k",
+            b"1 call 1\n1 reply 1 stored\n",
+        ),
+        (b"#\n\ncall 0 get k\n", b"1 call 1\n1 reply 1 missing\n"),
+    ];
+    for (lines, text) in rows {
+        let mut script = HEADER.to_vec(alloc)?;
+        script.extend_from_slice(lines)?;
+        let outcome = call(rt, alloc, &["drill"], script, &[1], &[])?;
+        assert_eq!(rt; outcome.text.as_slice(), text);
+        assert_eq!(rt; outcome.status, Status::ReadFault);
+    }
+    Ok(())
+}
+
+#[test]
+fn an_event_may_stand_in_two_pieces(rt: HostRuntime) -> Result<(), Fail> {
+    let alloc = rt.alloc();
+    // A comment of so many bytes, with its feed, moves the end of the first 4,096 bytes through the event.
+    let events: &[u8] = b"call 0 set k 5 a\ncall 0 get k\n";
+    let text: &[u8] =
+        b"1 call 1\n1 reply 1 stored\n2 call 2\n2 reply 2 found 5 131072 a\nkey k\nhistory c1 r1 c2 r2\norder 1@131072 2\nend 2 2 0\n";
+    for count in 4_025usize..4_062 {
+        let mut script = HEADER.to_vec(alloc)?;
+        let comment = vec![in alloc; b'#'; count]?;
+        script.extend_from_slice(comment.as_slice())?;
+        script.extend_from_slice(b"\n")?;
+        script.extend_from_slice(events)?;
+        let outcome = drill(rt, alloc, script.as_slice())?;
+        assert_eq!(rt; outcome.text.as_slice(), text);
+        assert_eq!(rt; outcome.status, Status::Done);
+    }
+    Ok(())
+}
+
+#[test]
+fn a_stop_reads_no_further(rt: HostRuntime) -> Result<(), Fail> {
+    let alloc = rt.alloc();
+    // A bad line; a line of which less than 4,097 bytes have come, for which more is read; and one that is too long before
+    // its feed has come. The read behind those that are needed would fail.
+    let rows: [(&[u8], usize, u64, &[u8], Status); 3] = [
+        (b"call\n", 5_000, 1, b"stop line 2 bad\n", Status::BadLine),
+        (b"\n", 5_000, 1, b"", Status::ReadFault),
+        (b"\n", 9_000, 2, b"stop line 3 long\n", Status::TooLong),
+    ];
+    for (line, count, bad_read, text, status) in rows {
+        let mut script = HEADER.to_vec(alloc)?;
+        script.extend_from_slice(line)?;
+        let rest = vec![in alloc; b'#'; count]?;
+        script.extend_from_slice(rest.as_slice())?;
+        let outcome = call(rt, alloc, &["drill"], script, &[bad_read], &[])?;
+        assert_eq!(rt; outcome.text.as_slice(), text);
+        assert_eq!(rt; outcome.status, status);
     }
     Ok(())
 }

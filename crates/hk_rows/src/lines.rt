@@ -24,6 +24,9 @@ fn a_line_past_the_limit_is_too_long_for_good(rt: HostRuntime) {
     assert!(rt; cutter.next() == Step::TooLong);
     cutter.feed(b"\r\n").expect(&rt, "memory");
     assert!(rt; cutter.next() == Step::TooLong);
+    cutter.expect_block(2);
+    cutter.feed(b"ab\r\n").expect(&rt, "memory");
+    assert!(rt; cutter.next() == Step::TooLong);
 }
 
 #[test]

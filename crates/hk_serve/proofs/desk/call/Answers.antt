@@ -1,0 +1,12 @@
+use Rattle.std.proofs.Common.{◌+◌}
+use Rattle.hk_serve.proofs.Lone.{one_reply, told_shared}
+use Rattle.hk_serve.proofs.desk.call.Goals as goal
+
+pub answer_of-requires : goal.answer_of-requires
+answer_of-requires c = one_reply c.args.node.now c.requires.lone (record { 0 = c.args.calls + 1 }) c.in_ok-share.field-0 c.in_ok-share-2.field-0 c.in_ok-out.out.replies c.in_ok-out.ensures.out.replies
+
+pub returns-clause-told : goal.returns-clause-told
+returns-clause-told c = (told_shared c.args.node.now c.requires.lone (record { 0 = c.args.calls + 1 }) c.args.key.now c.in_ok-share.field-0 c.args.op.now c.in_ok-share-2.field-0 c.in_ok-share.ensures c.in_ok-share-2.ensures c.in_ok-out.out.replies c.answer_of.result c.answer_of.ensures.0 c.in_ok-out.ensures.out.replies c.answer_of.ensures.1).0
+
+pub returns-clause-suits : goal.returns-clause-suits
+returns-clause-suits c = (told_shared c.args.node.now c.requires.lone (record { 0 = c.args.calls + 1 }) c.args.key.now c.in_ok-share.field-0 c.args.op.now c.in_ok-share-2.field-0 c.in_ok-share.ensures c.in_ok-share-2.ensures c.in_ok-out.out.replies c.answer_of.result c.answer_of.ensures.0 c.in_ok-out.ensures.out.replies c.answer_of.ensures.1).1
