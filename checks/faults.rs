@@ -1,0 +1,128 @@
+// Makes one call of the C library fail, in a program that is started with this library before it: the environment names a kind of
+// call, `ALLOCATE`, `READ` or `WRITE`, and the number of the call that fails, counted from 1. With `SHORT` each write takes one byte.
+// At the end it tells on standard error how many calls of each kind were made.
+use std::ffi::{c_char, c_int, c_void};
+use std::sync::atomic::{AtomicU64, Ordering};
+
+unsafe extern "C" {
+    fn __libc_malloc(size: usize) -> *mut c_void;
+    fn __libc_calloc(count: usize, size: usize) -> *mut c_void;
+    fn __libc_realloc(block: *mut c_void, size: usize) -> *mut c_void;
+    fn __libc_memalign(align: usize, size: usize) -> *mut c_void;
+    fn __read(file: c_int, room: *mut c_void, size: usize) -> isize;
+    fn __write(file: c_int, bytes: *const c_void, size: usize) -> isize;
+    fn __errno_location() -> *mut c_int;
+    fn getenv(name: *const c_char) -> *const c_char;
+    fn atol(text: *const c_char) -> i64;
+    fn dprintf(file: c_int, format: *const c_char, ...) -> c_int;
+}
+
+const EIO: c_int = 5;
+
+/// Calls of one kind: how many were made, and which of them fails; 0 where none does.
+struct Calls {
+    made: AtomicU64,
+    fails: AtomicU64,
+}
+
+impl Calls {
+    const fn new() -> Calls {
+        Calls { made: AtomicU64::new(0), fails: AtomicU64::new(0) }
+    }
+
+    fn fail(&self) -> bool {
+        let number = self.made.fetch_add(1, Ordering::Relaxed) + 1;
+        number == self.fails.load(Ordering::Relaxed)
+    }
+
+    fn number(&self) -> u64 {
+        self.made.load(Ordering::Relaxed)
+    }
+
+    fn set(&self, fails: u64) {
+        self.made.store(0, Ordering::Relaxed);
+        self.fails.store(fails, Ordering::Relaxed);
+    }
+}
+
+static ALLOCATIONS: Calls = Calls::new();
+static READS: Calls = Calls::new();
+static WRITES: Calls = Calls::new();
+static SHORT: AtomicU64 = AtomicU64::new(0);
+
+#[unsafe(no_mangle)]
+pub unsafe extern "C" fn malloc(size: usize) -> *mut c_void {
+    if ALLOCATIONS.fail() { std::ptr::null_mut() } else { unsafe { __libc_malloc(size) } }
+}
+
+#[unsafe(no_mangle)]
+pub unsafe extern "C" fn calloc(count: usize, size: usize) -> *mut c_void {
+    if ALLOCATIONS.fail() { std::ptr::null_mut() } else { unsafe { __libc_calloc(count, size) } }
+}
+
+#[unsafe(no_mangle)]
+pub unsafe extern "C" fn realloc(block: *mut c_void, size: usize) -> *mut c_void {
+    if ALLOCATIONS.fail() { std::ptr::null_mut() } else { unsafe { __libc_realloc(block, size) } }
+}
+
+#[unsafe(no_mangle)]
+pub unsafe extern "C" fn aligned_alloc(align: usize, size: usize) -> *mut c_void {
+    if ALLOCATIONS.fail() { std::ptr::null_mut() } else { unsafe { __libc_memalign(align, size) } }
+}
+
+#[unsafe(no_mangle)]
+pub unsafe extern "C" fn posix_memalign(block: *mut *mut c_void, align: usize, size: usize) -> c_int {
+    let made = unsafe { aligned_alloc(align, size) };
+    if made.is_null() {
+        return 12;
+    }
+    unsafe { *block = made };
+    0
+}
+
+unsafe fn faulty() -> isize {
+    unsafe { *__errno_location() = EIO };
+    -1
+}
+
+#[unsafe(no_mangle)]
+pub unsafe extern "C" fn read(file: c_int, room: *mut c_void, size: usize) -> isize {
+    if file == 0 && READS.fail() { unsafe { faulty() } } else { unsafe { __read(file, room, size) } }
+}
+
+#[unsafe(no_mangle)]
+pub unsafe extern "C" fn write(file: c_int, bytes: *const c_void, size: usize) -> isize {
+    if file == 1 && WRITES.fail() {
+        return unsafe { faulty() };
+    }
+    let size = if file == 1 && SHORT.load(Ordering::Relaxed) == 1 { size.min(1) } else { size };
+    unsafe { __write(file, bytes, size) }
+}
+
+unsafe fn asked(name: &std::ffi::CStr) -> u64 {
+    unsafe {
+        let value = getenv(name.as_ptr());
+        if value.is_null() { 0 } else { atol(value) as u64 }
+    }
+}
+
+/// Counting begins with the program itself.
+extern "C" fn begin() {
+    unsafe {
+        READS.set(asked(c"READ"));
+        WRITES.set(asked(c"WRITE"));
+        SHORT.store(asked(c"SHORT"), Ordering::Relaxed);
+        ALLOCATIONS.set(asked(c"ALLOCATE"));
+    }
+}
+
+extern "C" fn tell() {
+    unsafe { dprintf(2, c"calls %lu %lu %lu\n".as_ptr(), ALLOCATIONS.number(), READS.number(), WRITES.number()) };
+}
+
+#[used]
+#[unsafe(link_section = ".init_array")]
+static BEGIN: extern "C" fn() = begin;
+#[used]
+#[unsafe(link_section = ".fini_array")]
+static TELL: extern "C" fn() = tell;
