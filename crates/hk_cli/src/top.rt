@@ -87,7 +87,7 @@ fn perform<S: Source, K: Sink, C: Clock + Send + Sync + Drop + 'static, D: Doors
 /// Does what the words of a command say, and answers the status that the process ends with.
 ///
 /// - `drill` reads a script to its end, or to the line at which it stops, and writes its transcript as it goes. A script is the header of
-///   a group without managers, and the events of its world: calls, letters that are taken, clocks, crashes, views, leases and copies.
+///   a group, and the events of its world: calls, letters that are taken, clocks, crashes, views, leases, copies, and what its managers do.
 /// - `generate --start S --count C --nodes N` makes a run of C events of N nodes that is drawn from the number S, and writes its summary.
 ///
 /// - `serve --nodes 1 --workers 1 --managers 0 --lease L --skew E --port P --conns C` opens port P of 127.0.0.1 and serves C connections of

@@ -71,7 +71,7 @@ on_ok zero d is = is
 on_ok (suc n) d is = on_ok n (next_drawing d) (next_ok d is)
 
 first_ok : (start nodes : ℕ) → 1 ≤ nodes → nodes ≤ 16 → IsRun (first_drawing start nodes).run
-first_ok start nodes some few = record { header = record { some = some; few = few; lease = omega arith; skew = omega arith }; accepted = tt }
+first_ok start nodes some few = record { header = record { some = some; few = few; managers = omega arith; lease = omega arith; skew = omega arith }; accepted = tt }
 
 pub generated_legal : RunsAreLegal → (start count nodes : ℕ) → 1 ≤ nodes → nodes ≤ 16 → AllLegal (generated start count nodes).run
 generated_legal legal start count nodes some few = legal (generated start count nodes).run (on_ok count (first_drawing start nodes) (first_ok start nodes some few))

@@ -32,8 +32,8 @@ event_ok (AskLease id manager) is = is.1
 event_ok (Propose manager base change) is = is.0
 event_ok (Activate manager) is = is
 
-pub header_ok : (h : Header) → IsHeaderWritten h → IsHeader h
-header_ok h is = record { some = is.some; few = is.few; lease = is.lease; skew = is.skew }
+header_ok : (h : Header) → IsHeaderWritten h → IsHeader h
+header_ok h is = record { some = is.some; few = is.few; managers = is.managers; lease = is.lease; skew = is.skew }
 
 -- an event that a line is read as may happen
 pub read_event_ok : (line : List ℕ) (event : Event) → event_of line ≡ Some event → IsEvent event

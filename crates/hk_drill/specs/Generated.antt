@@ -41,7 +41,7 @@ pub record Drawing : Type 0 where
 
 -- a group whose leases end at the limit of the clocks, which stay together
 abbrev pub group_of : ℕ → Header
-group_of nodes = record { nodes = nodes; lease = 1000000000000; skew = 0 }
+group_of nodes = record { nodes = nodes; managers = 0; lease = 1000000000000; skew = 0 }
 
 abbrev pub first_drawing : ℕ → ℕ → Drawing
 first_drawing start nodes = record {

@@ -21,7 +21,7 @@ use Rattle.hk_base.specs.declared.letter.Body.{Body}
 use Rattle.hk_base.specs.declared.letter.Body.TheVariants.{Inv, Ack, Val, CopyAsk, CopyGive, LeaseAsk, LeaseGive, Prepare, Promise, Accept, Accepted, Chosen, Activate}
 use Rattle.hk_base.specs.declared.letter.Letter.{Letter}
 use Rattle.hk_world.specs.declared.refused.Refused.{Refused}
-use Rattle.hk_world.specs.declared.refused.Refused.TheVariants.{NoActor, Crashed, NoLetter, Skew, ClockFalls, LeaseRuns, NoView, NotMember, Behind, NoSuchMember, LastMember, Full, NoNumbers, Started}
+use Rattle.hk_world.specs.declared.refused.Refused.TheVariants.{NoActor, Crashed, NoLetter, Skew, ClockFalls, LeaseRuns, Managed, NoView, NotMember, Behind, NoSuchMember, LastMember, Full, NoNumbers, NotPast, Started}
 use Rattle.hk_world.specs.declared.shown.Shown.{Shown}
 use Rattle.hk_history.specs.declared.event.Event.{Event as Item}
 use Rattle.hk_history.specs.declared.event.Event.TheVariants as item
@@ -74,6 +74,7 @@ refusal_text NoLetter = codes "no-letter"
 refusal_text (Skew to other) = codes "skew " ++ decimal to ++ codes " " ++ decimal other
 refusal_text (ClockFalls clock) = codes "clock-falls " ++ decimal clock
 refusal_text (LeaseRuns node end) = codes "lease-runs " ++ decimal node.0 ++ codes " " ++ decimal end
+refusal_text Managed = codes "managed"
 refusal_text NoView = codes "no-view"
 refusal_text NotMember = codes "not-member"
 refusal_text (Behind held) = codes "behind " ++ decimal held
@@ -81,6 +82,7 @@ refusal_text NoSuchMember = codes "no-such-member"
 refusal_text LastMember = codes "last-member"
 refusal_text Full = codes "full"
 refusal_text NoNumbers = codes "no-numbers"
+refusal_text (NotPast node end) = codes "not-past " ++ decimal node.0 ++ codes " " ++ decimal end
 refusal_text Started = codes "started"
 
 -- `EPOCH:NEXT:` and the members, parted by commas
@@ -157,14 +159,15 @@ abbrev pub call_text : ℕ → Option CallNo → List ℕ
 call_text i None = []
 call_text i (Some call) = decimal i ++ codes " call " ++ decimal call.0 ++ codes "\n"
 
--- the view that was agreed, or that a node installed
-abbrev pub view_line_text : ℕ → Option View → Option NodeId → List ℕ
-view_line_text i None who = []
-view_line_text i (Some v) None = decimal i ++ codes " view " ++ view_text v ++ codes "\n"
-view_line_text i (Some v) (Some id) = decimal i ++ codes " installed " ++ decimal id.0 ++ codes " " ++ decimal v.epoch ++ codes "\n"
+-- the view that was agreed, that a manager now holds, or that a node installed
+abbrev pub view_line_text : ℕ → Option View → Option ℕ → Option NodeId → List ℕ
+view_line_text i None chosen installed = []
+view_line_text i (Some v) (Some m) installed = decimal i ++ codes " chosen m" ++ decimal m ++ codes " " ++ view_text v ++ codes "\n"
+view_line_text i (Some v) None None = decimal i ++ codes " view " ++ view_text v ++ codes "\n"
+view_line_text i (Some v) None (Some id) = decimal i ++ codes " installed " ++ decimal id.0 ++ codes " " ++ decimal v.epoch ++ codes "\n"
 
 unfoldable pub shown_text : ℕ → Shown → List ℕ
-shown_text i s = call_text i s.call ++ view_line_text i s.view s.installed ++ sends_text i s.first_letter s.letters ++ replies_text i s.replies
+shown_text i s = call_text i s.call ++ view_line_text i s.view s.chosen s.installed ++ sends_text i s.first_letter s.letters ++ replies_text i s.replies
 
 unfoldable pub refused_text : ℕ → Refused → List ℕ
 refused_text i refused = decimal i ++ codes " refused " ++ refusal_text refused ++ codes "\n"

@@ -4,7 +4,7 @@ use crate::line::is_skipped;
 use crate::stop::Stop;
 use crate::text::{put_refused, put_shown};
 use hk_base::Memory;
-use hk_safety::Run;
+use hk_safety::LiveRun;
 use hk_script::{LineFault, read_event};
 use hk_world::{Event, Header, Refused, Shown, WorldFault};
 use std::alloc::Global;
@@ -16,7 +16,7 @@ pub const MAX_LETTERS: u64 = 4_000_000;
 /// How far a script has come: the run of the events that were accepted, and how many event lines there were.
 #[derive(Drop)]
 pub(crate) struct Course {
-    pub(crate) run: Run,
+    pub(crate) run: LiveRun,
     pub(crate) count: u64,
 }
 
@@ -40,7 +40,7 @@ impl Course {
         requires { IsHeader header }
         ensures { IfOk result (λ course. course ≡ first_course header) }
     {
-        let run = Run::new(alloc, header)?;
+        let run = LiveRun::new(alloc, header)?;
         Ok(Course { run, count: 0 })
     }
 
@@ -78,7 +78,8 @@ impl Course {
         requires room { self.old.count + 1 < 2 ^ 64 }
         ensures { IfOk result (λ stop. IsTaken stop self.new text.old.items text.new.items (event_at self.old (Some event))) }
     {
-        match self.run.push(alloc, event) {
+        let event = self.run.shared(event)?;
+        match self.run.push(alloc, &event) {
             Ok(shown) => self.show(&shown, text),
             Err(WorldFault::Refused(refused)) => {
                 self.refuse(refused, text)?;

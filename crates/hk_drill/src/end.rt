@@ -16,7 +16,7 @@ use crate::stop::Stop;
 use crate::text::{put_end, put_key};
 use hk_base::{Key, Memory};
 use hk_outside::{Sink, Status, write_all};
-use hk_safety::{Run, order_of};
+use hk_safety::LiveRun;
 use hk_script::{put_number, put_text};
 use std::alloc::Global;
 
@@ -36,12 +36,12 @@ fn put_stop(out: &mut Vec<u8>, line: u64, stop: Stop) -> Result<(), Memory>
 }
 
 // A key of a run, with its history and its order.
-fn put_key_of(out: &mut Vec<u8>, alloc: Global, run: &Run, key: &Key) -> Result<(), Memory>
+fn put_key_of(out: &mut Vec<u8>, alloc: Global, run: &LiveRun, key: &Key) -> Result<(), Memory>
     ensures { OnOk result (out.new.items ≡ out.old.items ++ key_text key.now (history run.now key.now) (printed run.now key.now)) }
 {
-    let history = run.history(alloc, key)?;
-    let order = order_of(alloc, run, key)?;
-    put_key(out, key, history.as_slice(), order.as_slice())
+    let history = run.items(key)?;
+    let order = run.order(alloc, key)?;
+    put_key(out, key, history, order.as_slice())
 }
 
 /// Writes the text.
@@ -60,7 +60,7 @@ pub(crate) fn write_text<K: Sink>(sink: &mut K, text: &[u8]) -> Result<(), Fault
 
 // Writes a key of a run, with its history and its order.
 #[tactic(auto, using(crate::proofs::Telling::front_nothing))]
-fn write_key<K: Sink>(alloc: Global, sink: &mut K, run: &Run, key: &Key) -> Result<(), Fault>
+fn write_key<K: Sink>(alloc: Global, sink: &mut K, run: &LiveRun, key: &Key) -> Result<(), Fault>
     ensures all { OnOk result (Appends (K.held sink.old) (K.held sink.new) (key_text key.now (history run.now key.now) (printed run.now key.now))) }
     ensures front { HasFront (K.held sink.old) (K.held sink.new) (key_text key.now (history run.now key.now) (printed run.now key.now)) }
     ensures later { K.faults sink.old ≤ K.faults sink.new }
@@ -72,7 +72,7 @@ fn write_key<K: Sink>(alloc: Global, sink: &mut K, run: &Run, key: &Key) -> Resu
 }
 
 // Writes each key that a call named, with its history and its order, one key after the other.
-fn write_keys<K: Sink>(alloc: Global, sink: &mut K, run: &Run) -> Result<(), Fault>
+fn write_keys<K: Sink>(alloc: Global, sink: &mut K, run: &LiveRun) -> Result<(), Fault>
     ensures all { OnOk result (Appends (K.held sink.old) (K.held sink.new) (keys_text run.now (named run.now))) }
     ensures front { HasFront (K.held sink.old) (K.held sink.new) (keys_text run.now (named run.now)) }
     ensures later { K.faults sink.old ≤ K.faults sink.new }

@@ -8,7 +8,7 @@ ghost use Rattle.hk_drill.specs.Drilled.{AllLegal};
 
 use hk_base::{Answer, Memory, Reply};
 use hk_outside::{Sink, Status, write_all};
-use hk_safety::{Run, runs_are_legal};
+use hk_safety::{LiveRun, runs_are_legal};
 use hk_script::{Generator, put_number, put_text};
 use hk_world::{Header, WorldFault};
 use std::alloc::Global;
@@ -96,7 +96,7 @@ impl Replies {
 /// A run that is being drawn.
 #[derive(Drop)]
 struct Drawing {
-    run: Run,
+    run: LiveRun,
     generator: Generator,
     replies: Replies,
 }
@@ -118,10 +118,11 @@ impl Drawing {
     {
         let header = Header {
             nodes,
+            managers: 0,
             lease: 1_000_000_000_000,
             skew: 0,
         };
-        let run = Run::new(alloc, header)?;
+        let run = LiveRun::new(alloc, header)?;
         Ok(Drawing {
             run,
             generator: Generator::new(start, nodes),
@@ -139,7 +140,7 @@ impl Drawing {
     {
         let letters = self.run.world()?.letters();
         let event = self.generator.next(alloc, letters)?;
-        match self.run.push(alloc, event) {
+        match self.run.push(alloc, &event) {
             Ok(shown) => {
                 self.replies = self.replies.with_all(shown.replies.as_slice())?;
                 Ok(())

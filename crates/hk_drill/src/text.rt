@@ -32,7 +32,7 @@ fn put_call(out: &mut Vec<u8>, number: u64, call: Option<CallNo>) -> Result<(), 
 }
 
 fn put_agreed(out: &mut Vec<u8>, number: u64, view: &View) -> Result<(), Memory>
-    ensures { OnOk result (out.new.items ≡ out.old.items ++ view_line_text number (Some view.now) None) }
+    ensures { OnOk result (out.new.items ≡ out.old.items ++ view_line_text number (Some view.now) None None) }
 {
     put_number(out, number)?;
     put_text(out, b" view ")?;
@@ -41,7 +41,7 @@ fn put_agreed(out: &mut Vec<u8>, number: u64, view: &View) -> Result<(), Memory>
 }
 
 fn put_installed(out: &mut Vec<u8>, number: u64, view: &View, node: NodeId) -> Result<(), Memory>
-    ensures { OnOk result (out.new.items ≡ out.old.items ++ view_line_text number (Some view.now) (Some node)) }
+    ensures { OnOk result (out.new.items ≡ out.old.items ++ view_line_text number (Some view.now) None (Some node)) }
 {
     put_number(out, number)?;
     put_text(out, b" installed ")?;
@@ -51,20 +51,35 @@ fn put_installed(out: &mut Vec<u8>, number: u64, view: &View, node: NodeId) -> R
     put_text(out, b"\n")
 }
 
-// The view that was agreed, or that the node installed.
+fn put_chosen(out: &mut Vec<u8>, number: u64, view: &View, manager: u8) -> Result<(), Memory>
+    ensures { OnOk result (out.new.items ≡ out.old.items ++ view_line_text number (Some view.now) (Some manager) None) }
+{
+    put_number(out, number)?;
+    put_text(out, b" chosen m")?;
+    put_number(out, u64::from(manager))?;
+    put_text(out, b" ")?;
+    put_view(out, view)?;
+    put_text(out, b"\n")
+}
+
+// The view that was agreed, that the manager now holds, or that the node installed.
 fn put_view_line(
     out: &mut Vec<u8>,
     number: u64,
     view: &Option<View>,
+    chosen: Option<u8>,
     installed: Option<NodeId>,
 ) -> Result<(), Memory>
-    ensures { OnOk result (out.new.items ≡ out.old.items ++ view_line_text number view.now installed) }
+    ensures { OnOk result (out.new.items ≡ out.old.items ++ view_line_text number view.now chosen installed) }
 {
     match view {
         None => Ok(()),
-        Some(view) => match installed {
-            None => put_agreed(out, number, view),
-            Some(node) => put_installed(out, number, view, node),
+        Some(view) => match chosen {
+            Some(manager) => put_chosen(out, number, view, manager),
+            None => match installed {
+                None => put_agreed(out, number, view),
+                Some(node) => put_installed(out, number, view, node),
+            },
         },
     }
 }
@@ -96,7 +111,7 @@ pub(crate) fn put_shown(out: &mut Vec<u8>, number: u64, shown: &Shown) -> Result
     ensures { OnOk result (out.new.items ≡ out.old.items ++ shown_text number shown.now) }
 {
     put_call(out, number, shown.call)?;
-    put_view_line(out, number, &shown.view, shown.installed)?;
+    put_view_line(out, number, &shown.view, shown.chosen, shown.installed)?;
     put_letters(out, number, shown.first_letter, shown.letters.as_slice())?;
     put_replies(out, number, shown.replies.as_slice())
 }

@@ -76,7 +76,7 @@ skew_after : (c : ClockState) (events : List ClockEvent) → (after c events).sk
 skew_after c [] = refl
 skew_after c (event ∷ events) = skew_after (made_or c (clock_step c event)) events ∙ skew_kept c event
 
-until_first : (lease k : ℕ) (n : NodeId) → n.0 < k → wait lease ≤ until_of (first_untils lease k) n
+pub until_first : (lease k : ℕ) (n : NodeId) → n.0 < k → wait lease ≤ until_of (first_untils lease k) n
 until_first lease zero n below = absurd (omega (arith, below))
 until_first lease (suc k) n below = ⊎_elim
     (λ (e : n.0 ≡ k).

@@ -37,11 +37,12 @@ use Rattle.hk_effects.specs.View.{key_node, has_copied, told_at, reply_item, loo
 use Rattle.hk_effects.specs.Own.{IsOwn, IsTrace, Agrees}
 use Rattle.hk_effects.proofs.Order.{cases_key, same_itself, same_not, row-with_same}
 use Rattle.hk_effects.proofs.Frames.{items_said}
+use Rattle.hk_effects.proofs.Accepting.{live_step}
 use Rattle.hk_effects.proofs.Acts.{alike}
 use Rattle.hk_effects.proofs.Replies.{reply_items, told_own, looked_item, missed_item, reply_begins_none}
 use Rattle.hk_effects.proofs.Starts.{beginning, begun_update, noted_update, begin_step}
 use Rattle.hk_effects.proofs.Nodes.{OwesNode, said_node, quiet_node, own_row, other_row}
-use Rattle.hk_effects.proofs.Lives.{accepts, IsEffects, IsLive, here, stepped_effect, live_effect, fresh_call, node_own, node_sound, members_are, ready_some, leased_now}
+use Rattle.hk_effects.proofs.Lives.{accepts, IsEffects, IsLive, here, stepped_effect, lives, fresh_call, node_own, node_sound, members_are, ready_some, leased_now}
 
 -- the next stamp, where there is one
 next_some : (kind : Kind) (s : Stamp) (n : NodeId) (u : Stamp) → next_stamp kind s n ≡ Some u → u ≡ record { version = s.version + step_of kind; node = n.0 }
@@ -195,5 +196,6 @@ module _ (V : ℕ → List ℕ) (key : List ℕ) (t : Trace) (parts : Parts V (v
 -- the event
 pub call_effect : (V : ℕ → List ℕ) (key : List ℕ) (t : Trace) (parts : Parts V (view key t)) (own : IsOwn t.world) (agrees : Agrees t.world V) (tok : IsTrace t) (id : NodeId) (k : List ℕ) (op : Op) (a : Accepted) →
     live t.world id (calls_at t.world id k op) ≡ accepts a → IsEffects V key t parts own agrees tok (Call id k op) a
-call_effect V key t parts own agrees tok id k op a e = live_effect V key t parts own agrees tok (Call id k op) id (calls_at t.world id k op) a (λ x same alive e.
-    stepped_effect V key t parts own agrees tok (Call id k op) (t.world.calls + 1) (Some (record { 0 = t.world.calls + 1 })) id x same alive (called x (record { 0 = t.world.calls + 1 }) k op) a (call_owed V key t parts own agrees tok x alive k op) e) e
+call_effect V key t parts own agrees tok id k op a e = live_step (IsEffects V key t parts own agrees tok (Call id k op) a) t.world a id (calls_at t.world id k op) (λ x at e.
+    let l = lives V key t parts own agrees tok id x at in
+    stepped_effect V key t parts own agrees tok (Call id k op) (t.world.calls + 1) t.world.paces (Some (record { 0 = t.world.calls + 1 })) id x l.0 l.1 (called x (record { 0 = t.world.calls + 1 }) k op) a (call_owed V key t parts own agrees tok x l.1 k op) e) e

@@ -11,20 +11,20 @@ use Rattle.hk_node.specs.Stepped.{idle}
 use Rattle.hk_node.specs.Copies.{asks_copy}
 use Rattle.hk_node.specs.Rows.{find_row}
 use Rattle.hk_key.specs.Table.{resend}
-use Rattle.hk_node.specs.Steps.{receives, resent, replayed, installed_in, installs, grants}
+use Rattle.hk_node.specs.Steps.{receives, resent, replayed, asks_lease, installed_in, installs, grants}
 use Rattle.hk_world.specs.declared.event.Event.{Event}
 use Rattle.hk_world.specs.declared.event.Event.TheVariants.{Call, Take, Tick, TickAll, Crash, Resend, Replay, Copy, Start, Agree, Install, Lease, AskLease, Propose, Activate}
 use Rattle.hk_world.specs.World.{WorldState, process_at, numbered, last_view}
-use Rattle.hk_world.specs.Steps.{Accepted, with_step, acts, calls_at, ticks_at, crashes_at, agreed_on, was_member, may_run, installs_at, leases_at, world_step}
+use Rattle.hk_world.specs.Steps.{Accepted, with_step, acts, live, calls_at, ticks_at, manager_ticks_at, crashes_at, manager_crashes_at, agreed_on, agrees, was_member, may_run, installs_at, leases_at, world_step}
 use Rattle.hk_effects.specs.Own.{Ended, IsOwn}
 use Rattle.hk_effects.proofs.Processes.{numbered_node, cases_member}
 use Rattle.hk_effects.proofs.Chain.{last_added}
-use Rattle.hk_effects.proofs.Accepting.{alive, live_step, live_actor_step, takes_step, ticks_step, all_tick_step, starts_step, agrees_step, installs_step, leases_step}
-use Rattle.hk_effects.proofs.Leases.{found_seen, replayed_seen, asks_seen, receives_seen, StillEnded, not_passing, was_member_of}
+use Rattle.hk_effects.proofs.Accepting.{alive, proposes_none, activates_none, unmanaged_step, live_step, live_actor_step, takes_step, ticks_step, all_tick_step, crashes_step, starts_step, agrees_step, installs_step, leases_step}
+use Rattle.hk_effects.proofs.Leases.{found_seen, replayed_seen, asks_seen, asks_lease_seen, receives_seen, StillEnded, not_passing, was_member_of}
 use Rattle.hk_effects.proofs.Worlds.{unmanaged}
-use Rattle.hk_effects.proofs.Guards.{EpochGuarded, Guards, step_carries, acts_guards, seen_guards, call_guards, tick_guards, aside_guards, tick_all_guards, crash_guards, join_guards}
+use Rattle.hk_effects.proofs.Guards.{EpochGuarded, Guards, step_carries, makes_guards, seen_guards, call_guards, tick_guards, aside_guards, tick_all_guards, crash_guards, join_guards}
 
-module _ (w : WorldState) (own : IsOwn w) where
+module _ (w : WorldState) (own : IsOwn w) (none : w.managers ≡ []) where
   agreed_guards : (v : View) (a : Accepted) → v.epoch ≡ (last_view w.views).epoch + 1 → agreed_on w v ≡ Ok a → Guards w a
   agreed_guards v a next e = aside_guards w (record w { views = w.views ++ v ∷ [] }) (Some v) (λ k g. record {
     upto = rw (last_added w.views v) (let u = g.upto in omega (arith, next));
@@ -63,8 +63,8 @@ module _ (w : WorldState) (own : IsOwn w) where
         let test = ltb (epoch_of x) v.epoch && is_member x.id v.members in
         let g : EpochGuarded w v.epoch = record { upto = (own.views.within v agreed).1; ended = ran_out v agreed none } in
         let still : (e : ℕ) (p q : View) → In w.views p → In w.views q → p.epoch < e → q.epoch ≡ e → In (member_numbers p.members) id.0 → (In (member_numbers q.members) id.0 → ⊥) → StillEnded x s.node = λ e p q hp hq low at_q in_p out_q. keeps_lease test in
-        acts_guards w id x at s still
-        (⊎_elim inl (λ (now : epoch_of s.node ≡ v.epoch). inr (subst (λ (i : ℕ). EpochGuarded (with_step w id s) i) (sym now) (step_carries w id x at w.calls s still v.epoch g))) (new_epoch test)) a e
+        makes_guards w id x at s w.paces still
+        (⊎_elim inl (λ (now : epoch_of s.node ≡ v.epoch). inr (subst (λ (i : ℕ). EpochGuarded (with_step w id s) i) (sym now) (step_carries w id x at w.calls w.paces s still v.epoch g))) (new_epoch test)) a e
       where
         keeps_lease : (b : Bool) → StillEnded x (cond b (installed_in (record x { view = Some v }) v.epoch) (idle x)).node
         keeps_lease true h = h
@@ -76,26 +76,29 @@ module _ (w : WorldState) (own : IsOwn w) where
 
     -- a member of the last view is one of each view since it first was: no view leaves it out
     lease_guards : (end : ℕ) → In (member_numbers (last_view w.views).members) id.0 → (a : Accepted) → acts w id x (grants x end) ≡ Ok a → Guards w a
-    lease_guards end inside a e = acts_guards w id x at (grants x end)
+    lease_guards end inside a e = makes_guards w id x at (grants x end) w.paces
         (λ k u v hu hv low at_v in_u out_v. absurd (out_v (own.views.chain u v (last_view w.views) hu hv own.views.last (omega (arith, at_v, low)) (own.views.within v hv).1 id.0 in_u inside))) (inl refl) a e
 
   guards_at : (event : Event) (a : Accepted) → world_step w event ≡ Ok a → Guards w a
   guards_at (Call id key op) a e = live_step (Guards w a) w a id (calls_at w id key op) (λ x at e. call_guards w id x at key op a e) e
-  guards_at (Take n) a e = takes_step (Guards w a) w a n (λ l sent id x at e. seen_guards w id x at (receives x l) (receives_seen x l (unmanaged w own.sound id x at)) a e) e
-  guards_at (Tick actor to) a e = live_actor_step (Guards w a) w a actor (ticks_at w to) (λ id x at e. ticks_step (Guards w a) w a to id x (λ up e. tick_guards w id x at to a e) e) e
-  guards_at (TickAll to) a e = all_tick_step (Guards w a) w a to (λ e. tick_all_guards w to a e) e
-  guards_at (Crash actor) a e = live_actor_step (Guards w a) w a actor (crashes_at w) (λ id x at e. crash_guards w id x a e) e
+  guards_at (Take n) a e = takes_step (Guards w a) w a none n (λ l found id x at e. seen_guards w id x at (receives x l) (receives_seen x l (unmanaged w own none id x at)) a e) e
+  guards_at (Tick actor to) a e = live_actor_step (Guards w a) w a none actor (ticks_at w to) (manager_ticks_at w to) (λ id x at e. ticks_step (Guards w a) w a to id x (λ paces e. tick_guards w id x at to paces a e) e) e
+  guards_at (TickAll to) a e = all_tick_step (Guards w a) w a none to (λ paces e. tick_all_guards w to paces a e) e
+  guards_at (Crash actor) a e = live_actor_step (Guards w a) w a none actor (crashes_at w) (manager_crashes_at w) (λ id x at e. crashes_step (Guards w a) w a id x (λ paces e. crash_guards w id x paces a e) e) e
   guards_at (Resend id key) a e = live_step (Guards w a) w a id (λ node. acts w id node (resent node key)) (λ x at e. seen_guards w id x at (resent x key) (found_seen x key resend (find_row key x.rows)) a e) e
   guards_at (Replay id key) a e = live_step (Guards w a) w a id (λ node. acts w id node (replayed node key)) (λ x at e. seen_guards w id x at (replayed x key) (replayed_seen x key) a e) e
   guards_at (Copy id from room) a e = live_step (Guards w a) w a id (λ node. acts w id node (asks_copy node from room)) (λ x at e. seen_guards w id x at (asks_copy x from room) (asks_seen x from room) a e) e
-  guards_at (Start id) a e = starts_step (Guards w a) w a id (λ inside e. join_guards w id a e) e
-  guards_at (Agree change) a e = agrees_step (Guards w a) w a own.views change (λ v follows e. agreed_guards v a follows.epoch e) e
-  guards_at (Install id epoch) a e = live_step (Guards w a) w a id (λ node. installs_at (numbered epoch w.views) w id node)
-      (λ x at e. installs_step (Guards w a) w a epoch id x (λ v agreed none e. install_guards id x at v agreed none a e) e) e
-  guards_at (Lease id end) a e = live_step (Guards w a) w a id (leases_at w id end) (λ x at e. leases_step (Guards w a) w a id end x (λ inside e. lease_guards id x at end inside a e) e) e
-  guards_at (AskLease id manager) a e = live_step (Guards w a) w a id (λ node. acts w id node (idle node)) (λ x at e. seen_guards w id x at (idle x) refl a e) e
-  guards_at (Propose manager base change) a e = cc
-  guards_at (Activate manager) a e = cc
+  guards_at (Start id) a e = starts_step (Guards w a) w a none id (λ at inside paces e. join_guards w id paces a e) e
+  guards_at (Agree change) a e = unmanaged_step (Guards w a) w a (agrees w (last_view w.views) change)
+      (λ e. agrees_step (Guards w a) w a own.views change (λ v follows e. agreed_guards v a follows.epoch e) e) e
+  guards_at (Install id epoch) a e = unmanaged_step (Guards w a) w a (live w id (λ node. installs_at (numbered epoch w.views) w id node))
+      (λ e. live_step (Guards w a) w a id (λ node. installs_at (numbered epoch w.views) w id node)
+      (λ x at e. installs_step (Guards w a) w a epoch id x (λ v may e. install_guards id x at v may.agreed may.ended a e) e) e) e
+  guards_at (Lease id end) a e = unmanaged_step (Guards w a) w a (live w id (leases_at w id end))
+      (λ e. live_step (Guards w a) w a id (leases_at w id end) (λ x at e. leases_step (Guards w a) w a id end x (λ inside e. lease_guards id x at end inside a e) e) e) e
+  guards_at (AskLease id manager) a e = live_step (Guards w a) w a id (λ node. acts w id node (asks_lease node manager)) (λ x at e. seen_guards w id x at (asks_lease x manager) (asks_lease_seen x manager) a e) e
+  guards_at (Propose manager base change) a e = proposes_none (Guards w a) w a none manager base change e
+  guards_at (Activate manager) a e = activates_none (Guards w a) w a none manager e
 
-pub event_guards : (w : WorldState) (event : Event) (a : Accepted) → world_step w event ≡ Ok a → IsOwn w → Guards w a
-event_guards w event a is own = guards_at w own event a is
+pub event_guards : (w : WorldState) (event : Event) (a : Accepted) → world_step w event ≡ Ok a → IsOwn w → w.managers ≡ [] → Guards w a
+event_guards w event a is own none = guards_at w own none event a is

@@ -1,5 +1,6 @@
 -- A world of founders has its own invariant, and the register's holds of each key.
 use Rattle.std.proofs.Common.{◌≡◌, ℕ, zero, suc, false, cond, ◌+◌, List, [], ◌∷◌, map, ◌<◌, ◌≤◌, ◌∙◌, sym, refl, ap, subst, inl, inr, ⊎_elim, arith, le_refl, Option, Some, None, Ordering, Less, Equal, Greater}
+use Rattle.std.specs.List.{range_with_len}
 use Rattle.std.specs.Ordering.{is_eq}
 use Rattle.std.proofs.lemmas.Bool.{false≢true}
 use Rattle.hk_base.specs.declared.stamp.NodeId.{NodeId}
@@ -11,11 +12,12 @@ use Rattle.hk_register.specs.Runs.{founder, absent}
 use Rattle.hk_register.specs.Parts.{Parts, NodeOk, MarkOk}
 use Rattle.hk_register.specs.Calls.{CallParts}
 use Rattle.hk_register.proofs.Keep.{weaker_ok}
-use Rattle.hk_node.specs.Node.{NodeState}
+use Rattle.hk_node.specs.Node.{NodeState, epoch_of}
 use Rattle.hk_world.specs.declared.event.Header.{Header}
 use Rattle.hk_world.specs.declared.process.Process.{Process}
-use Rattle.hk_world.specs.World.{process_at, by_number, node_of}
-use Rattle.hk_world.specs.Start.{counted, founding_view, founding_process, start}
+use Rattle.hk_world.specs.declared.process.ManagerProcess.{ManagerProcess}
+use Rattle.hk_world.specs.World.{process_at, manager_at, by_number, node_of, numbered}
+use Rattle.hk_world.specs.Start.{counted, founding_view, founding_process, founding_manager, start}
 use Rattle.hk_world.specs.Sound.{IsHeader, IsWorld}
 use Rattle.hk_effects.specs.View.{key_node, node_at, view}
 use Rattle.hk_effects.specs.Own.{IsOwn, IsTrace, Agrees}
@@ -83,6 +85,20 @@ node_founder h n x at = by_process (process_at (numbered_node n) (start h).proce
         let same : p.node ≡ x = cc in
         (sym same ∙ ap (λ (q : Process). q.node) f.0, f.1)
 
+pub no_managers : (h : Header) → h.managers ≡ 0 → (start h).managers ≡ []
+no_managers h none = rw none refl
+
+-- each manager holds the first view
+first_held : (h : Header) (ns : List ℕ) (m : ℕ) (p : ManagerProcess) → manager_at m (map (λ n. founding_manager h n) ns) ≡ Some p → p.manager.held ≡ founding_view h
+first_held h [] m p at = absurd cc
+first_held h (n ∷ ns) zero p at = let same : founding_manager h n ≡ p = cc in ap (λ (q : ManagerProcess). q.manager.held) (sym same)
+first_held h (n ∷ ns) (suc m) p at = first_held h ns m p at
+
+first_epoch : (h : Header) (e : ℕ) (v : View) → numbered e (founding_view h ∷ []) ≡ Some v → v.epoch ≡ e
+first_epoch h zero v at = absurd cc
+first_epoch h (suc zero) v at = let same : founding_view h ≡ v = cc in ap (λ (u : View). u.epoch) (sym same)
+first_epoch h (suc (suc k)) v at = absurd cc
+
 pub founders_own : StartsSound → (h : Header) → IsHeader h → IsOwn (start h)
 founders_own sound h is = record {
   sound = sound h is;
@@ -92,15 +108,30 @@ founders_own sound h is = record {
     each = λ e one top. (founding_view h, inl refl, omega arith);
     one = λ u v m k same. one_view h u m ∙ sym (one_view h v k);
     chain = λ u v w mu mv mw low high n in_u in_w. subst (λ (z : View). In (member_numbers z.members) n) (one_view h w mw ∙ sym (one_view h v mv)) in_w;
+    change = λ u v mu mv next. let a = ap (λ (z : View). z.epoch) (one_view h u mu) in let b = ap (λ (z : View). z.epoch) (one_view h v mv) in absurd (omega (arith, a, b, next));
     below = λ v m n in_v. let c = counted_within 0 h.nodes n (subst (λ (z : View). In (member_numbers z.members) n) (one_view h v m) in_v) in omega (arith, c.1);
   };
+  epochs = first_epoch h;
   node = λ id x at.
       let f = node_founder h id x at in
       let c = counted_within 0 h.nodes id f.1 in
       let few = is.few in
       rw f.0 (record { small = omega (arith, c.1, few); agreed = λ v e. let same : founding_view h ≡ v = cc in inl (sym same); row = λ key. first_of 0 });
   letter = λ l none. absurd none;
+  begun = λ l v none. absurd none;
+  held = λ m p at. inl (first_held h (range_with_len 0 h.managers) m p at);
 }
+
+-- each mark at the start is of a founder's epoch
+pub first_marks : (h : Header) (k : Mark) → In (start_trace h).marks k → (id : NodeId) × (x : NodeState) × (node_of (process_at id (start h).processes) ≡ Some x) × (k.epoch ≡ epoch_of x)
+first_marks h k m = let r = mark_from (counted 0 h.nodes) k m in by_process r.0 r.1 r.2 (process_at (numbered_node r.0) (start h).processes) refl
+  where
+    by_process : (n : ℕ) → In (member_numbers (counted 0 h.nodes)) n → k ≡ row_mark n founder → (o : Option Process) → process_at (numbered_node n) (start h).processes ≡ o →
+        (id : NodeId) × (x : NodeState) × (node_of (process_at id (start h).processes) ≡ Some x) × (k.epoch ≡ epoch_of x)
+    by_process n inside is None at = absurd (no_founder h (counted 0 h.nodes) (numbered_node n) at inside)
+    by_process n inside is (Some p) at =
+        let f = found_founder h (counted 0 h.nodes) (numbered_node n) p at in
+        (numbered_node n, p.node, ap node_of at, ap (λ (z : Mark). z.epoch) is ∙ sym (ap (λ (q : Process). epoch_of q.node) f.0))
 
 pub founders_trace : (h : Header) → IsTrace (start_trace h)
 founders_trace h = record {

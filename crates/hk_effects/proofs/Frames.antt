@@ -6,6 +6,7 @@ use Rattle.hk_base.specs.declared.letter.Letter.{Letter as Wire}
 use Rattle.hk_register.specs.Machine.{In, Weaker, Marked, Node, Letter, Mark, Update, Item, State}
 use Rattle.hk_register.specs.Effects.{Change}
 use Rattle.hk_register.proofs.Grow.{in_left, in_right, in_either}
+use Rattle.hk_clocks.specs.Clocks.{Paces}
 use Rattle.hk_node.specs.Node.{NodeState}
 use Rattle.hk_node.specs.Stepped.{Stepped}
 use Rattle.hk_world.specs.declared.event.Event.{Event}
@@ -28,26 +29,26 @@ itself k = record { who = refl; epoch = refl; stamp = refl; exact = λ e. e; rea
 pub weaker_trans : (k j i : Mark) → Weaker k j → Weaker j i → Weaker k i
 weaker_trans k j i a b = record { who = a.who ∙ b.who; epoch = a.epoch ∙ b.epoch; stamp = a.stamp ∙ b.stamp; exact = λ e. b.exact (a.exact e); ready = λ e. b.ready (a.ready e) }
 
--- what an event makes that is one node's step: the world after it, with so many calls
-abbrev pub accepted : WorldState → NodeId → NodeState → Stepped → ℕ → Option CallNo → Accepted
-accepted w id x o calls call = record { world = record (with_step w id o) { calls = calls }; told = o.told; shown = shown_of w id x o call }
+-- what an event makes that is one node's step: the world after it, with so many calls and these clocks
+abbrev pub accepted : WorldState → NodeId → NodeState → Stepped → ℕ → Paces → Option CallNo → Accepted
+accepted w id x o calls paces call = record { world = record (with_step w id o) { calls = calls; paces = paces }; told = o.told; shown = shown_of w id x o call }
 
 -- what the step says in the key's history
 abbrev pub items_said : List ℕ → Event → ℕ → NodeState → Stepped → List Item
 items_said key event call x o = items_of key event call (key_node key (Some x)) (key_node key (Some o.node)) (told_at key o.told)
 
 -- The step of a node, from one key: a change of the register's node, with all that is marked and said.
-pub step_change : (key : List ℕ) (t : Trace) (event : Event) (calls : ℕ) (call : Option CallNo) (id : NodeId) (x : NodeState) (o : Stepped) → node_at id.0 t.world.processes ≡ Some x →
-    Change (view key t) (view key (traced key t event (accepted t.world id x o calls call))) id.0 (key_node key (Some o.node))
+pub step_change : (key : List ℕ) (t : Trace) (event : Event) (calls : ℕ) (paces : Paces) (call : Option CallNo) (id : NodeId) (x : NodeState) (o : Stepped) → node_at id.0 t.world.processes ≡ Some x →
+    Change (view key t) (view key (traced key t event (accepted t.world id x o calls paces call))) id.0 (key_node key (Some o.node))
     (letters_of key o.letters) (step_marks id.0 (key_node key (Some x)) (key_node key (Some o.node)) (letters_of key o.letters))
     (updates_of id.0 (key_node key (Some x)) (items_said key event (t.world.calls + 1) x o)) (items_said key event (t.world.calls + 1) x o)
-step_change key t event calls call id x o at =
+step_change key t event calls paces call id x o at =
     let ps = put_process id (record { node = o.node; crashed = false }) t.world.processes in
     let now : node_at id.0 ps ≡ Some o.node = node-put_same id (record { node = o.node; crashed = false }) t.world.processes in
     let node : key_node key (node_at id.0 ps) ≡ key_node key (Some o.node) = ap (key_node key) now in
     let was : key_node key (node_at id.0 t.world.processes) ≡ key_node key (Some x) = ap (key_node key) at in
     let all = step_marks id.0 (key_node key (Some x)) (key_node key (Some o.node)) (letters_of key o.letters) in
-    let new : State = view key (traced key t event (accepted t.world id x o calls call)) in
+    let new : State = view key (traced key t event (accepted t.world id x o calls paces call)) in
     let marks : new.marks ≡ all ++ t.marks = rw (node, was) refl in
     record {
       here = node;

@@ -7,17 +7,19 @@ use Rattle.hk_base.specs.declared.call.Op.{Op}
 use Rattle.hk_base.specs.declared.view.View.{View}
 use Rattle.hk_base.specs.View.{member_numbers}
 use Rattle.hk_register.specs.Machine.{In}
+use Rattle.hk_clocks.specs.Clocks.{Paces}
 use Rattle.hk_node.specs.Node.{NodeState, epoch_of}
 use Rattle.hk_node.specs.Stepped.{Stepped}
 use Rattle.hk_node.specs.Calls.{called}
 use Rattle.hk_node.specs.Steps.{ticks}
 use Rattle.hk_world.specs.declared.process.Process.{Process}
 use Rattle.hk_world.specs.World.{WorldState, process_at, put_process, node_of, last_view}
-use Rattle.hk_world.specs.Steps.{acting_of, Accepted, with_step, shown_of, acts, aside, nothing, calls_at, process_ticked, crashes_at, joining}
+use Rattle.hk_world.specs.Steps.{acting_of, Accepted, with_step, acts, aside, nothing, calls_at, process_ticked, joining}
 use Rattle.hk_effects.specs.View.{node_at}
 use Rattle.hk_effects.specs.Own.{Ended}
 use Rattle.hk_effects.proofs.Processes.{numbered_node, process-put_same, process-put_other, node-put_same}
-use Rattle.hk_effects.proofs.Accepting.{alive}
+use Rattle.hk_effects.proofs.Accepting.{alive, makes, with_processes}
+use Rattle.hk_effects.proofs.Frames.{accepted}
 use Rattle.hk_effects.proofs.Worlds.{the_some, the_accepted, ticked_from}
 use Rattle.hk_effects.proofs.Leases.{Seen, SeesSame, called_seen, StillEnded, seen_ended}
 
@@ -59,56 +61,56 @@ module _ (w : WorldState) where
   }
 
   module _ (id : NodeId) (x : NodeState) (at : process_at id w.processes ≡ Some (alive x)) where
-    pub step_carries : (calls : ℕ) (s : Stepped) →
+    pub step_carries : (calls : ℕ) (paces : Paces) (s : Stepped) →
         ((e : ℕ) (u v : View) → In w.views u → In w.views v → u.epoch < e → v.epoch ≡ e → In (member_numbers u.members) id.0 → (In (member_numbers v.members) id.0 → ⊥) → StillEnded x s.node) →
-        (e : ℕ) → EpochGuarded w e → EpochGuarded (record (with_step w id s) { calls = calls }) e
-    step_carries calls s still = put_carries (record (with_step w id s) { calls = calls }) id (alive s.node) refl refl
+        (e : ℕ) → EpochGuarded w e → EpochGuarded (record (with_step w id s) { calls = calls; paces = paces }) e
+    step_carries calls paces s still = put_carries (record (with_step w id s) { calls = calls; paces = paces }) id (alive s.node) refl refl
         (λ e y is u v hu hv low at_v in_u out_v g.
         let same : s.node ≡ y = ap (λ (p : Process). p.node) is in
         subst (λ (z : NodeState). z.granted < z.clock + z.skew) same (still e u v hu hv low at_v in_u out_v (g.ended id.0 x at u v hu hv low at_v in_u out_v)))
 
-    pub step_acting : (calls : ℕ) (s : Stepped) → (epoch_of s.node ≡ epoch_of x) ⊎ EpochGuarded (record (with_step w id s) { calls = calls }) (epoch_of s.node) → ActsGuarded w (record (with_step w id s) { calls = calls }) id
-    step_acting calls s epoch = record { was = x; now = s.node; at_was = ap node_of at; at_now = node-put_same id (alive s.node) w.processes; epoch = epoch }
+    pub step_acting : (calls : ℕ) (paces : Paces) (s : Stepped) → (epoch_of s.node ≡ epoch_of x) ⊎ EpochGuarded (record (with_step w id s) { calls = calls; paces = paces }) (epoch_of s.node) → ActsGuarded w (record (with_step w id s) { calls = calls; paces = paces }) id
+    step_acting calls paces s epoch = record { was = x; now = s.node; at_was = ap node_of at; at_now = node-put_same id (alive s.node) w.processes; epoch = epoch }
 
-    pub step_guards : (calls : ℕ) (s : Stepped) (a : Accepted) → a.world ≡ record (with_step w id s) { calls = calls } → acting_of a ≡ Some id →
+    pub step_guards : (calls : ℕ) (paces : Paces) (s : Stepped) (a : Accepted) → a.world ≡ record (with_step w id s) { calls = calls; paces = paces } → acting_of a ≡ Some id →
         ((e : ℕ) (u v : View) → In w.views u → In w.views v → u.epoch < e → v.epoch ≡ e → In (member_numbers u.members) id.0 → (In (member_numbers v.members) id.0 → ⊥) → StillEnded x s.node) →
-        (epoch_of s.node ≡ epoch_of x) ⊎ EpochGuarded (record (with_step w id s) { calls = calls }) (epoch_of s.node) → Guards w a
-    step_guards calls s a world acting still epoch = record {
-      carries = λ e g. subst (λ (z : WorldState). EpochGuarded z e) (sym world) (step_carries calls s still e g);
-      acting = λ i is. subst (λ (z : WorldState). ActsGuarded w z i) (sym world) (subst (ActsGuarded w (record (with_step w id s) { calls = calls })) (the_some id i (sym acting ∙ is)) (step_acting calls s epoch));
+        (epoch_of s.node ≡ epoch_of x) ⊎ EpochGuarded (record (with_step w id s) { calls = calls; paces = paces }) (epoch_of s.node) → Guards w a
+    step_guards calls paces s a world acting still epoch = record {
+      carries = λ e g. subst (λ (z : WorldState). EpochGuarded z e) (sym world) (step_carries calls paces s still e g);
+      acting = λ i is. subst (λ (z : WorldState). ActsGuarded w z i) (sym world) (subst (ActsGuarded w (record (with_step w id s) { calls = calls; paces = paces })) (the_some id i (sym acting ∙ is)) (step_acting calls paces s epoch));
     }
 
     -- an accepted step, whose world and node these are
-    pub acts_guards : (s : Stepped) →
+    pub makes_guards : (s : Stepped) (paces : Paces) →
         ((e : ℕ) (u v : View) → In w.views u → In w.views v → u.epoch < e → v.epoch ≡ e → In (member_numbers u.members) id.0 → (In (member_numbers v.members) id.0 → ⊥) → StillEnded x s.node) →
-        (epoch_of s.node ≡ epoch_of x) ⊎ EpochGuarded (with_step w id s) (epoch_of s.node) → (a : Accepted) → acts w id x s ≡ Ok a → Guards w a
-    acts_guards s still epoch a e =
-        let b : Accepted = record { world = with_step w id s; told = s.told; shown = shown_of w id x s None } in
-        let same : b ≡ a = the_accepted b a (acts w id x s) refl e in
-        step_guards w.calls s a (sym (ap (λ (z : Accepted). z.world) same)) (sym (ap acting_of same)) still epoch
+        (epoch_of s.node ≡ epoch_of x) ⊎ EpochGuarded (accepted w id x s w.calls paces None).world (epoch_of s.node) → (a : Accepted) → makes w id x s paces ≡ Ok a → Guards w a
+    makes_guards s paces still epoch a e =
+        let b : Accepted = accepted w id x s w.calls paces None in
+        let same : b ≡ a = the_accepted b a (makes w id x s paces) refl e in
+        step_guards w.calls paces s a (sym (ap (λ (z : Accepted). z.world) same)) (sym (ap acting_of same)) still epoch
 
     pub seen_guards : (s : Stepped) → SeesSame x s → (a : Accepted) → acts w id x s ≡ Ok a → Guards w a
-    seen_guards s seen a e = acts_guards s (λ e u v hu hv low at_v in_u out_v. seen_ended x s.node seen) (inl (ap (λ (z : Seen). z.epoch) seen)) a e
+    seen_guards s seen a e = makes_guards s w.paces (λ e u v hu hv low at_v in_u out_v. seen_ended x s.node seen) (inl (ap (λ (z : Seen). z.epoch) seen)) a e
 
     pub call_guards : (key : List ℕ) (op : Op) (a : Accepted) → calls_at w id key op x ≡ Ok a → Guards w a
     call_guards key op a e =
         let call : CallNo = record { 0 = w.calls + 1 } in
         let s : Stepped = called x call key op in
         let seen : SeesSame x s = called_seen x call key op in
-        let b : Accepted = record { world = record (with_step w id s) { calls = w.calls + 1 }; told = s.told; shown = shown_of w id x s (Some call) } in
+        let b : Accepted = accepted w id x s (w.calls + 1) w.paces (Some call) in
         let same : b ≡ a = the_accepted b a (calls_at w id key op x) refl e in
-        step_guards (w.calls + 1) s a (sym (ap (λ (z : Accepted). z.world) same)) (sym (ap acting_of same)) (λ e u v hu hv low at_v in_u out_v. seen_ended x s.node seen) (inl (ap (λ (z : Seen). z.epoch) seen))
+        step_guards (w.calls + 1) w.paces s a (sym (ap (λ (z : Accepted). z.world) same)) (sym (ap acting_of same)) (λ e u v hu hv low at_v in_u out_v. seen_ended x s.node seen) (inl (ap (λ (z : Seen). z.epoch) seen))
 
     -- a clock does not fall
-    pub tick_guards : (to : ℕ) (a : Accepted) → acts w id x (ticks x to) ≡ Ok a → Guards w a
-    tick_guards to a e = acts_guards (ticks x to) (λ e u v hu hv low at_v in_u out_v h. omega arith) (inl refl) a e
+    pub tick_guards : (to : ℕ) (paces : Paces) (a : Accepted) → makes w id x (ticks x to) paces ≡ Ok a → Guards w a
+    tick_guards to paces a e = makes_guards (ticks x to) paces (λ e u v hu hv low at_v in_u out_v h. omega arith) (inl refl) a e
 
   pub aside_guards : (next : WorldState) (v : Option View) → ((e : ℕ) → EpochGuarded w e → EpochGuarded next e) → (a : Accepted) → aside next (record nothing { view = v }) ≡ Ok a → Guards w a
   aside_guards next v carries a e =
       subst (Guards w) (the_accepted (record { world = next; told = []; shown = record nothing { view = v } }) a (aside next (record nothing { view = v })) refl e) (record { carries = carries; acting = λ i none. cc })
 
-  pub tick_all_guards : (to : ℕ) (a : Accepted) → aside (record w { processes = map (process_ticked to) w.processes }) nothing ≡ Ok a → Guards w a
-  tick_all_guards to a e = aside_guards (record w { processes = map (process_ticked to) w.processes }) None (λ k g. record {
+  pub tick_all_guards : (to : ℕ) (paces : Paces) (a : Accepted) → aside (with_processes w (map (process_ticked to) w.processes) paces) nothing ≡ Ok a → Guards w a
+  tick_all_guards to paces a e = aside_guards (with_processes w (map (process_ticked to) w.processes) paces) None (λ k g. record {
     upto = g.upto;
     ended = λ id y at u v hu hv low at_v in_u out_v.
         let f = ticked_from to (numbered_node id) w.processes (alive y) at in
@@ -121,13 +123,13 @@ module _ (w : WorldState) where
   }) a e
 
   -- a process that is put, whose lease has ended, or that has crashed
-  pub put_guards : (id : NodeId) (p : Process) → ((y : NodeState) → p ≡ alive y → y.granted < y.clock + y.skew) → (a : Accepted) → aside (record w { processes = put_process id p w.processes }) nothing ≡ Ok a → Guards w a
-  put_guards id p ended a e = aside_guards (record w { processes = put_process id p w.processes }) None
-      (put_carries (record w { processes = put_process id p w.processes }) id p refl refl (λ e y is u v hu hv low at_v in_u out_v g. ended y is)) a e
+  pub put_guards : (id : NodeId) (p : Process) (paces : Paces) → ((y : NodeState) → p ≡ alive y → y.granted < y.clock + y.skew) → (a : Accepted) → aside (with_processes w (put_process id p w.processes) paces) nothing ≡ Ok a → Guards w a
+  put_guards id p paces ended a e = aside_guards (with_processes w (put_process id p w.processes) paces) None
+      (put_carries (with_processes w (put_process id p w.processes) paces) id p refl refl (λ e y is u v hu hv low at_v in_u out_v g. ended y is)) a e
 
-  pub crash_guards : (id : NodeId) (x : NodeState) (a : Accepted) → crashes_at w id x ≡ Ok a → Guards w a
-  crash_guards id x a e = put_guards id (record { node = x; crashed = true }) (λ y is. absurd (false≢true (sym (ap (λ (p : Process). p.crashed) is)))) a e
+  pub crash_guards : (id : NodeId) (x : NodeState) (paces : Paces) (a : Accepted) → aside (with_processes w (put_process id (record { node = x; crashed = true }) w.processes) paces) nothing ≡ Ok a → Guards w a
+  crash_guards id x paces a e = put_guards id (record { node = x; crashed = true }) paces (λ y is. absurd (false≢true (sym (ap (λ (p : Process). p.crashed) is)))) a e
 
   -- a joiner has no lease
-  pub join_guards : (id : NodeId) (a : Accepted) → aside (record w { processes = put_process id (joining w id) w.processes }) nothing ≡ Ok a → Guards w a
-  join_guards id a e = put_guards id (joining w id) (λ y is. subst (λ (p : Process). p.node.granted < p.node.clock + p.node.skew) is (omega arith)) a e
+  pub join_guards : (id : NodeId) (paces : Paces) (a : Accepted) → aside (with_processes w (put_process id (joining w id) w.processes) paces) nothing ≡ Ok a → Guards w a
+  join_guards id paces a e = put_guards id (joining w id) paces (λ y is. subst (λ (p : Process). p.node.granted < p.node.clock + p.node.skew) is (omega arith)) a e

@@ -27,7 +27,7 @@ use Rattle.hk_node.specs.Sends.{letters_to}
 use Rattle.hk_node.specs.Stepped.{Stepped, idle}
 use Rattle.hk_node.specs.Calls.{kind_of, next_stamp, register_in, at_limit, at_turn, at_state, lease_end, at_lease, called}
 use Rattle.hk_node.specs.Copies.{asks_copy, batch_behind, merged, is_next}
-use Rattle.hk_node.specs.Steps.{on_found, replayed, received, is_addressed, receives_from, receives}
+use Rattle.hk_node.specs.Steps.{on_found, replayed, asks_lease, received, is_addressed, receives_from, receives}
 use Rattle.hk_world.proofs.Unmanaged.{unheard}
 use Rattle.hk_world.specs.declared.process.Process.{Process}
 use Rattle.hk_world.specs.World.{Processes, process_at}
@@ -82,6 +82,9 @@ replayed_seen x key = given_seen x (on_found (find_row key x.rows) x key (replay
 
 pub asks_seen : (x : NodeState) (from : NodeId) (room : ℕ) → SeesSame x (asks_copy x from room)
 asks_seen x from room = given_seen x (record { node = x; letters = letters_to x (CopyAsk x.cursor room) (from ∷ []); told = []; installed = None }) (not x.ready && is_other x from) refl
+
+pub asks_lease_seen : (x : NodeState) (manager : ℕ) → SeesSame x (asks_lease x manager)
+asks_lease_seen x manager = given_seen x (record { node = x; letters = record { epoch = epoch_of x; from = A.Node x.id; to = A.Manager manager; body = LeaseAsk x.clock } ∷ []; told = []; installed = None }) (ltb manager x.managers) refl
 
 received_seen : (body : Body) (x : NodeState) (from : NodeId) → SeesSame x (received body x from)
 received_seen (Inv k s kind content) x from = refl

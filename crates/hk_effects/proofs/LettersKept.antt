@@ -12,7 +12,8 @@ use Rattle.std.proofs.lemmas.Map.Entries.{none_past_head}
 use Rattle.std.proofs.lemmas.Map.Keys.{sorted_head, sorted_tail, IsDistinct-from_sorted}
 use Rattle.hk_base.specs.declared.stamp.NodeId.{NodeId}
 use Rattle.hk_base.specs.declared.letter.Body.{Body}
-use Rattle.hk_base.specs.declared.letter.Body.TheVariants.{CopyGive}
+use Rattle.hk_base.specs.declared.letter.Body.TheVariants.{Inv, Ack, Val, CopyAsk, CopyGive, LeaseAsk, LeaseGive, Prepare, Promise, Accept, Accepted, Chosen, Activate}
+use Rattle.hk_base.specs.declared.view.View.{View}
 use Rattle.hk_base.specs.declared.letter.Letter.{Letter}
 use Rattle.hk_base.specs.declared.letter.CopyItem.{CopyItem}
 use Rattle.hk_copy.specs.Batches.{key_cmp, IsRising, is_after, rows_after, size_of, cut, with_taken, nothing_taken, is_nil}
@@ -31,23 +32,46 @@ use Rattle.hk_node.specs.Copies.{copies_of, batch_behind}
 use Rattle.hk_effects.specs.Own.{IsSmall, IsRowOf, IsTold}
 use Rattle.hk_effects.proofs.RowsKept.{MayWait, first_of}
 
+-- A node lets no view begin; what else it says is in range.
+abbrev pub IsSaid : Body → Type 0
+IsSaid (Activate view) = ⊥
+IsSaid body = IsTold body
+
+pub said_told : (body : Body) → IsSaid body → IsTold body
+said_told (Activate view) h = tt
+said_told (Inv k s kind content) h = h
+said_told (Ack k s top) h = h
+said_told (Val k s) h = h
+said_told (CopyAsk after room) h = h
+said_told (CopyGive after done items) h = h
+said_told (LeaseAsk asked) h = h
+said_told (LeaseGive end) h = h
+said_told (Prepare ballot) h = h
+said_told (Promise ballot vote) h = h
+said_told (Accept ballot view) h = h
+said_told (Accepted ballot) h = h
+said_told (Chosen view) h = h
+
+pub said_begins_none : (body : Body) (v : View) → IsSaid body → body ≡ Activate v → ⊥
+said_begins_none body v h is = subst IsSaid is h
+
 -- all letters are
 abbrev pub AreTold : List Letter → Type 0
-AreTold ls = (l : Letter) → In ls l → IsTold l.body
+AreTold ls = (l : Letter) → In ls l → IsSaid l.body
 
 pub none_told : AreTold []
 none_told l h = absurd h
 
-pub letters_told : (x : NodeState) (b : Body) (ns : List NodeId) → IsTold b → AreTold (letters_to x b ns)
+pub letters_told : (x : NodeState) (b : Body) (ns : List NodeId) → IsSaid b → AreTold (letters_to x b ns)
 letters_told x b [] ok l h = absurd h
-letters_told x b (n ∷ ns) ok l (inl e) = subst (λ (k : Letter). IsTold k.body) (sym e) ok
+letters_told x b (n ∷ ns) ok l (inl e) = subst (λ (k : Letter). IsSaid k.body) (sym e) ok
 letters_told x b (n ∷ ns) ok l (inr h) = letters_told x b ns ok l h
 
-body_told : (calls : ℕ) (k : List ℕ) (row : Row) (what : What) → IsRowOf calls row → IsTold (body_of k row what)
+body_told : (calls : ℕ) (k : List ℕ) (row : Row) (what : What) → IsRowOf calls row → IsSaid (body_of k row what)
 body_told calls k row InvRow ok = ok.small
 body_told calls k row InvPending ok = by_pending row.pending ok.pending
   where
-    by_pending : (p : Option Pending) → MayWait calls p → IsTold (pending_body k row p)
+    by_pending : (p : Option Pending) → MayWait calls p → IsSaid (pending_body k row p)
     by_pending None h = ok.small
     by_pending (Some p) h = h.small
 body_told calls k row (AckOf s top) ok = tt
@@ -137,7 +161,7 @@ rising_taken (suc room) bytes (i ∷ items) h = by_test (nat_le (size_of i) byte
 
 -- the batch of a node whose rows stand in key order
 pub batch_told : (calls : ℕ) (x : NodeState) (after : Option (List ℕ)) (room : ℕ) → IsStrictlySortedBy key_cmp (keys_of x.rows) → ((key : List ℕ) → IsRowOf calls (row_at key x.rows)) →
-    IsTold (CopyGive after (is_nil (batch_behind x after room).left) (batch_behind x after room).taken)
+    IsSaid (CopyGive after (is_nil (batch_behind x after room).left) (batch_behind x after room).taken)
 batch_told calls x after room ordered ok = (
   all_taken (λ item. is_after after item ≡ true) room MAX_BATCH_BYTES (rows_after after (copies_of x.rows)) (each_passes (is_after after) (copies_of x.rows)),
   rising_taken room MAX_BATCH_BYTES (rows_after after (copies_of x.rows)) (rising_passing (is_after after) (copies_of x.rows) (copies_rise x.rows ordered)),

@@ -36,6 +36,9 @@ pub mod Guards
 pub mod EventGuards
 pub mod Numbered
 pub mod Founders
+pub mod Led
+pub mod Ending
 pub mod Runs
 pub mod Legality
 pub mod Shown
+pub mod Managers

@@ -1,6 +1,7 @@
 -- The step of a live node in a world, for one key, and events that are no node's step.
-use Rattle.std.proofs.Common.{◌≡◌, ◌⊎◌, ℕ, ◌+◌, Bool, true, false, List, [], ◌<◌, ◌≤◌, ◌∙◌, sym, refl, ap, subst, inl, inr, ⊎_elim, arith, Option, Some, None, Result, Ok}
+use Rattle.std.proofs.Common.{◌≡◌, ◌⊎◌, ℕ, ◌+◌, true, false, List, [], ◌<◌, ◌≤◌, ◌∙◌, sym, refl, ap, subst, inl, inr, ⊎_elim, arith, Option, Some, None, Result, Ok}
 use Rattle.std.proofs.lemmas.Bool.{cases_order}
+use Rattle.std.specs.Option.{option_map}
 use Rattle.hk_base.specs.declared.stamp.NodeId.{NodeId}
 use Rattle.hk_base.specs.declared.call.CallNo.{CallNo}
 use Rattle.hk_base.specs.View.{member_numbers}
@@ -9,18 +10,19 @@ use Rattle.hk_register.specs.Effects.{Fresh, Leased}
 use Rattle.hk_register.specs.Effects.Effect.{Quiet}
 use Rattle.hk_register.specs.Parts.{Parts}
 use Rattle.hk_register.proofs.Helps.{ready_in}
+use Rattle.hk_clocks.specs.Clocks.{Paces}
 use Rattle.hk_node.specs.Node.{NodeState, epoch_of, epoch_in, members_of, is_member}
 use Rattle.hk_node.specs.Sound.{IsNode}
 use Rattle.hk_node.specs.Stepped.{Stepped}
 use Rattle.hk_world.specs.declared.event.Event.{Event}
-use Rattle.hk_world.specs.declared.process.Process.{Process}
 use Rattle.hk_world.specs.declared.refused.Refused.{Refused}
-use Rattle.hk_base.specs.declared.view.View.{View}
 use Rattle.hk_world.specs.World.{WorldState, process_at, node_of}
-use Rattle.hk_world.specs.Steps.{Accepted, nothing, aside, live, live_at, running_at}
-use Rattle.hk_effects.specs.View.{key_node, node_at, Trace, view, traced}
+use Rattle.hk_world.specs.Steps.{Accepted, acting_of, aside}
+use Rattle.hk_world.specs.declared.shown.Shown.{Shown}
+use Rattle.hk_effects.specs.View.{key_node, node_at, letters_of, Trace, view, traced_by, traced}
 use Rattle.hk_effects.specs.Own.{IsNodeOf, IsOwn, IsTrace, Agrees}
 use Rattle.hk_effects.specs.Laws.{Effects}
+use Rattle.hk_effects.proofs.Accepting.{alive}
 use Rattle.hk_effects.proofs.Frames.{itself, accepted, items_said, step_change}
 use Rattle.hk_effects.proofs.Processes.{cases_member}
 use Rattle.hk_effects.proofs.Nodes.{OwesNode}
@@ -39,7 +41,7 @@ module _ (V : ℕ → List ℕ) (key : List ℕ) (t : Trace) (parts : Parts V (v
 
   -- the process of a live node
   abbrev pub IsLive : NodeState → Type 0
-  IsLive x = process_at x.id t.world.processes ≡ Some (record { node = x; crashed = false })
+  IsLive x = process_at x.id t.world.processes ≡ Some (alive x)
 
   pub live_is : (x : NodeState) → IsLive x → node_at x.id.0 t.world.processes ≡ Some x
   live_is x alive = ap node_of alive
@@ -53,17 +55,21 @@ module _ (V : ℕ → List ℕ) (key : List ℕ) (t : Trace) (parts : Parts V (v
   OwesLive x alive o hs = OwesNode V (view key t) parts key x (here x alive) o hs
 
   -- the effect of a live node's step
-  pub stepped_effect : (event : Event) (calls : ℕ) (call : Option CallNo) (id : NodeId) (x : NodeState) → x.id ≡ id → (alive : IsLive x) (o : Stepped) (a : Accepted) → OwesLive x alive o (items_said key event (t.world.calls + 1) x o) →
-      accepts (accepted t.world id x o calls call) ≡ accepts a → IsEffects event a
-  stepped_effect event calls call id x same alive o a owes e =
-      let is : a ≡ accepted t.world x.id x o calls call = sym (accepts_same (accepted t.world id x o calls call) a e) ∙ ap (λ (i : NodeId). accepted t.world i x o calls call) (sym same) in
-      rw is (owes (view key (traced key t event (accepted t.world x.id x o calls call))) (step_change key t event calls call x.id x o (live_is x alive)))
+  pub stepped_effect : (event : Event) (calls : ℕ) (paces : Paces) (call : Option CallNo) (id : NodeId) (x : NodeState) → x.id ≡ id → (alive : IsLive x) (o : Stepped) (a : Accepted) → OwesLive x alive o (items_said key event (t.world.calls + 1) x o) →
+      accepts (accepted t.world id x o calls paces call) ≡ accepts a → IsEffects event a
+  stepped_effect event calls paces call id x same alive o a owes e =
+      let is : a ≡ accepted t.world x.id x o calls paces call = sym (accepts_same (accepted t.world id x o calls paces call) a e) ∙ ap (λ (i : NodeId). accepted t.world i x o calls paces call) (sym same) in
+      rw is (owes (view key (traced key t event (accepted t.world x.id x o calls paces call))) (step_change key t event calls paces call x.id x o (live_is x alive)))
 
   -- no node's step: no node looks different for the key, and nothing is sent
-  pub aside_effect : (event : Event) (w : WorldState) (v : Option View) (a : Accepted) → ((m : ℕ) → key_node key (node_at m w.processes) ≡ key_node key (node_at m t.world.processes)) → w.letters ≡ t.world.letters → aside w (record nothing { view = v }) ≡ accepts a → IsEffects event a
-  aside_effect event w v a same letters e =
-      let is : a ≡ record { world = w; told = []; shown = record nothing { view = v } } = sym (accepts_same (record { world = w; told = []; shown = record nothing { view = v } }) a e) in
-      rw is (inl (
+  pub aside_effect : (event : Event) (w : WorldState) (shown : Shown) (a : Accepted) → shown.acted ≡ None → ((m : ℕ) → key_node key (node_at m w.processes) ≡ key_node key (node_at m t.world.processes)) →
+      letters_of key w.letters ≡ letters_of key t.world.letters → aside w shown ≡ accepts a → IsEffects event a
+  aside_effect event w shown a none same letters e =
+      let b : Accepted = record { world = w; told = []; shown = shown } in
+      let is : a ≡ b = sym (accepts_same b a e) in
+      let unacted : acting_of a ≡ None = ap acting_of is ∙ ap (option_map (λ acted. acted.node)) none in
+      let next : traced key t event a ≡ record { world = w; marks = t.marks; begun = t.begun; history = t.history } = ap (traced_by key t event a) unacted ∙ ap (λ (b : Accepted). traced_by key t event b None) is in
+      rw next (inl (
         Quiet 0,
         record {
           allowed = tt;
@@ -80,21 +86,11 @@ module _ (V : ℕ → List ℕ) (key : List ℕ) (t : Trace) (parts : Parts V (v
         },
       ))
 
-  -- what a live node does
-  pub live_effect : (event : Event) (id : NodeId) (f : NodeState → Result Accepted Refused) (a : Accepted) → ((x : NodeState) → x.id ≡ id → IsLive x → f x ≡ accepts a → IsEffects event a) → live t.world id f ≡ accepts a → IsEffects event a
-  live_effect event id f a effect e = by_process (process_at id t.world.processes) refl e
-    where
-      by_crashed : (p : Process) → process_at id t.world.processes ≡ Some p → (b : Bool) → p.crashed ≡ b → running_at b p.node f ≡ accepts a → IsEffects event a
-      by_crashed p at true c e = cc
-      by_crashed p at false c e =
-          let same : p.node.id ≡ id = (node_holds t.world own.sound id.0 p.node (ap node_of at)).0 in
-          let there : process_at id t.world.processes ≡ Some (record { node = p.node; crashed = false }) = at ∙ ap (λ (b : Bool). Some (record { node = p.node; crashed = b })) c in
-          let alive : IsLive p.node = subst (λ (i : NodeId). process_at i t.world.processes ≡ Some (record { node = p.node; crashed = false })) (sym same) there in
-          effect p.node same alive e
-
-      by_process : (o : Option Process) → process_at id t.world.processes ≡ o → live_at o f ≡ accepts a → IsEffects event a
-      by_process None at e = cc
-      by_process (Some p) at e = by_crashed p at p.crashed refl e
+  -- a process that runs is a live node's
+  pub lives : (id : NodeId) (x : NodeState) → process_at id t.world.processes ≡ Some (alive x) → (x.id ≡ id) × IsLive x
+  lives id x at =
+      let same : x.id ≡ id = (node_holds t.world own.sound id.0 x (ap node_of at)).0 in
+      (same, subst (λ (i : NodeId). process_at i t.world.processes ≡ Some (alive x)) (sym same) at)
 
   -- no call so far has the next number
   pub fresh_call : Fresh (view key t) (t.world.calls + 1)

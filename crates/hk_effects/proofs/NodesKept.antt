@@ -37,13 +37,13 @@ use Rattle.hk_node.specs.Node.{NodeState, epoch_of, members_of, is_member, is_ot
 use Rattle.hk_node.specs.Sends.{letters_to, sent}
 use Rattle.hk_node.specs.Stepped.{Stepped, idle, told_of, row_step}
 use Rattle.hk_node.specs.Calls.{kind_of, next_stamp, register_in, answers, at_limit, at_turn, at_state, lease_end, at_lease, called}
+use Rattle.hk_node.specs.Heard.{raised, is_greatest, has_majority}
 use Rattle.hk_node.specs.Copies.{asks_copy, batch_behind, gives_copy, merged, is_next, takes_copy}
-use Rattle.hk_node.specs.Steps.{on_found, resent, replayed, viewed, installed_in, installs, received, is_addressed, receives_from, receives, ticks, grants}
-use Rattle.hk_world.proofs.Unmanaged.{unheard}
+use Rattle.hk_node.specs.Steps.{on_found, resent, replayed, asks_lease, heard, viewed, installed_in, installs, installs_by_majority, received, is_addressed, receives_from, receives, ticks, grants}
 use Rattle.hk_effects.specs.Own.{IsSmall, IsRowOf, IsNodeOf, IsTold}
 use Rattle.hk_effects.proofs.Acts.{alike}
 use Rattle.hk_effects.proofs.RowsKept.{IsReplyOf, IsDoneOf, first_of, still_of, inv_of, val_of, copy_of_row, begin_of, replay_of, resend_of, view_of_row, ack_of, row_more, with_row_of, found_of}
-use Rattle.hk_effects.proofs.LettersKept.{AreTold, none_told, letters_told, sent_told, each_row, batch_told}
+use Rattle.hk_effects.proofs.LettersKept.{IsSaid, AreTold, none_told, letters_told, sent_told, each_row, batch_told}
 
 -- the calls that are answered are of so far
 abbrev pub AreAnswered : ℕ → List (List ℕ × Reply) → Type 0
@@ -148,6 +148,16 @@ module _ (views : List View) (calls : ℕ) (x : NodeState) (mine : IsNodeOf view
       by_test true = record { node = mine; letters = letters_told x (CopyAsk x.cursor room) (from ∷ []) tt; told = λ t h. absurd h }
       by_test false = idle_fine
 
+  pub asks_lease_fine : (manager : ℕ) → Fine (asks_lease x manager)
+  asks_lease_fine manager = by_there (ltb manager x.managers)
+    where
+      ask : Letter
+      ask = record { epoch = epoch_of x; from = A.Node x.id; to = A.Manager manager; body = LeaseAsk x.clock }
+
+      by_there : (b : Bool) → Fine (cond b (record { node = x; letters = ask ∷ []; told = []; installed = None }) (idle x))
+      by_there true = record { node = mine; letters = λ l h. ⊎_elim (λ (is : l ≡ ask). subst (λ (m : Letter). IsSaid m.body) (sym is) tt) (λ (none : ⊥). absurd none) h; told = λ t h. absurd h }
+      by_there false = idle_fine
+
   gives_fine : (to : NodeId) (after : Option (List ℕ)) (room : ℕ) → Fine (gives_copy x to after room)
   gives_fine to after room = by_ready x.ready
     where
@@ -178,17 +188,6 @@ module _ (views : List View) (calls : ℕ) (x : NodeState) (mine : IsNodeOf view
   received_fine (Chosen view) told from = idle_fine
   received_fine (Activate view) told from = idle_fine
 
-  pub receives_fine : (l : Letter) → IsTold l.body → x.managers ≡ 0 → Fine (receives x l)
-  receives_fine l told none = by_from l.from
-    where
-      by_test : (from : NodeId) (b : Bool) → Fine (cond b (received l.body x from) (idle x))
-      by_test from true = received_fine l.body told from
-      by_test from false = idle_fine
-
-      by_from : (a : Actor) → Fine (receives_from a x l)
-      by_from (A.Manager m) = subst (λ (s : Stepped). Fine s) (sym (unheard x l m none)) idle_fine
-      by_from (A.Node from) = by_test from (is_addressed x l.to && (eqb l.epoch (epoch_of x) && is_other x from))
-
   -- ---- clocks and leases
   pub ticks_fine : (now : ℕ) → Fine (ticks x now)
   ticks_fine now = record { node = record { small = mine.small; agreed = mine.agreed; row = mine.row }; letters = none_told; told = λ t h. absurd h }
@@ -218,19 +217,68 @@ module _ (views : List View) (calls : ℕ) (x : NodeState) (mine : IsNodeOf view
       by_found None h = first_of calls
       by_found (Some r) h = (view_of_row calls y.id (members_of y) r h).row
 
-  pub installs_fine : (v : View) → In views v → Fine (installs x v)
-  installs_fine v agreed = by_test (ltb (epoch_of x) v.epoch && is_member x.id v.members)
+  noted_fine : (activated : List ℕ) → Fine (idle (record x { activated = activated }))
+  noted_fine activated = record { node = record { small = mine.small; agreed = mine.agreed; row = mine.row }; letters = none_told; told = λ t h. absurd h }
+
+  -- with what it noted of ACTIVATEs
+  noted_installs_fine : (v : View) (activated : List ℕ) → In views v → Fine (installs (record x { activated = activated }) v)
+  noted_installs_fine v activated agreed = by_test (ltb (epoch_of x) v.epoch && is_member x.id v.members)
     where
       the_view : (u : View) → Some v ≡ Some u → In views u
       the_view u e = let same : v ≡ u = cc in subst (λ (z : View). In views z) same agreed
 
-      by_test : (b : Bool) → Fine (cond b (installed_in (record x { view = Some v }) v.epoch) (idle x))
+      by_test : (b : Bool) → Fine (cond b (installed_in (record x { view = Some v; activated = activated }) v.epoch) (idle (record x { activated = activated })))
       by_test true =
-          let y : NodeState = record x { view = Some v } in
+          let y : NodeState = record x { view = Some v; activated = activated } in
           let good = each_row calls x.rows ordered mine.row in
           record {
             node = record { small = mine.small; agreed = the_view; row = λ key. viewed_row y key x.rows (mine.row key) };
             letters = viewed_letters y x.rows good;
             told = viewed_told y x.rows good;
           }
-      by_test false = idle_fine
+      by_test false = noted_fine activated
+
+  pub installs_fine : (v : View) → In views v → Fine (installs x v)
+  installs_fine v agreed = noted_installs_fine v x.activated agreed
+
+  -- ---- letters of managers, and all letters
+  heard_fine : (body : Body) (m : ℕ) → ((v : View) → body ≡ Activate v → In views v) → Fine (heard body x m)
+  heard_fine (LeaseGive end) m begun = record { node = record { small = mine.small; agreed = mine.agreed; row = mine.row }; letters = none_told; told = λ t h. absurd h }
+  heard_fine (Activate v) m begun = by_greatest (is_greatest v.epoch x.activated)
+    where
+      after : List ℕ
+      after = raised m v.epoch x.activated
+
+      by_majority : (b : Bool) → Fine (cond b (installs (record x { activated = after }) v) (idle (record x { activated = after })))
+      by_majority true = noted_installs_fine v after (begun v refl)
+      by_majority false = noted_fine after
+
+      by_greatest : (b : Bool) → Fine (cond b (installs_by_majority (record x { activated = after }) v) (idle x))
+      by_greatest true = by_majority (has_majority v.epoch after)
+      by_greatest false = idle_fine
+  heard_fine (Inv k s kind content) m begun = idle_fine
+  heard_fine (Ack k s top) m begun = idle_fine
+  heard_fine (Val k s) m begun = idle_fine
+  heard_fine (CopyAsk after room) m begun = idle_fine
+  heard_fine (CopyGive after done items) m begun = idle_fine
+  heard_fine (LeaseAsk asked) m begun = idle_fine
+  heard_fine (Prepare ballot) m begun = idle_fine
+  heard_fine (Promise ballot vote) m begun = idle_fine
+  heard_fine (Accept ballot view) m begun = idle_fine
+  heard_fine (Accepted ballot) m begun = idle_fine
+  heard_fine (Chosen view) m begun = idle_fine
+
+  pub receives_fine : (l : Letter) → IsTold l.body → ((v : View) → l.body ≡ Activate v → In views v) → Fine (receives x l)
+  receives_fine l told begun = by_from l.from
+    where
+      by_test : (from : NodeId) (b : Bool) → Fine (cond b (received l.body x from) (idle x))
+      by_test from true = received_fine l.body told from
+      by_test from false = idle_fine
+
+      by_heard : (m : ℕ) (b : Bool) → Fine (cond b (heard l.body x m) (idle x))
+      by_heard m true = heard_fine l.body m begun
+      by_heard m false = idle_fine
+
+      by_from : (a : Actor) → Fine (receives_from a x l)
+      by_from (A.Manager m) = by_heard m (is_addressed x l.to && ltb m x.managers)
+      by_from (A.Node from) = by_test from (is_addressed x l.to && (eqb l.epoch (epoch_of x) && is_other x from))

@@ -1,6 +1,6 @@
 -- The worked worlds: each event is accepted, its effects are allowed, and what the key has of it is computed.
 use Rattle.std.proofs.Common.{Some, None}
-use Rattle.std.proofs.Common.{◌≡◌, ℕ, zero, suc, ◌≤◌, Bool, true, false, List, [], ◌∷◌, ◌++◌, Ok, Err, Result, refl, inl, inr, ⊎_elim, arith}
+use Rattle.std.proofs.Common.{◌≡◌, ℕ, zero, suc, ◌<◌, ◌≤◌, Bool, true, false, List, [], ◌∷◌, ◌++◌, Ok, Err, Result, refl, inl, inr, ⊎_elim, arith}
 use Rattle.std.specs.Prelude.{take, map}
 use Rattle.std.specs.List.{flat_map}
 use Rattle.std.proofs.lemmas.Bool.{leb-true, ltb-true}
@@ -16,13 +16,13 @@ use Rattle.hk_world.specs.declared.event.Event.{Event}
 use Rattle.hk_world.specs.declared.refused.Refused.{Refused}
 use Rattle.hk_world.specs.Steps.{Accepted, world_step}
 use Rattle.hk_world.specs.Sound.{IsEvent}
-use Rattle.hk_world.specs.Worked.{group, key}
+use Rattle.hk_world.specs.Worked.{managed, key}
 use Rattle.hk_effects.specs.View.{Trace, view, letters_of, traced}
 use Rattle.hk_effects.specs.Runs.{start_trace}
 use Rattle.hk_effects.specs.Orders.{family}
 use Rattle.hk_effects.specs.Worked.{Step, Shows, all_nodes, sent_by, marked_by, repeated, by_zero, by_one, more_by_zero, more_by_one}
-use Rattle.hk_effects.specs.Worked.{val_kept, left_invalid, countered, replayed, pending_installed, left_alone, joined, copied_valid, passed}
-use Rattle.hk_effects.specs.Worked.{ValKept, LeftInvalid, Countered, Replayed, PendingInstalled, LeftAlone, Joined, CopiedValid, Passed}
+use Rattle.hk_effects.specs.Worked.{val_kept, left_invalid, countered, replayed, pending_installed, left_alone, view_begun, joined, copied_valid, passed}
+use Rattle.hk_effects.specs.Worked.{ValKept, LeftInvalid, Countered, Replayed, PendingInstalled, LeftAlone, ViewBegun, Joined, CopiedValid, Passed}
 
 -- the trace after some events
 abbrev next : Trace → Event → Result Accepted Refused → Trace
@@ -34,8 +34,11 @@ trace_after t [] = t
 trace_after t (step ∷ steps) = trace_after (next t step.event (world_step t.world step.event)) steps
 
 -- before the event of this place
+abbrev trace_with : ℕ → ℕ → List Step → ℕ → Trace
+trace_with nodes managers steps k = trace_after (start_trace (managed nodes managers 0)) (take k steps)
+
 abbrev trace_at : ℕ → List Step → ℕ → Trace
-trace_at nodes steps k = trace_after (start_trace (group nodes 0)) (take k steps)
+trace_at nodes steps k = trace_with nodes 0 steps k
 
 room_of_one : IsRoom 1
 room_of_one = record { some = omega arith; few = omega arith }
@@ -45,6 +48,12 @@ room_of_nine = record { some = omega arith; few = omega arith }
 
 lease_end : 1000 ≤ MAX_TIME
 lease_end = omega arith
+
+later : 2000 ≤ MAX_TIME
+later = omega arith
+
+a_manager : 0 < 9
+a_manager = omega arith
 
 -- a node with no view is in epoch 0
 no_view_yet : 1 ≤ 0 → ⊥
@@ -605,6 +614,91 @@ left_alone_shows = (
 
     members : ℕ → ℕ → List ℕ
     members k = family (trace_at 2 left_alone k).world.views
+
+pub view_begun_shows : ViewBegun
+view_begun_shows = (
+  _,
+  shows refl tt (
+    (
+      refl,
+      refl,
+      leased (members 0) (at 0) 0 refl,
+      ltb-true _ _ refl,
+      refl,
+      refl,
+      refl,
+      λ _. blind five,
+      by_zero_changes,
+      fresh (at 0) 1 refl,
+    ),
+    tt,
+  )
+      refl refl ((_, itself _, inl refl), tt) refl refl,
+  (
+    _,
+    shows refl a_manager (tt, tt) refl refl tt refl refl,
+    (
+      _,
+      shows refl tt (tt, tt) refl refl tt refl refl,
+      (
+        _,
+        shows refl tt (tt, tt) refl refl tt refl refl,
+        (
+          _,
+          shows refl tt (tt, tt) refl refl tt refl refl,
+          (
+            _,
+            shows refl tt (tt, tt) refl refl tt refl refl,
+            (
+              _,
+              shows refl later (tt, tt) refl refl tt refl refl,
+              (
+                _,
+                shows refl a_manager (tt, tt) refl refl tt refl refl,
+                (
+                  _,
+                  shows refl tt (
+                    (
+                      ltb-true _ _ refl,
+                      inl refl,
+                      λ f _ low high. up_to_two (λ e. In (members 8 e) 0) (inl refl) (inl refl) f low high,
+                      refl,
+                    ),
+                    ((refl, noted (members 8) 2 0 [] refl, refl, all_exact [] refl), tt),
+                  )
+                      refl refl ((_, itself _, inl refl), ((_, itself _, inr (inl refl)), tt)) refl refl,
+                  (
+                    _,
+                    shows refl a_manager (tt, tt) refl refl tt refl refl,
+                    (
+                      _,
+                      shows refl tt (tt, tt) refl refl tt refl refl,
+                      (
+                        _,
+                        shows refl tt (tt, tt) refl refl tt refl refl,
+                        (
+                          _,
+                          shows refl tt ((refl, refl, leased (members 12) (at 12) 0 refl, λ _. refl, fresh (at 12) 2 refl, refl), tt) refl refl tt refl refl,
+                          tt,
+                        ),
+                      ),
+                    ),
+                  ),
+                ),
+              ),
+            ),
+          ),
+        ),
+      ),
+    ),
+  ),
+)
+  where
+    at : ℕ → State
+    at k = view key (trace_with 2 1 view_begun k)
+
+    members : ℕ → ℕ → List ℕ
+    members k = family (trace_with 2 1 view_begun k).world.views
 
 pub joined_shows : Joined
 joined_shows = (

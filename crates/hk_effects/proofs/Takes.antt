@@ -1,6 +1,6 @@
 -- A letter that is taken is, for each key, an effect or two.
-use Rattle.std.proofs.Common.{◌≡◌, ◌≢◌, ℕ, Bool, true, false, cond, not, ◌&&◌, List, [], ◌≤◌, ◌<◌, ◌∙◌, refl, ap, subst, inl, ⊎_elim, Option, Some, None, eqb, nat_cmp, IfSome, sym}
-use Rattle.std.proofs.lemmas.Bool.{eqb-true, and_parts}
+use Rattle.std.proofs.Common.{◌≡◌, ◌≢◌, ℕ, Bool, true, false, cond, not, ◌&&◌, List, [], ◌++◌, append-nil, ◌≤◌, ◌<◌, ◌∙◌, refl, ap, subst, inl, ⊎_elim, Option, Some, None, eqb, ltb, nat_cmp, IfSome, sym}
+use Rattle.std.proofs.lemmas.Bool.{eqb-true, ltb-true, and_parts}
 use Rattle.hk_base.specs.declared.stamp.Stamp.{Stamp}
 use Rattle.hk_base.specs.declared.stamp.NodeId.{NodeId}
 use Rattle.hk_base.specs.declared.stamp.Kind.{Kind}
@@ -18,28 +18,33 @@ use Rattle.hk_key.specs.declared.row.Row.{Row}
 use Rattle.hk_key.specs.Table.{still, on_inv, on_val, on_ack, on_ack_pending}
 use Rattle.hk_key.proofs.Rising.{inv_never_lowers, ack_never_lowers, val_never_lowers}
 use Rattle.hk_node.proofs.Acts.{inv_untouched, val_untouched, untouched_stays}
-use Rattle.hk_register.specs.Machine.{In}
+use Rattle.hk_register.specs.Machine.{In, Letter}
 use Rattle.hk_register.specs.Machine.Letter.{Inv, Ack as AckL, Val}
 use Rattle.hk_register.specs.Parts.{Parts}
 use Rattle.hk_node.specs.Rows.{find_row, row_at}
 use Rattle.hk_node.specs.Node.{NodeState, epoch_of, members_of, is_member, is_other}
 use Rattle.hk_node.specs.Stepped.{Stepped, idle, row_step}
+use Rattle.hk_node.specs.Heard.{raised, is_greatest, has_majority}
 use Rattle.hk_node.specs.Copies.{gives_copy, takes_copy}
-use Rattle.hk_node.specs.Steps.{received, receives, receives_from, is_addressed, installs}
+use Rattle.hk_node.specs.Steps.{granted_by, heard, received, receives, receives_from, is_addressed, installed_in, installs, installs_by_majority}
 use Rattle.hk_world.specs.declared.event.Event.TheVariants.{Take}
 use Rattle.hk_world.specs.World.{numbered}
-use Rattle.hk_world.specs.Steps.{Accepted, acts, takes, live_actor}
-use Rattle.hk_world.proofs.Unmanaged.{unheard}
+use Rattle.hk_manager.specs.declared.event.ManagerEvent.{ManagerEvent}
+use Rattle.hk_manager.specs.declared.event.ManagerEvent.TheVariants.{Receive as Receipt}
+use Rattle.hk_manager.specs.Steps.{manager_step}
+use Rattle.hk_world.specs.declared.event.Event.{Event}
+use Rattle.hk_world.specs.Steps.{Accepted, live_manager, manager_acts, with_manager_step, manager_shown, takes}
 use Rattle.hk_effects.specs.View.{has_copied, letters_of, Trace, view}
 use Rattle.hk_effects.specs.Own.{IsPendingOf, IsOwn, IsTrace, Agrees}
 use Rattle.hk_effects.proofs.Order.{cases_key, same_of}
 use Rattle.hk_effects.proofs.Processes.{in_members}
 use Rattle.hk_effects.proofs.Shapes.{IsShaped, shaped_of_holds}
 use Rattle.hk_effects.proofs.Steps.{Owes, told, quiet_step, inv_step, val_step, ack_step}
-use Rattle.hk_effects.proofs.Nodes.{OwesStep, idle_step, own_told, other_told, found_step}
-use Rattle.hk_effects.proofs.Worlds.{unmanaged}
-use Rattle.hk_effects.proofs.Rests.{numbered_in, letter_sent, row_sound, in_some}
-use Rattle.hk_effects.proofs.Lives.{accepts, IsEffects, IsLive, here, stepped_effect, live_effect, node_own, node_sound, members_are}
+use Rattle.hk_effects.proofs.Nodes.{OwesStep, quiet_node, idle_step, own_told, other_told, found_step}
+use Rattle.hk_effects.proofs.Accepting.{any_takes_step, live_manager_step, makes_manager_step}
+use Rattle.hk_effects.proofs.Managers.{manager_says, managers_silent}
+use Rattle.hk_effects.proofs.Rests.{numbered_in, letter_sent, letters_append, row_sound, in_some}
+use Rattle.hk_effects.proofs.Lives.{accepts, IsEffects, IsLive, here, stepped_effect, aside_effect, lives, node_own, node_sound, members_are}
 
 module _ (V : ℕ → List ℕ) (key : List ℕ) (t : Trace) (parts : Parts V (view key t)) (own : IsOwn t.world) (agrees : Agrees t.world V) (tok : IsTrace t) where
   -- what a live node's step owes, of an event that is no call
@@ -145,17 +150,61 @@ module _ (V : ℕ → List ℕ) (key : List ℕ) (t : Trace) (parts : Parts V (v
         let r = and_parts (is_member from (members_of x)) (not (eqb from.0 x.id.0)) q.1 in
         receive l sent_so from sender (eqb-true l.epoch (epoch_of x) q.0) r.0 gives takes_so l.body refl
 
-    receives_owed : GivesOwed → TakesOwed → (l : Wire) → In t.world.letters l → (a : Actor) → l.from ≡ a → Owed x alive (receives_from a x l)
-    receives_owed gives takes_so l sent_so (A.Manager m) sender = subst (λ (s : Stepped). Owed x alive s) (sym (unheard x l m (unmanaged t.world own.sound x.id x alive)))
-        (idle_step V (view key t) parts key x (here V key t parts own agrees tok x alive))
-    receives_owed gives takes_so l sent_so (A.Node from) sender = admitted gives takes_so l sent_so from sender (is_addressed x l.to && (eqb l.epoch (epoch_of x) && is_other x from)) refl
+    -- a letter of a manager: the lease ends later, or a view is installed
+    heard_owed : InstallsOwed → (body : Body) (m : ℕ) → ((v : View) → body ≡ Activate v → In t.world.views v) → Owed x alive (heard body x m)
+    heard_owed installs_so (LeaseGive end) m begun = quiet_node V (view key t) parts key x (here V key t parts own agrees tok x alive) (granted_by x m end) [] refl refl refl
+    heard_owed installs_so (Activate v) m begun = by_greatest (is_greatest v.epoch x.activated)
+      where
+        noted : NodeState
+        noted = record x { activated = raised m v.epoch x.activated }
+
+        calm : Owed x alive (idle noted)
+        calm = quiet_node V (view key t) parts key x (here V key t parts own agrees tok x alive) (idle noted) [] refl refl refl
+
+        by_installed : (b : Bool) → (ltb (epoch_of x) v.epoch && is_member x.id v.members) ≡ b → Owed x alive (cond b (installed_in (record noted { view = Some v }) v.epoch) (idle noted))
+        by_installed false e = calm
+        by_installed true e =
+            let p = and_parts (ltb (epoch_of x) v.epoch) (is_member x.id v.members) e in
+            subst (λ (b : Bool). Owed x alive (cond b (installed_in (record x { view = Some v }) v.epoch) (idle x))) e (installs_so x alive v (begun v refl) p.1 (ltb-true (epoch_of x) v.epoch p.0))
+
+        by_majority : (b : Bool) → Owed x alive (cond b (installs noted v) (idle noted))
+        by_majority true = by_installed (ltb (epoch_of x) v.epoch && is_member x.id v.members) refl
+        by_majority false = calm
+
+        by_greatest : (b : Bool) → Owed x alive (cond b (installs_by_majority noted v) (idle x))
+        by_greatest true = by_majority (has_majority v.epoch noted.activated)
+        by_greatest false = idle_step V (view key t) parts key x (here V key t parts own agrees tok x alive)
+    heard_owed installs_so (InvBody k s kind content) m begun = idle_step V (view key t) parts key x (here V key t parts own agrees tok x alive)
+    heard_owed installs_so (AckBody k s top) m begun = idle_step V (view key t) parts key x (here V key t parts own agrees tok x alive)
+    heard_owed installs_so (ValBody k s) m begun = idle_step V (view key t) parts key x (here V key t parts own agrees tok x alive)
+    heard_owed installs_so (CopyAsk after room) m begun = idle_step V (view key t) parts key x (here V key t parts own agrees tok x alive)
+    heard_owed installs_so (CopyGive after done items) m begun = idle_step V (view key t) parts key x (here V key t parts own agrees tok x alive)
+    heard_owed installs_so (LeaseAsk asked) m begun = idle_step V (view key t) parts key x (here V key t parts own agrees tok x alive)
+    heard_owed installs_so (Prepare ballot) m begun = idle_step V (view key t) parts key x (here V key t parts own agrees tok x alive)
+    heard_owed installs_so (Promise ballot vote) m begun = idle_step V (view key t) parts key x (here V key t parts own agrees tok x alive)
+    heard_owed installs_so (Accept ballot v) m begun = idle_step V (view key t) parts key x (here V key t parts own agrees tok x alive)
+    heard_owed installs_so (AcceptedBody ballot) m begun = idle_step V (view key t) parts key x (here V key t parts own agrees tok x alive)
+    heard_owed installs_so (Chosen v) m begun = idle_step V (view key t) parts key x (here V key t parts own agrees tok x alive)
+
+    receives_owed : GivesOwed → TakesOwed → InstallsOwed → (l : Wire) → In t.world.letters l → (a : Actor) → l.from ≡ a → Owed x alive (receives_from a x l)
+    receives_owed gives takes_so installs_so l sent_so (A.Manager m) sender = by_admitted (is_addressed x l.to && ltb m x.managers)
+      where
+        by_admitted : (b : Bool) → Owed x alive (cond b (heard l.body x m) (idle x))
+        by_admitted true = heard_owed installs_so l.body m (λ v is. own.begun l v sent_so is)
+        by_admitted false = idle_step V (view key t) parts key x (here V key t parts own agrees tok x alive)
+    receives_owed gives takes_so installs_so l sent_so (A.Node from) sender = admitted gives takes_so l sent_so from sender (is_addressed x l.to && (eqb l.epoch (epoch_of x) && is_other x from)) refl
+
+  -- a manager's step
+  pub manager_effect : (event : Event) (m : ℕ) (step : ManagerEvent) (a : Accepted) → live_manager t.world m (λ x. manager_acts t.world m (manager_step x step)) ≡ accepts a → IsEffects V key t parts own agrees tok event a
+  manager_effect event m step a e = live_manager_step (IsEffects V key t parts own agrees tok event a) t.world a m (λ x. manager_acts t.world m (manager_step x step)) (λ x at e.
+      makes_manager_step (IsEffects V key t parts own agrees tok event a) t.world a m (manager_step x step) (λ s is e.
+      aside_effect V key t parts own agrees tok event (with_manager_step t.world m s) (manager_shown t.world m s) a refl (λ n. refl)
+      (letters_append key t.world.letters s.letters ∙ (ap (λ (ls : List Letter). letters_of key t.world.letters ++ ls) (managers_silent x.held s.letters (manager_says x step s is) key) ∙ append-nil (letters_of key t.world.letters))) e) e) e
 
   -- the event
-  pub take_effect : GivesOwed → TakesOwed → (n : ℕ) (a : Accepted) (o : Option Wire) → numbered n t.world.letters ≡ o → takes t.world o ≡ accepts a → IsEffects V key t parts own agrees tok (Take n) a
-  take_effect gives takes_so n a None got e = cc
-  take_effect gives takes_so n a (Some l) got e = by_to l.to e
-    where
-      by_to : (to : Actor) → live_actor t.world to (λ id node. acts t.world id node (receives node l)) ≡ accepts a → IsEffects V key t parts own agrees tok (Take n) a
-      by_to (A.Manager m) e = cc
-      by_to (A.Node id) e = live_effect V key t parts own agrees tok (Take n) id (λ node. acts t.world id node (receives node l)) a (λ x same alive e.
-          stepped_effect V key t parts own agrees tok (Take n) t.world.calls None id x same alive (receives x l) a (receives_owed x alive gives takes_so l (numbered_in n t.world.letters l got) l.from refl) e) e
+  pub take_effect : GivesOwed → TakesOwed → InstallsOwed → (n : ℕ) (a : Accepted) → takes t.world (numbered n t.world.letters) ≡ accepts a → IsEffects V key t parts own agrees tok (Take n) a
+  take_effect gives takes_so installs_so n a e = any_takes_step (IsEffects V key t parts own agrees tok (Take n) a) t.world a n
+      (λ l found id x at e.
+      let live = lives V key t parts own agrees tok id x at in
+      stepped_effect V key t parts own agrees tok (Take n) t.world.calls t.world.paces None id x live.0 live.1 (receives x l) a (receives_owed x live.1 gives takes_so installs_so l (numbered_in n t.world.letters l found) l.from refl) e)
+      (λ l found m e. manager_effect (Take n) m (Receipt l) a e) e

@@ -1,5 +1,5 @@
 -- What a world has: entries of its lists, rows in order, and clocks that rise together.
-use Rattle.std.proofs.Common.{◌≡◌, ◌⊎◌, ℕ, Bool, true, false, cond, not, List, [], ◌∷◌, map, max, ◌≤◌, ◌∙◌, sym, refl, subst, inl, inr, arith, le_refl, le_trans, Option, Some, None, Result, Ok}
+use Rattle.std.proofs.Common.{◌≡◌, ◌⊎◌, ℕ, Bool, true, false, cond, not, List, [], ◌∷◌, length, map, ◌∙◌, sym, refl, ap, subst, inl, inr, Option, Some, None, Result, Ok}
 use Rattle.std.specs.List.{AllByRecursion}
 use Rattle.std.specs.Option.{option_map}
 use Rattle.std.specs.List.Sorted.{IsStrictlySortedBy}
@@ -13,8 +13,9 @@ use Rattle.hk_node.specs.Steps.{ticks}
 use Rattle.hk_world.specs.declared.process.Process.{Process}
 use Rattle.hk_world.specs.declared.refused.Refused.{Refused}
 use Rattle.hk_world.specs.World.{WorldState, Processes, process_at}
-use Rattle.hk_world.specs.Steps.{Accepted, greatest_clock, is_live, process_ticked}
+use Rattle.hk_world.specs.Steps.{Accepted, process_ticked}
 use Rattle.hk_world.specs.Sound.{IsWorld, IsProcess}
+use Rattle.hk_effects.specs.Own.{IsOwn}
 use Rattle.hk_effects.proofs.Processes.{process_holds}
 use Rattle.hk_effects.proofs.Accepting.{alive}
 
@@ -33,27 +34,13 @@ the_accepted a b r e f = cc
 pub ordered_rows : (w : WorldState) → IsWorld w → (id : NodeId) (x : NodeState) → process_at id w.processes ≡ Some (alive x) → IsStrictlySortedBy key_cmp (keys_of x.rows)
 ordered_rows w sound id x at = (process_holds (IsProcess w) id (alive x) w.processes sound.processes at).node.ordered
 
--- no node has managers
-pub unmanaged : (w : WorldState) → IsWorld w → (id : NodeId) (x : NodeState) → process_at id w.processes ≡ Some (alive x) → x.managers ≡ 0
-unmanaged w sound id x at = (process_holds (IsProcess w) id (alive x) w.processes sound.processes at).unmanaged
+-- with no managers in the group, a node knows of none
+pub unmanaged : (w : WorldState) → IsOwn w → w.managers ≡ [] → (id : NodeId) (x : NodeState) → process_at id w.processes ≡ Some (alive x) → x.managers ≡ 0
+unmanaged w own none id x at = (process_holds (IsProcess w) id (alive x) w.processes own.sound.processes at).managed ∙ ap length none
 
 -- ---- clocks
 pub process_ticked_at : (to : ℕ) (id : NodeId) (ps : Processes) → process_at id (map (process_ticked to) ps) ≡ option_map (λ (p : Process). cond (not p.crashed) (record p { node = (ticks p.node to).node }) p) (process_at id ps)
 process_ticked_at to id ps = lookup-map_values (λ (p : Process). cond (not p.crashed) (record p { node = (ticks p.node to).node }) p) _ ps
-
-pub max_left : (a b : ℕ) → a ≤ max a b
-max_left a b = omega arith
-
-pub max_right : (a b : ℕ) → b ≤ max a b
-max_right a b = omega arith
-
-pub clock_above : (low : ℕ) (ps : Processes) → low ≤ greatest_clock low ps
-clock_above low [] = le_refl low
-clock_above low (p ∷ ps) = by_live (is_live p) (clock_above (max low p.1.node.clock) ps) (clock_above low ps)
-  where
-    by_live : (b : Bool) → max low p.1.node.clock ≤ greatest_clock (max low p.1.node.clock) ps → low ≤ greatest_clock low ps → low ≤ greatest_clock (cond b (max low p.1.node.clock) low) ps
-    by_live true a b = le_trans (max_left low p.1.node.clock) a
-    by_live false a b = b
 
 -- a process that ticked was there, with what it was, or with a clock that did not fall
 pub ticked_from : (to : ℕ) (id : NodeId) (ps : Processes) (q : Process) → process_at id (map (process_ticked to) ps) ≡ Some q →

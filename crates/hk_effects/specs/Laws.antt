@@ -1,5 +1,5 @@
 -- Every accepted event is, for each key, one effect of the replicated register, or two.
-use Rattle.std.specs.Prelude.{◌≡◌, ◌⊎◌, ℕ, List, Ok}
+use Rattle.std.specs.Prelude.{◌≡◌, ◌⊎◌, ℕ, List, [], Ok}
 use Rattle.hk_register.specs.Machine.{State}
 use Rattle.hk_register.specs.Effects.{Effect, Happens}
 use Rattle.hk_register.specs.Parts.{Parts}
@@ -8,7 +8,7 @@ use Rattle.hk_world.specs.Steps.{Accepted, world_step}
 use Rattle.hk_world.specs.Sound.{IsEvent}
 use Rattle.hk_world.specs.declared.event.Event.{Event}
 use Rattle.hk_effects.specs.View.{Trace, view, traced}
-use Rattle.hk_effects.specs.Own.{IsOwn, IsTrace, Agrees}
+use Rattle.hk_effects.specs.Own.{IsLed, IsOwn, IsTrace, Agrees}
 
 abbrev pub OneEffect : (ℕ → List ℕ) → State → State → Type 0
 OneEffect V old new = (e : Effect) × Happens V old e new
@@ -22,6 +22,7 @@ EventIsEffects =
     (V : ℕ → List ℕ) (key : List ℕ) (t : Trace) (event : Event) (a : Accepted) →
     world_step t.world event ≡ Ok a → IsEvent event → IsOwn t.world → Agrees t.world V → IsTrace t → Parts V (view key t) → Effects V (view key t) (view key (traced key t event a))
 
--- each accepted event keeps the world's own invariant
-abbrev pub EventKeepsOwn : Type 0
-EventKeepsOwn = (w : WorldState) (event : Event) (a : Accepted) → world_step w event ≡ Ok a → IsEvent event → IsOwn w → IsOwn a.world
+-- Each accepted event keeps the world's own invariant: without managers, and where managers agree.
+pub record EventKeepsOwn : Type 0 where
+  pub alone : (w : WorldState) (event : Event) (a : Accepted) → world_step w event ≡ Ok a → IsEvent event → w.managers ≡ [] → IsOwn w → IsOwn a.world
+  pub led : (w : WorldState) (event : Event) (a : Accepted) → world_step w event ≡ Ok a → IsEvent event → IsLed a.world → IsOwn w → IsOwn a.world

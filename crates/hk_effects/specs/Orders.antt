@@ -9,8 +9,8 @@ use Rattle.hk_register.specs.Printed.{events_of, entries, printed}
 use Rattle.hk_world.specs.declared.event.Header.{Header}
 use Rattle.hk_world.specs.declared.event.Event.{Event}
 use Rattle.hk_world.specs.World.{numbered}
-use Rattle.hk_world.specs.Sound.{IsHeader}
 use Rattle.hk_effects.specs.View.{Trace, view}
+use Rattle.hk_world.specs.Sound.{IsHeader}
 use Rattle.hk_effects.specs.Runs.{start_trace, Follows}
 
 -- the members of the agreed view of an epoch
@@ -29,7 +29,7 @@ history_of t = events_of t.history
 abbrev pub order_of : List ℕ → Trace → List Entry
 order_of key t = entries (printed (family t.world.views) (view key t))
 
--- After every run the order of each key is legal for the key's history.
+-- After every run of a world the order of each key is legal for the key's history.
 abbrev pub OrdersAreLegal : Type 0
 OrdersAreLegal = (h : Header) → IsHeader h → (key : List ℕ) (events : List Event) (last : Trace) → Follows key (start_trace h) events last →
     Legal (history_of last) (order_of key last)

@@ -17,10 +17,10 @@ use Rattle.hk_register.specs.Effects.Effect.{GiveRow, CopyRow, PassRow, CopyVali
 use Rattle.hk_register.specs.Runs.{after, played, Plays}
 use Rattle.hk_register.specs.Worked.{five, six, nine, aborted, exactly, with_more, write, increment, waits, waits_again, takes}
 use Rattle.hk_world.specs.declared.event.Event.{Event}
-use Rattle.hk_world.specs.declared.event.Event.TheVariants.{Call, Crash, Resend as ResendAt, Replay, Copy, Start, Agree, Install as InstallAt, Lease}
+use Rattle.hk_world.specs.declared.event.Event.TheVariants.{Call, TickAll, Crash, Resend as ResendAt, Replay, Copy, Start, Agree, Install as InstallAt, Lease, AskLease, Propose, Activate}
 use Rattle.hk_world.specs.Steps.{Accepted, world_step}
 use Rattle.hk_world.specs.Sound.{IsEvent}
-use Rattle.hk_world.specs.Worked.{group, node, key, call, take, stamp}
+use Rattle.hk_world.specs.Worked.{managed, node, key, call, take, stamp}
 use Rattle.hk_effects.specs.View.{Trace, view, letters_of, traced}
 use Rattle.hk_effects.specs.Runs.{start_trace}
 use Rattle.hk_effects.specs.Orders.{family}
@@ -80,9 +80,13 @@ abbrev pub ShowsAll : List ℕ → Trace → List Step → Type 0
 ShowsAll k t [] = ⊤
 ShowsAll k t (step ∷ steps) = (a : Accepted) × Shows k t step a × ShowsAll k (traced k t step.event a) steps
 
--- from a group of so many founders
+-- from a group of so many founders and managers
+abbrev pub WorkedWith : ℕ → ℕ → List Step → Type 0
+WorkedWith nodes managers steps = ShowsAll key (start_trace (managed nodes managers 0)) steps
+
+-- and from one without managers
 abbrev pub Worked : ℕ → List Step → Type 0
-Worked nodes steps = ShowsAll key (start_trace (group nodes 0)) steps
+Worked nodes steps = WorkedWith nodes 0 steps
 
 -- the first writes of nodes 0 and 1, and then an increment of each
 abbrev pub by_zero : Update
@@ -177,6 +181,26 @@ left_alone =
     ∷ sent_to 0 (two (InstallAt (node 0) 2) (InstallPending 0 2 (waits by_zero [])) (Settle 0 (waits by_zero [])))
     ∷ []
 
+-- A write waits when the one manager of two founders drops the other one. The manager agrees with itself by letters 2 to 5, and lets
+-- the view begin once the lease of that node has run out. The ACTIVATE installs it, and the write is complete. Then the node is
+-- granted a lease, and reads what it wrote: no key sees anything of what the manager says, and sees the install alone.
+abbrev pub view_begun : List Step
+view_begun =
+    one (call 0 (Write five)) (Begin 0 by_zero)
+    ∷ one (Propose 0 1 (Drop (node 1))) (Quiet 0)
+    ∷ one (take 2) (Quiet 0)
+    ∷ one (take 3) (Quiet 0)
+    ∷ one (take 4) (Quiet 0)
+    ∷ one (take 5) (Quiet 0)
+    ∷ one (TickAll 2000) (Quiet 0)
+    ∷ one (Activate 0) (Quiet 0)
+    ∷ sent_to 0 (two (take 6) (InstallPending 0 2 (waits by_zero [])) (Settle 0 (waits by_zero [])))
+    ∷ one (AskLease (node 0) 0) (Quiet 0)
+    ∷ one (take 7) (Quiet 0)
+    ∷ one (take 8) (Quiet 0)
+    ∷ one (call 0 Read) (Look 0 2 Read (Found five 131072))
+    ∷ []
+
 -- a key behind the other one
 abbrev pub behind : List ℕ
 behind = 108 ∷ []
@@ -252,6 +276,9 @@ PendingInstalled = Worked 2 pending_installed
 
 abbrev pub LeftAlone : Type 0
 LeftAlone = Worked 2 left_alone
+
+abbrev pub ViewBegun : Type 0
+ViewBegun = WorkedWith 2 1 view_begun
 
 abbrev pub Joined : Type 0
 Joined = Worked 1 joined

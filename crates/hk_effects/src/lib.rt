@@ -2,9 +2,10 @@
 //!
 //! Nothing runs here: the crate is definitions and laws about them. `specs/View.antt` says what one key has of a world: the nodes'
 //! rows, the letters that tell of the key, and what grows with the run, its marks, updates and history. Whatever event a world
-//! accepts, the key sees one effect of `hk_register`, or two. So the laws of the register hold of every run of a world, and the
-//! order that is printed of a key is legal: no premise is left, since the world refuses what would break one. `specs/Worked.antt`
-//! has worlds worked by hand, in which each effect is seen.
+//! accepts, with managers or without, the key sees one effect of `hk_register`, or two. So the laws of the register hold of every run
+//! of a world, and the order that is printed of a key is legal. No premise is left: without managers the world refuses what would
+//! break one, and with managers they agree on the views and let one begin only where leases have ended (`hk_managed`).
+//! `specs/Worked.antt` has worlds worked by hand, in which each effect is seen.
 #![tactic(auto)]
 
 ghost use Rattle.hk_effects.specs.Laws.{EventIsEffects, EventKeepsOwn};
@@ -13,6 +14,7 @@ ghost use Rattle.hk_effects.specs.Runs.{RunsKeepParts};
 
 mod worked;
 
+use hk_managed::{managers_of_worlds_agree, views_that_begin_have_ended};
 use hk_register::printed_is_legal;
 use hk_world::worlds_stay_sound;
 pub use worked::each_effect_shows;
@@ -35,6 +37,8 @@ pub fn runs_keep_parts()
 {
     event_is_effects();
     worlds_stay_sound();
+    managers_of_worlds_agree();
+    views_that_begin_have_ended();
 }
 
 /// After every run of a world the order that is printed of a key is legal for the key's history.

@@ -94,21 +94,21 @@ pub fn keeps_lease()
     runs_hold();
 }
 
-/// Kept by a request for a lease, of which nothing comes.
+/// Kept by a request for a lease, which goes to one manager.
 pub fn keeps_ask_lease()
     ensures { Keeps UpdatePart IsAskLease }
 {
     runs_hold();
 }
 
-/// Kept by a proposal. None is accepted: there are no managers.
+/// Kept by a proposal, with which a manager asks all managers for the next view.
 pub fn keeps_propose()
     ensures { Keeps UpdatePart IsPropose }
 {
     runs_hold();
 }
 
-/// Kept by an activation. None is accepted: there are no managers.
+/// Kept by an activation, with which a manager tells the members of the view that it holds that the view begins.
 pub fn keeps_activate()
     ensures { Keeps UpdatePart IsActivate }
 {

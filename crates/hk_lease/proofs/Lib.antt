@@ -1,3 +1,4 @@
 pub mod Middle
 pub mod Noted
 pub mod Least
+pub mod Back

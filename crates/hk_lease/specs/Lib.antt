@@ -1,4 +1,5 @@
 pub mod Ends
+pub mod Entries
 pub mod Grants
 pub mod Past
 pub mod Wait

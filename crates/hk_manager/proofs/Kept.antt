@@ -1,13 +1,11 @@
 -- Every step keeps what every manager keeps, and sends letters in range.
-use Rattle.std.proofs.Common.{◌≡◌, ◌∙◌, ◌+◌, ◌||◌, ◌&&◌, ◌==◌, ℕ, ◌<◌, ◌≤◌, Bool, true, false, cond, not, List, [], ◌∷◌, length, Option, Some, None, IfSome, Result, Ok, Err, max, min, nat_lt, nat_le, refl, sym, ap, subst, arith}
+use Rattle.std.proofs.Common.{◌≡◌, ◌+◌, ◌||◌, ◌&&◌, ◌==◌, ℕ, ◌≤◌, Bool, true, false, cond, List, [], Option, Some, None, IfSome, Result, Ok, Err, max, min, nat_lt, nat_le, refl, arith}
 use Rattle.std.specs.Option.{option_map}
-use Rattle.std.specs.List.{AllByRecursion}
 use Rattle.hk_base.specs.declared.stamp.NodeId.{NodeId}
 use Rattle.hk_base.specs.declared.time.TheConstants.{MAX_TIME}
 use Rattle.hk_base.specs.declared.view.Ballot.{Ballot}
 use Rattle.hk_base.specs.declared.view.Change.{Change}
 use Rattle.hk_base.specs.declared.view.View.{View}
-use Rattle.hk_base.specs.declared.view.Voted.{Voted}
 use Rattle.hk_base.specs.declared.letter.Actor.{Actor}
 use Rattle.hk_base.specs.declared.letter.Actor.TheVariants.{Node, Manager}
 use Rattle.hk_base.specs.declared.letter.Letter.{Letter}
@@ -30,12 +28,12 @@ use Rattle.hk_manager.specs.declared.fault.ManagerFault.{ManagerFault}
 use Rattle.hk_manager.specs.declared.fault.ManagerFault.TheVariants.{Behind}
 use Rattle.hk_manager.specs.Manager.{ManagerState, instance_at, with_instance}
 use Rattle.hk_manager.specs.Changes.{changed, change_fault}
-use Rattle.hk_manager.specs.Sends.{to_all, to_others}
-use Rattle.hk_manager.specs.Steps.{Stepped, sends, idle, learns, promise_body, prepares, accepts, counts_promise, reports, counts_acceptance, proposal_in, at_proposal, asks_lease, is_too_late, from_node, from_manager, is_addressed, receives_from, receives, begins, begins_unless, proposes, activates_by, activates, ticks, manager_step}
+use Rattle.hk_manager.specs.Sends.{to_others}
+use Rattle.hk_manager.specs.Steps.{Stepped, sends, idle, learns, promise_body, prepares, accepts, counts_promise, reports, counts_acceptance, proposal_in, at_proposal, asks_lease, is_too_late, from_node, from_manager, is_addressed, receives_from, receives, begins, begins_unless, proposes, activates_by, ticks, manager_step}
 use Rattle.hk_manager.specs.Sound.{IsInstance, IsProposal, IsManager, IsEvent}
 use Rattle.hk_manager.specs.Laws.{OfStep, StepKeepsManager, LettersInRange}
 use Rattle.hk_manager.proofs.Views.{changed_view}
-use Rattle.hk_manager.proofs.Parts.{IsGiven, prepared, accepted_at, instance_found, with_instance_kept, with_proposal_kept, with_held_kept, with_untils_kept, prepare_kept, accept_kept, promise_given, acceptance_given, latest, new_proposal}
+use Rattle.hk_manager.proofs.Parts.{prepared, accepted_at, instance_found, with_instance_kept, with_proposal_kept, with_held_kept, with_untils_kept, prepare_kept, accept_kept, promise_given, acceptance_given, new_proposal}
 use Rattle.hk_manager.proofs.Sent.{AreFine, none_fine, one_fine, to_all_fine, to_others_fine, to_members_fine, told_fine}
 
 pub record IsFine (stepped : Stepped) : Type 0 where

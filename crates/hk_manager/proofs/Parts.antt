@@ -1,11 +1,11 @@
 -- What a manager keeps, part by part.
-use Rattle.std.proofs.Common.{◌≡◌, ◌∙◌, ◌&&◌, ℕ, ◌<◌, ◌≤◌, Bool, true, false, cond, not, List, [], ◌∷◌, Option, Some, None, IfSome, unwrap_or, All, max, nat_lt, refl, sym, ap, subst, arith}
-use Rattle.std.specs.Ordering.{nat_cmp, is_eq}
-use Rattle.std.specs.BTreeMap.{is_at, insert_entry}
+use Rattle.std.proofs.Common.{◌≡◌, ℕ, Bool, true, false, cond, List, [], ◌∷◌, Option, Some, None, IfSome, unwrap_or, refl, subst}
+use Rattle.std.specs.Ordering.{nat_cmp}
+use Rattle.std.specs.BTreeMap.{is_at}
 use Rattle.std.specs.Map.{lookup, values_of}
 use Rattle.std.specs.List.{AllByRecursion}
 use Rattle.std.proofs.lemmas.Map.Views.{All-values-insert_entry}
-use Rattle.std.proofs.lemmas.List.Elements.{All-from_recursion, recursion_from_All}
+use Rattle.std.proofs.lemmas.List.Elements.{recursion_from_All}
 use Rattle.hk_base.specs.declared.stamp.NodeId.{NodeId}
 use Rattle.hk_base.specs.declared.view.Ballot.{Ballot}
 use Rattle.hk_base.specs.declared.view.View.{View}
@@ -15,7 +15,7 @@ use Rattle.hk_base.specs.Range.{IsBallot, IsVote}
 use Rattle.hk_paxos.specs.declared.acceptor.Acceptor.{Acceptor}
 use Rattle.hk_paxos.specs.declared.acceptor.Promise.{Promise}
 use Rattle.hk_paxos.specs.declared.proposer.Proposer.{Proposer}
-use Rattle.hk_paxos.specs.Paxos.{Step, stays, is_refused, is_higher, value_or, value_of, has_promises, has_acceptances, counts_promise, counts_acceptance, with_promise, with_acceptance, acceptor_new, acceptor_on_prepare, acceptor_on_accept, proposer_new, proposer_on_promise, proposer_on_accepted}
+use Rattle.hk_paxos.specs.Paxos.{Step, stays, is_refused, is_higher, value_or, value_of, has_promises, has_acceptances, counts_promise, counts_acceptance, with_promise, with_acceptance, acceptor_on_prepare, acceptor_on_accept, proposer_new, proposer_on_promise, proposer_on_accepted}
 use Rattle.hk_manager.specs.declared.instance.Instance.{Instance}
 use Rattle.hk_manager.specs.Manager.{ManagerState, fresh, instance_at, with_instance}
 use Rattle.hk_manager.specs.Sound.{IsInstance, IsProposal, IsManager}

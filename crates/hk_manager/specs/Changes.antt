@@ -1,7 +1,6 @@
 -- The view that follows another one: it drops a member, or adds the node of the next number.
-use Rattle.std.specs.Prelude.{ℕ, ◌+◌, List, [], ◌∷◌, ◌++◌, length, Option, Some, None, not, nat_le, ◌==◌, if◌then◌else◌}
+use Rattle.std.specs.Prelude.{◌+◌, [], ◌∷◌, ◌++◌, length, Option, Some, None, not, nat_le, ◌==◌, if◌then◌else◌}
 use Rattle.std.specs.List.{filter}
-use Rattle.hk_base.specs.declared.stamp.NodeId.{NodeId}
 use Rattle.hk_base.specs.declared.view.View.{View}
 use Rattle.hk_base.specs.declared.view.Change.{Change}
 use Rattle.hk_base.specs.declared.view.Change.TheVariants.{Drop, Add}

@@ -4,4 +4,5 @@ pub mod Sends
 pub mod Steps
 pub mod Sound
 pub mod Outs
+pub mod Undone
 pub mod Laws

@@ -1,12 +1,12 @@
 -- What every manager keeps, and which events a manager may be given.
-use Rattle.std.specs.Prelude.{◌≡◌, ℕ, ◌<◌, ◌≤◌, List, [], ◌∷◌, ◌+◌, map, All, None, IfSome, ⊤}
+use Rattle.std.specs.Prelude.{◌≡◌, ℕ, ◌<◌, ◌≤◌, List, [], All, None, IfSome, ⊤}
 use Rattle.std.specs.List.{fold}
 use Rattle.std.specs.Map.{values_of}
 use Rattle.hk_base.specs.declared.stamp.NodeId.{NodeId}
 use Rattle.hk_base.specs.declared.time.TheConstants.{MAX_TIME}
 use Rattle.hk_base.specs.declared.view.View.{View}
 use Rattle.hk_base.specs.View.{IsView}
-use Rattle.hk_base.specs.Range.{IsLetter, IsBallot, IsVote}
+use Rattle.hk_base.specs.Range.{IsLetter, IsVote}
 use Rattle.hk_paxos.specs.declared.proposer.Proposer.{Proposer}
 use Rattle.hk_lease.specs.Grants.{with_grant}
 use Rattle.hk_lease.specs.Wait.{wait}

@@ -1,5 +1,5 @@
 -- The step of a manager for each event.
-use Rattle.std.specs.Prelude.{ℕ, ◌+◌, List, [], ◌∷◌, max, min, Bool, true, false, Option, Some, None, Result, Ok, Err, not, nat_lt, nat_le, ◌&&◌, ◌||◌, ◌==◌, if◌then◌else◌}
+use Rattle.std.specs.Prelude.{ℕ, ◌+◌, List, [], ◌∷◌, max, min, Bool, false, Option, Some, None, Result, Ok, Err, nat_lt, nat_le, ◌&&◌, ◌||◌, ◌==◌, if◌then◌else◌}
 use Rattle.std.specs.Option.{option_map}
 use Rattle.hk_base.specs.declared.stamp.NodeId.{NodeId}
 use Rattle.hk_base.specs.declared.time.TheConstants.{MAX_TIME}

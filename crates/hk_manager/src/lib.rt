@@ -4,7 +4,8 @@
 //! proposer of Paxos, with one instance for the view of each epoch; it *holds* the view of the greatest epoch that it learned;
 //! and it grants leases to the members of that view, and lets a view begin, by ACTIVATE to its members, only once all that it
 //! granted outside is past. What each event does is a definition, `specs/Steps.antt`; [`Manager::step`] equals it, or answers
-//! that memory is wanting and leaves the manager as it was. Whoever makes the steps owes that all managers begin with the same
+//! that memory is wanting and leaves the manager as it was. A step tells what it replaced, by which [`Manager::undo`] takes it
+//! back. Whoever makes the steps owes that all managers begin with the same
 //! view, that a manager's number is its own, that a stopped manager never runs again, and that the clocks keep their rate.
 #![tactic(auto)]
 
@@ -21,4 +22,4 @@ pub use fault::ManagerFault;
 pub use instance::{Instance, MAX_EPOCH, MAX_ROUND};
 pub use laws::steps_keep_managers;
 pub use manager::Manager;
-pub use out::ManagerOut;
+pub use out::{ManagerOut, Replaced};

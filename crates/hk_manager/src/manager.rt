@@ -11,6 +11,7 @@ mod propose;
 mod put;
 mod receive;
 mod step;
+mod undo;
 
 use crate::instance::Instance;
 use hk_base::{Memory, NodeId, View};

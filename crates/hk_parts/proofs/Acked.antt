@@ -20,7 +20,7 @@ use Rattle.hk_parts.specs.Facts.{members_at, IsSettled}
 use Rattle.hk_parts.proofs.Moments.{always, marks_kept}
 use Rattle.hk_parts.proofs.Acks.{AcksTold, effects_acks}
 use Rattle.hk_parts.proofs.Origins.{agreed, parts_at}
-use Rattle.hk_parts.proofs.Views.{AreMade, views_made}
+use Rattle.hk_parts.proofs.Views.{FirstStays, first_stays}
 
 -- each founder's row is marked
 founder_marked : (ids : List NodeId) (n : ℕ) → In (member_numbers ids) n → In (map (λ (id : NodeId). row_mark id.0 founder) ids) (row_mark n founder)
@@ -49,16 +49,16 @@ module _ (runs : RunsKeepParts) (key : List ℕ) (h : Header) (header : IsHeader
       some_epoch = le_refl 1;
       all = λ n inside. exact n (founders n inside);
       one = 0;
-      one_member = rw (made.first) (some_counted h.nodes header.some);
+      one_member = rw (stays.first) (some_counted h.nodes header.some);
       one_ready = let m = marked 0 (some_counted h.nodes header.some) in record { mark = row_mark 0 founder; marked = m; who = refl; epoch = refl; stamp = refl; exact = refl; ready = refl };
     },
   )
     where
-      made : AreMade h last.world.views
-      made = views_made h runs key header events last f
+      stays : FirstStays h last.world.views
+      stays = first_stays h key events last f
 
       founders : (n : ℕ) → In (members_at last 1) n → In (member_numbers (counted 0 h.nodes)) n
-      founders n inside = rw made.first at inside
+      founders n inside = rw stays.first at inside
 
       marked : (n : ℕ) → In (member_numbers (counted 0 h.nodes)) n → Marked (view key last) (row_mark n founder)
       marked n inside = (row_mark n founder, itself (row_mark n founder), marks_kept key events (start_trace h) last f (row_mark n founder) (founder_marked (counted 0 h.nodes) n inside))

@@ -57,7 +57,7 @@ replies_none id z s rs = ap (updates_of id z) (sym (append-nil (map (reply_item 
 call_made : (w : WorldState) (i : NodeId) (k : List ℕ) (op : Op) (a : Accepted) → world_step w (Call i k op) ≡ Ok a → (acting_of a ≡ Some i) × (a.shown.call ≡ Some (record { 0 = w.calls + 1 }))
 call_made w i k op a e = live_step ((acting_of a ≡ Some i) × (a.shown.call ≡ Some (record { 0 = w.calls + 1 }))) w a i (calls_at w i k op) (λ x at e.
     let call : CallNo = record { 0 = w.calls + 1 } in
-    let is : a ≡ accepted w i x (called x call k op) (w.calls + 1) (Some call) = the_accepted a (accepted w i x (called x call k op) (w.calls + 1) (Some call)) (Ok a) refl (sym e) in
+    let is : a ≡ accepted w i x (called x call k op) (w.calls + 1) w.paces (Some call) = the_accepted a (accepted w i x (called x call k op) (w.calls + 1) w.paces (Some call)) (Ok a) refl (sym e) in
     (ap acting_of is, ap (λ (b : Accepted). b.shown.call) is)) e
 
 -- What is begun is that of the event's call. Its base is the stamp of the row before, which was Valid, and its own is that of the
@@ -158,7 +158,7 @@ module _ (runs : RunsKeepParts) (key : List ℕ) (h : Header) (header : IsHeader
 
       by_case : Stepping t.world event a ⊎ Beside t.world a → BegunAt key (record { header = h; events = past ++ event ∷ [] }) u
       by_case (inl c) =
-          let b : Accepted = accepted t.world c.id c.x c.s c.calls c.call in
+          let b : Accepted = accepted t.world c.id c.x c.s c.calls c.paces c.call in
           let i' : In (traced key t event b).begun u = subst (λ (z : Accepted). In (traced key t event z).begun u) c.is i in
           let was = key_node key (node_at c.id.0 t.world.processes) in
           let now = key_node key (node_at c.id.0 b.world.processes) in

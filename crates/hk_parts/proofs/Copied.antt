@@ -233,7 +233,7 @@ module _ (key : List ℕ) (w : WorldState) (x : NodeState) (told : (l : Letter) 
   copies_at (Copy id from room) same s is = rw is (either (not x.ready && is_other x from) (record { node = x; letters = letters_to x (CopyAsk x.cursor room) (from ∷ []); told = []; installed = None }) (λ e. inl))
   copies_at (Install id epoch) same s is = rw is.2 (either (ltb (epoch_of x) is.0.epoch && is_member x.id is.0.members) (installed_in (record x { view = Some is.0 }) is.0.epoch) (λ e. inl))
   copies_at (Lease id end) same s is = rw is inl
-  copies_at (AskLease id manager) same s is = rw is inl
+  copies_at (AskLease id manager) same s is = rw is (either (ltb manager x.managers) (record { node = x; letters = record { epoch = epoch_of x; from = A.Node x.id; to = A.Manager manager; body = LeaseAsk x.clock } ∷ []; told = []; installed = None }) (λ e. inl))
   copies_at (TickAll to) same s is = absurd is
   copies_at (Crash actor) same s is = absurd is
   copies_at (Start id) same s is = absurd is

@@ -13,10 +13,10 @@ use Rattle.hk_node.specs.Node.{NodeState, epoch_of, members_of}
 use Rattle.hk_node.specs.Rows.{row_at}
 use Rattle.hk_node.specs.Sound.{IsViewOf}
 use Rattle.hk_world.specs.Steps.{acting_of}
-use Rattle.hk_world.specs.Sound.{IsHeader}
 use Rattle.hk_world.specs.World.{WorldState}
 use Rattle.hk_effects.specs.View.{Trace, view, traced, node_at, key_node}
 use Rattle.hk_effects.specs.Own.{Ended, Agrees}
+use Rattle.hk_world.specs.Sound.{IsHeader}
 use Rattle.hk_effects.specs.Runs.{IsKept, RunsKeepParts}
 use Rattle.hk_effects.proofs.Processes.{in_members, member_of}
 use Rattle.hk_effects.proofs.Rests.{node_holds, in_some}
@@ -24,7 +24,7 @@ use Rattle.hk_effects.proofs.Two.{append_three}
 use Rattle.hk_effects.proofs.Worlds.{all_in}
 use Rattle.hk_parts.specs.Moments.{Run, Ends, Moment}
 use Rattle.hk_parts.specs.Facts.{members_at}
-use Rattle.hk_parts.specs.ViewPart.{HasView, SentInEpoch, BatchTells, IsNotBelow, ViewPart}
+use Rattle.hk_parts.specs.ViewPart.{HasView, IsOfReplicas, SentInEpoch, BatchTells, IsNotBelow, ViewPart}
 use Rattle.hk_parts.proofs.Moments.{later_of, moment_marks_kept, world_is}
 use Rattle.hk_parts.proofs.Givers.{AllBelow, rows_rest}
 use Rattle.hk_parts.proofs.Resting.{Below}
@@ -32,14 +32,14 @@ use Rattle.hk_parts.proofs.Origins.{agreed, parts_at, risen}
 use Rattle.hk_parts.proofs.Says.{BodyTells}
 use Rattle.hk_parts.proofs.Sending.{Told, letters_told}
 use Rattle.hk_parts.proofs.Updates.{kept_here, kept_then}
-use Rattle.hk_parts.proofs.Views.{views_stay, views_made}
+use Rattle.hk_parts.proofs.Views.{views_stay}
 
 module _ (runs : RunsKeepParts) (key : List ℕ) (run : Run) (header : IsHeader run.header) (t : Trace) (ends : Ends key run t) where
   ok : IsKept key t
   ok = kept_here runs key run header t ends
 
-  told : (l : Letter) → In t.world.letters l → Told key run l
-  told l h = letters_told runs key run.header header run.events t ends l h
+  told : (l : Letter) → In t.world.letters l → IsOfReplicas l.body → Told key run l
+  told l h of = letters_told runs key run.header header run.events t ends l h of
 
   has_view : (n : ℕ) (x : NodeState) → node_at n t.world.processes ≡ Some x → (v : View) → x.view ≡ Some v → HasView t n x v
   has_view n x at v is =
@@ -112,16 +112,15 @@ module _ (runs : RunsKeepParts) (key : List ℕ) (run : Run) (header : IsHeader 
   pub view_part : ViewPart key run t
   view_part =
       let parts = parts_at key t ok in
-      let made = views_made run.header runs key header run.events t ends in
       record {
-        views_change = made.each;
+        views_change = ok.own.views.change;
         dropped_for_good = λ u v w hu hv hw low high n in_u out_v in_w. out_v (ok.own.views.chain u v w hu hv hw low high n in_u in_w);
         own_view = has_view;
         epochs_rise = λ p m n. (risen key t ok p (kept_then runs key run header t ends p m) (moment_marks_kept key run p t m ends) n).1;
-        senders = λ l h. sender l (told l h);
+        senders = λ l h of. sender l (told l h of);
         ready_not_below = λ n ready e one below. not_below e n ((view key t).node n).stamp (rests.node n ((parts.nodes n).copied ready) e one below);
         copied_not_below = λ n copied e one below. not_below e n ((view key t).node n).stamp (rests.node n copied e one below);
         given_not_below = λ m f s kind content valid h e one below. not_below e m s (rests.letter m f s kind content valid h e one below);
-        batches_tell = λ l after done items h is. batch l after done items is (told l h);
+        batches_tell = λ l after done items h is. batch l after done items is (told l h (subst IsOfReplicas (sym is) tt));
         guarded = guard;
       }

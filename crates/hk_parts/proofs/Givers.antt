@@ -34,7 +34,7 @@ use Rattle.hk_parts.proofs.Given.{given_of, wire_of}
 use Rattle.hk_parts.proofs.Copied.{Took, step_copies}
 use Rattle.hk_parts.proofs.Resting.{Below, rises, below_later}
 use Rattle.hk_parts.proofs.Says.{BodyTells, Says}
-use Rattle.hk_parts.proofs.Steps.{step_said}
+use Rattle.hk_parts.proofs.Steps.{step_said, of_replicas}
 use Rattle.hk_parts.proofs.Views.{views_stay}
 
 in_cases : (n : ℕ) (xs : List ℕ) → In xs n ⊎ (In xs n → ⊥)
@@ -198,7 +198,7 @@ module _ (runs : RunsKeepParts) (key : List ℕ) (h : Header) (header : IsHeader
     fresh_give c m g s kind content valid there i one below =
         let w = wire_of key c.s.letters (Give m g s kind content valid) there in
         let o = given_of key w.0 m g s kind content valid w.0.body w.2 in
-        let says : Says c.s.node w.0 = step_said c.x (node_holds t.world before.own.sound c.id.0 c.x (ap node_of c.there)).1 t.world event c.s c.how w.0 w.1 in
+        let says : Says c.s.node w.0 = step_said c.x (node_holds t.world before.own.sound c.id.0 c.x (ap node_of c.there)).1 t.world event c.s c.how w.0 w.1 (of_replicas key w.0 w.0.body _ w.2) in
         let tells : BodyTells c.s.node (CopyGive o.after o.done o.items) = subst (λ (b : Body). BodyTells c.s.node b) o.body says.tells in
         let at' : node_at c.id.0 (traced key t event a).world.processes ≡ Some c.s.node = ap (λ (w : WorldState). node_at c.id.0 w.processes) (world_is key t event a (acting_of a)) ∙ stepped_there c in
         let id : c.s.node.id ≡ numbered_node c.id.0 = (node_holds (traced key t event a).world now.own.sound c.id.0 c.s.node at').0 in
@@ -218,7 +218,9 @@ module _ (runs : RunsKeepParts) (key : List ℕ) (h : Header) (header : IsHeader
         by_case : Stepping t.world event a ⊎ Beside t.world a → In (letters_of key a.world.letters) (Give m g s kind content valid) → Rested i m s
         by_case (inl c) there' = ⊎_elim old (λ (new : In (letters_of key c.s.letters) (Give m g s kind content valid)). fresh_give c m g s kind content valid new i one below)
             (in_letters_append key t.world.letters c.s.letters (Give m g s kind content valid) (subst (λ (b : Accepted). In (letters_of key b.world.letters) (Give m g s kind content valid)) c.is there'))
-        by_case (inr b) there' = old (subst (λ (ls : List Wire). In (letters_of key ls) (Give m g s kind content valid)) b.letters there')
+        by_case (inr b) there' = ⊎_elim old
+            (λ (new : In (letters_of key b.letters) (Give m g s kind content valid)). let w = wire_of key b.letters (Give m g s kind content valid) new in absurd (b.silent w.0 w.1 (of_replicas key w.0 w.0.body (Give m g s kind content valid) w.2)))
+            (in_letters_append key t.world.letters b.letters (Give m g s kind content valid) (subst (λ (ls : List Wire). In (letters_of key ls) (Give m g s kind content valid)) b.sent there'))
 
     all_rest : AllBelow key Longer V (traced key t event a)
     all_rest = record { node = node_rests; letter = letter_rests }

@@ -14,9 +14,9 @@ use Rattle.hk_world.specs.declared.event.Event.{Event}
 use Rattle.hk_world.specs.declared.event.Header.{Header}
 use Rattle.hk_world.specs.Start.{counted}
 use Rattle.hk_world.specs.Steps.{acting_of, Accepted, world_step}
-use Rattle.hk_world.specs.Sound.{IsHeader}
 use Rattle.hk_world.specs.World.{WorldState}
 use Rattle.hk_effects.specs.View.{Trace, view, traced, traced_by, key_node, node_at, letters_of, step_marks}
+use Rattle.hk_world.specs.Sound.{IsHeader}
 use Rattle.hk_effects.specs.Runs.{start_trace, Follows, IsKept, RunsKeepParts}
 use Rattle.hk_effects.proofs.Frames.{itself}
 use Rattle.hk_effects.proofs.Worlds.{the_accepted}

@@ -30,7 +30,7 @@ use Rattle.hk_parts.proofs.Given.{wire_of}
 use Rattle.hk_parts.proofs.Says.{Says}
 use Rattle.hk_parts.proofs.Sending.{event_later}
 use Rattle.hk_parts.proofs.Sources.{Source, source_of}
-use Rattle.hk_parts.proofs.Steps.{step_said}
+use Rattle.hk_parts.proofs.Steps.{step_said, of_replicas}
 
 -- ---- an ACK tells its sender and epoch
 module _ (key : List ℕ) (l : Wire) (m f s top : ℕ) where
@@ -120,7 +120,7 @@ module _ (runs : RunsKeepParts) (key : List ℕ) (h : Header) (header : IsHeader
             let o = ack_from key w.0 from c s top w.0.body w.2 in
             let before : IsKept key t = runs h header key past t f in
             let now : IsKept key (traced key t event a) = runs h header key (past ++ event ∷ []) (traced key t event a) now_follows in
-            let says : Says k.s.node w.0 = step_said k.x (node_holds t.world before.own.sound k.id.0 k.x (ap node_of k.there)).1 t.world event k.s k.how w.0 w.1 in
+            let says : Says k.s.node w.0 = step_said k.x (node_holds t.world before.own.sound k.id.0 k.x (ap node_of k.there)).1 t.world event k.s k.how w.0 w.1 (of_replicas key w.0 w.0.body _ w.2) in
             let at : node_at k.id.0 a.world.processes ≡ Some k.s.node = ap (λ (b : Accepted). node_at k.id.0 b.world.processes) k.is ∙ node-put_same k.id (alive k.s.node) t.world.processes in
             let at' : node_at k.id.0 (traced key t event a).world.processes ≡ Some k.s.node = ap (λ (w : WorldState). node_at k.id.0 w.processes) (world_is key t event a (acting_of a)) ∙ at in
             let id_is : k.s.node.id ≡ numbered_node k.id.0 = (node_holds (traced key t event a).world now.own.sound k.id.0 k.s.node at').0 in

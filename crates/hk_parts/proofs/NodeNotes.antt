@@ -167,7 +167,7 @@ module _ (key : List ℕ) (w : WorldState) (x : NodeState) (ok : IsNoted (row_at
   step_keeps (Copy id from room) s is = rw is (either (not x.ready && is_other x from) (record { node = x; letters = letters_to x (CopyAsk x.cursor room) (from ∷ []); told = []; installed = None }) ok)
   step_keeps (Install id epoch) s is = rw is.2 (installs_keeps is.0)
   step_keeps (Lease id end) s is = rw is ok
-  step_keeps (AskLease id manager) s is = rw is ok
+  step_keeps (AskLease id manager) s is = rw is (either (ltb manager x.managers) (record { node = x; letters = record { epoch = epoch_of x; from = A.Node x.id; to = A.Manager manager; body = LeaseAsk x.clock } ∷ []; told = []; installed = None }) ok)
   step_keeps (TickAll to) s is = absurd is
   step_keeps (Crash actor) s is = absurd is
   step_keeps (Start id) s is = absurd is

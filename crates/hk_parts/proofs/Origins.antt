@@ -20,7 +20,7 @@ use Rattle.hk_node.specs.Rows.{row_at}
 use Rattle.hk_effects.specs.View.{Trace, view, node_at, note_of, pending_of, phase_of, key_node}
 use Rattle.hk_effects.specs.Own.{Agrees}
 use Rattle.hk_effects.specs.Runs.{IsKept}
-use Rattle.hk_effects.proofs.Legality.{family_agrees}
+use Rattle.hk_effects.proofs.Legality.{own_agrees}
 use Rattle.hk_effects.proofs.Rests.{node_holds, row_sound}
 use Rattle.hk_parts.specs.Facts.{members_at, HasCovered, IsSettled}
 use Rattle.hk_parts.specs.UpdatePart.{HasShape, IsBegun, IsBegunAs, FromUpdate, FromUpdateAs}
@@ -54,7 +54,7 @@ note_from P (a ∷ ks) k all (inr h) = note_from P ks k all.1 h
 
 module _ (key : List ℕ) (t : Trace) (ok : IsKept key t) where
   pub agreed : Agrees t.world (members_at t)
-  agreed = family_agrees t.world ok.own.sound.views
+  agreed = own_agrees t.world ok.own
 
   pub parts_at : Parts (members_at t) (view key t)
   parts_at = ok.parts (members_at t) agreed
@@ -125,7 +125,7 @@ module _ (key : List ℕ) (t : Trace) (ok : IsKept key t) where
   pub risen : (p : Trace) → IsKept key p → ((k : Mark) → In p.marks k → In t.marks k) → (n : ℕ) →
       (((view key p).node n).stamp ≤ ((view key t).node n).stamp) × (((view key p).node n).epoch ≤ ((view key t).node n).epoch)
   risen p before keeps n =
-      let o = ((before.parts (members_at p) (family_agrees p.world before.own.sound.views)).nodes n) in
+      let o = ((before.parts (members_at p) (own_agrees p.world before.own)).nodes n) in
       ⊎_elim
       (λ (zero_is : ((view key p).node n).epoch ≡ 0). let r = (o.resting zero_is).0 in (omega arith, omega arith))
       (λ (pos : 0 < ((view key p).node n).epoch).

@@ -2,8 +2,8 @@
 use Rattle.std.proofs.Common.{ℕ, List, le_refl}
 use Rattle.hk_register.specs.Machine.{State}
 use Rattle.hk_register.proofs.Orders.{one_complete, none_between}
-use Rattle.hk_world.specs.Sound.{IsHeader}
 use Rattle.hk_effects.specs.View.{Trace, view}
+use Rattle.hk_world.specs.Sound.{IsHeader}
 use Rattle.hk_effects.specs.Runs.{RunsKeepParts}
 use Rattle.hk_parts.specs.Moments.{Run, Ends}
 use Rattle.hk_parts.specs.Facts.{members_at}

@@ -69,12 +69,12 @@ module _ (runs : RunsKeepParts) (key : List ℕ) (h : Header) (header : IsHeader
     where
       by_case : Stepping t.world event a ⊎ Beside t.world a → node_at n a.world.processes ≡ Some y → IsNoted (row_at key y.rows).pending
       by_case (inl c) at' =
-          let put : node_at n (accepted t.world c.id c.x c.s c.calls c.call).world.processes ≡ Some y = subst (λ (b : Accepted). node_at n b.world.processes ≡ Some y) c.is at' in
+          let put : node_at n (accepted t.world c.id c.x c.s c.calls c.paces c.call).world.processes ≡ Some y = subst (λ (b : Accepted). node_at n b.world.processes ≡ Some y) c.is at' in
           let there : node_at c.id.0 t.world.processes ≡ Some c.x = ap node_of c.there in
           let now = step_keeps key t.world c.x (noted c.id.0 c.x there) (tops past t f c.id.0 c.x there) event c.s c.how in
           ⊎_elim
           (λ (same : n ≡ c.id.0).
-          let put' : node_at c.id.0 (accepted t.world c.id c.x c.s c.calls c.call).world.processes ≡ Some y = subst (λ (i : ℕ). node_at i (accepted t.world c.id c.x c.s c.calls c.call).world.processes ≡ Some y) same put in
+          let put' : node_at c.id.0 (accepted t.world c.id c.x c.s c.calls c.paces c.call).world.processes ≡ Some y = subst (λ (i : ℕ). node_at i (accepted t.world c.id c.x c.s c.calls c.paces c.call).world.processes ≡ Some y) same put in
           let is : c.s.node ≡ y = the_some c.s.node y (sym (node-put_same c.id (alive c.s.node) t.world.processes) ∙ put') in
           subst (λ (z : NodeState). IsNoted (row_at key z.rows).pending) is now)
           (λ (other : n ≢ c.id.0). noted n y (sym (node-put_other n c.id (alive c.s.node) t.world.processes other) ∙ put)) (cases_eq n c.id.0)

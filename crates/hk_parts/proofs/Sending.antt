@@ -20,6 +20,7 @@ use Rattle.hk_effects.proofs.Two.{append_three}
 use Rattle.hk_parts.specs.Moments.{Run, EventOf, Sent}
 use Rattle.hk_parts.proofs.Moments.{follows_then, world_is, always}
 use Rattle.hk_parts.proofs.Cases.{Stepping, Beside, event_case}
+use Rattle.hk_parts.specs.ViewPart.{IsOfReplicas}
 use Rattle.hk_parts.proofs.Says.{Says}
 use Rattle.hk_parts.proofs.Steps.{step_said}
 
@@ -53,7 +54,7 @@ told_later key h past event l o =
 
 module _ (runs : RunsKeepParts) (key : List ℕ) (h : Header) (header : IsHeader h) where
   abbrev Letters : List Event → Trace → Type 0
-  Letters past t = (l : Letter) → In t.world.letters l → Told key (record { header = h; events = past }) l
+  Letters past t = (l : Letter) → In t.world.letters l → IsOfReplicas l.body → Told key (record { header = h; events = past }) l
 
   module _ (past : List Event) (t : Trace) (event : Event) (a : Accepted) (f : Follows key (start_trace h) past t) (e : world_step t.world event ≡ Ok a) (event_ok : IsEvent event) where
     now : Trace
@@ -69,10 +70,10 @@ module _ (runs : RunsKeepParts) (key : List ℕ) (h : Header) (header : IsHeader
     after = runs h header key (past ++ event ∷ []) (traced key t event a) now_follows
 
     -- a letter of the node's step
-    fresh : (c : Stepping t.world event a) (l : Letter) → In c.s.letters l → Told key (record { header = h; events = past ++ event ∷ [] }) l
-    fresh c l among =
-        let says = step_said c.x (node_holds t.world before.own.sound c.id.0 c.x (ap node_of c.there)).1 t.world event c.s c.how l among in
-        let world : a.world ≡ (accepted t.world c.id c.x c.s c.calls c.call).world = ap (λ (b : Accepted). b.world) c.is in
+    fresh : (c : Stepping t.world event a) (l : Letter) → In c.s.letters l → IsOfReplicas l.body → Told key (record { header = h; events = past ++ event ∷ [] }) l
+    fresh c l among of =
+        let says = step_said c.x (node_holds t.world before.own.sound c.id.0 c.x (ap node_of c.there)).1 t.world event c.s c.how l among of in
+        let world : a.world ≡ (accepted t.world c.id c.x c.s c.calls c.paces c.call).world = ap (λ (b : Accepted). b.world) c.is in
         let there : node_at c.id.0 a.world.processes ≡ Some c.s.node = ap (λ (w : WorldState). node_at c.id.0 w.processes) world ∙ node-put_same c.id (alive c.s.node) t.world.processes in
         let there' : node_at c.id.0 (traced key t event a).world.processes ≡ Some c.s.node = ap (λ (w : WorldState). node_at c.id.0 w.processes) (world_is key t event a (acting_of a)) ∙ there in
         let own : c.s.node.id ≡ c.id = (node_holds (traced key t event a).world after.own.sound c.id.0 c.s.node there').0 in
@@ -91,14 +92,17 @@ module _ (runs : RunsKeepParts) (key : List ℕ) (h : Header) (header : IsHeader
         }
 
     goes_on : Letters past t → Letters (past ++ event ∷ []) (traced key t event a)
-    goes_on told l i = by_case (event_case t.world event a e) (subst (λ (w : WorldState). In w.letters l) (world_is key t event a (acting_of a)) i)
+    goes_on told l i of = by_case (event_case t.world event a e) (subst (λ (w : WorldState). In w.letters l) (world_is key t event a (acting_of a)) i)
       where
         by_case : Stepping t.world event a ⊎ Beside t.world a → In a.world.letters l → Told key (record { header = h; events = past ++ event ∷ [] }) l
         by_case (inl c) i = ⊎_elim
-            (λ (old : In t.world.letters l). told_later key h past event l (told l old))
-            (λ (new : In c.s.letters l). fresh c l new)
+            (λ (old : In t.world.letters l). told_later key h past event l (told l old of))
+            (λ (new : In c.s.letters l). fresh c l new of)
             (in_either t.world.letters c.s.letters l (subst (λ (b : Accepted). In b.world.letters l) c.is i))
-        by_case (inr b) i = told_later key h past event l (told l (rw b.letters at i))
+        by_case (inr b) i = ⊎_elim
+            (λ (old : In t.world.letters l). told_later key h past event l (told l old of))
+            (λ (new : In b.letters l). absurd (b.silent l new of))
+            (in_either t.world.letters b.letters l (rw b.sent at i))
 
   pub letters_told : (events : List Event) (last : Trace) → Follows key (start_trace h) events last → Letters events last
   letters_told events last f = always key h Letters goes_on (λ l none. absurd none) events last f

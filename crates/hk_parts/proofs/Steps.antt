@@ -1,5 +1,5 @@
 -- Each step of a node says what is so.
-use Rattle.std.proofs.Common.{◌≡◌, ℕ, Bool, true, false, cond, not, ◌&&◌, ◌+◌, List, [], ◌∷◌, map, refl, ⊎_elim, Option, Some, None, eqb, ltb, nat_cmp}
+use Rattle.std.proofs.Common.{◌≡◌, ℕ, Bool, true, false, cond, not, ◌&&◌, ◌+◌, List, [], ◌∷◌, map, refl, subst, ⊎_elim, Option, Some, None, eqb, ltb, nat_cmp}
 use Rattle.std.specs.List.{flat_map}
 use Rattle.std.specs.Option.{option_or}
 use Rattle.std.proofs.lemmas.Bool.{and_parts}
@@ -26,7 +26,7 @@ use Rattle.hk_key.specs.Notes.{all_noted}
 use Rattle.hk_key.specs.Table.{Done, begin, on_ack, on_val, resend, replay, still, unnoted, on_inv}
 use Rattle.hk_key.proofs.Rising.{inv_never_lowers}
 use Rattle.hk_node.proofs.Acts.{inv_untouched, untouched_stays}
-use Rattle.hk_register.specs.Machine.{In}
+use Rattle.hk_register.specs.Machine.{In, Letter as KeyLetter}
 use Rattle.hk_register.proofs.Grow.{in_either}
 use Rattle.hk_node.specs.Calls.{kind_of, next_stamp, register_in, at_limit, at_turn, at_state, lease_end, at_lease, called}
 use Rattle.hk_node.specs.Copies.{batch_behind, asks_copy, gives_copy, merged, is_next}
@@ -36,14 +36,38 @@ use Rattle.hk_node.specs.Sends.{letters_to, sent}
 use Rattle.hk_node.specs.Sound.{IsNode}
 use Rattle.hk_node.specs.Stepped.{Stepped, idle, row_step}
 use Rattle.hk_node.specs.Heard.{raised, is_greatest, has_majority}
-use Rattle.hk_node.specs.Steps.{on_found, resent, replayed, viewed, installed_in, installs, installs_by_majority, heard, received, is_addressed, receives_from, receives}
+use Rattle.hk_node.specs.Steps.{on_found, resent, replayed, asks_lease, viewed, installed_in, installs, installs_by_majority, heard, received, is_addressed, receives_from, receives}
 use Rattle.hk_world.specs.declared.event.Event.{Event}
 use Rattle.hk_world.specs.declared.event.Event.TheVariants.{Call, Take, Tick, TickAll, Crash, Resend, Replay, Copy, Start, Agree, Install, Lease, AskLease, Propose, Activate}
 use Rattle.hk_world.specs.World.{WorldState}
+use Rattle.hk_effects.specs.View.{letter_of}
 use Rattle.hk_effects.proofs.Batches.{batch_tells}
 use Rattle.hk_effects.proofs.Processes.{in_members}
+use Rattle.hk_parts.specs.ViewPart.{IsOfReplicas}
 use Rattle.hk_parts.proofs.Cases.{Steps}
 use Rattle.hk_parts.proofs.Says.{Says, AreSaid, Aims, letters_said, sent_said, to_one, started_aims, inv_said, ack_aims, resend_aims, replay_aims, view_aims, batch_is}
+
+-- what tells of a key is a letter of replicas
+pub of_replicas : (key : List ℕ) (l : Letter) (body : Body) (x : KeyLetter) → In (letter_of key l body) x → IsOfReplicas body
+of_replicas key l (Inv k s kind content) x h = tt
+of_replicas key l (Ack k s top) x h = tt
+of_replicas key l (Val k s) x h = tt
+of_replicas key l (CopyAsk after room) x h = tt
+of_replicas key l (CopyGive after done items) x h = tt
+of_replicas key l (LeaseAsk asked) x h = h
+of_replicas key l (LeaseGive end) x h = h
+of_replicas key l (Prepare ballot) x h = h
+of_replicas key l (Promise ballot vote) x h = h
+of_replicas key l (Accept ballot view) x h = h
+of_replicas key l (Accepted ballot) x h = h
+of_replicas key l (Chosen view) x h = h
+of_replicas key l (Activate view) x h = h
+
+all_said : (s : Stepped) → AreSaid s → AreSaid s
+all_said s are = are
+
+replicas_said : (s : Stepped) → ((l : Letter) → In s.letters l → IsOfReplicas l.body → Says s.node l) → (l : Letter) → In s.letters l → IsOfReplicas l.body → Says s.node l
+replicas_said s said = said
 
 module _ (x : NodeState) (ok : IsNode x) where
   idle_said : AreSaid (idle x)
@@ -195,19 +219,34 @@ module _ (x : NodeState) (ok : IsNode x) where
       by_from (A.Manager m) = by_heard m (is_addressed x l.to && ltb m x.managers)
       by_from (A.Node from) = by_test from (is_addressed x l.to && (eqb l.epoch (epoch_of x) && is_other x from)) refl
 
-  pub step_said : (w : WorldState) (event : Event) (s : Stepped) → Steps w x event s → AreSaid s
-  step_said w (Call id key op) s is = rw is (called_said (record { 0 = w.calls + 1 }) key op)
-  step_said w (Take n) s is = rw is.2 (receives_said is.0)
-  step_said w (Tick actor to) s is = rw is (λ l h. absurd h)
-  step_said w (Resend id key) s is = rw is (resent_said key)
-  step_said w (Replay id key) s is = rw is (replayed_said key)
-  step_said w (Copy id from room) s is = rw is (asks_said from room)
-  step_said w (Install id epoch) s is = rw is.2 (installs_said is.0)
-  step_said w (Lease id end) s is = rw is (λ l h. absurd h)
-  step_said w (AskLease id manager) s is = rw is idle_said
-  step_said w (TickAll to) s is = absurd is
-  step_said w (Crash actor) s is = absurd is
-  step_said w (Start id) s is = absurd is
-  step_said w (Agree change) s is = absurd is
-  step_said w (Propose manager base change) s is = absurd is
-  step_said w (Activate manager) s is = absurd is
+  -- what is asked of a manager is nothing of replicas
+  asks_lease_said : (manager : ℕ) (l : Letter) → In (asks_lease x manager).letters l → IsOfReplicas l.body → Says (asks_lease x manager).node l
+  asks_lease_said manager = by_there (ltb manager x.managers)
+    where
+      ask : Letter
+      ask = record { epoch = epoch_of x; from = A.Node x.id; to = A.Manager manager; body = LeaseAsk x.clock }
+
+      asking : Bool → Stepped
+      asking b = cond b (record { node = x; letters = ask ∷ []; told = []; installed = None }) (idle x)
+
+      by_there : (b : Bool) (l : Letter) → In (asking b).letters l → IsOfReplicas l.body → Says (asking b).node l
+      by_there true l h of = ⊎_elim (λ (is : l ≡ ask). absurd (subst (λ (k : Letter). IsOfReplicas k.body) is of)) (λ (none : ⊥). absurd none) h
+      by_there false l h of = absurd h
+
+  -- each letter of replicas that a step sends
+  pub step_said : (w : WorldState) (event : Event) (s : Stepped) → Steps w x event s → (l : Letter) → In s.letters l → IsOfReplicas l.body → Says s.node l
+  step_said w (Call id key op) s is l h of = all_said s (rw is (called_said (record { 0 = w.calls + 1 }) key op)) l h
+  step_said w (Take n) s is l h of = all_said s (rw is.2 (receives_said is.0)) l h
+  step_said w (Tick actor to) s is l h of = all_said s (rw is (λ l h. absurd h)) l h
+  step_said w (Resend id key) s is l h of = all_said s (rw is (resent_said key)) l h
+  step_said w (Replay id key) s is l h of = all_said s (rw is (replayed_said key)) l h
+  step_said w (Copy id from room) s is l h of = all_said s (rw is (asks_said from room)) l h
+  step_said w (Install id epoch) s is l h of = all_said s (rw is.2 (installs_said is.0)) l h
+  step_said w (Lease id end) s is l h of = all_said s (rw is (λ l h. absurd h)) l h
+  step_said w (AskLease id manager) s is l h of = replicas_said s (rw is (asks_lease_said manager)) l h of
+  step_said w (TickAll to) s is l h of = absurd is
+  step_said w (Crash actor) s is l h of = absurd is
+  step_said w (Start id) s is l h of = absurd is
+  step_said w (Agree change) s is l h of = absurd is
+  step_said w (Propose manager base change) s is l h of = absurd is
+  step_said w (Activate manager) s is l h of = absurd is

@@ -10,12 +10,13 @@ use Rattle.hk_register.specs.Facts.{Covers}
 use Rattle.hk_register.specs.Parts.{Known, LetterOk}
 use Rattle.hk_register.proofs.Helps.{pending_of}
 use Rattle.hk_register.proofs.Orders.{base_not_below}
-use Rattle.hk_world.specs.Sound.{IsHeader}
 use Rattle.hk_effects.specs.View.{Trace, view}
+use Rattle.hk_world.specs.Sound.{IsHeader}
 use Rattle.hk_effects.specs.Runs.{IsKept, RunsKeepParts}
 use Rattle.hk_parts.specs.Moments.{Run, Ends, Moment}
 use Rattle.hk_parts.specs.Facts.{members_at, IsSettled}
 use Rattle.hk_parts.specs.UpdatePart.{LetterBegun, LetterTells, AckSent, UpdatePart}
+use Rattle.hk_parts.specs.ViewPart.{IsOfReplicas}
 use Rattle.hk_parts.proofs.Moments.{moment_marks_kept}
 use Rattle.hk_parts.proofs.Origins.{parts_at, known_begun, holds_begun, covers_begun, exact_begun, settled_begun, not_below, row_shape, other_noted, risen}
 use Rattle.hk_parts.proofs.Acks.{AcksTold}
@@ -63,7 +64,7 @@ module _ (runs : RunsKeepParts) (key : List ℕ) (run : Run) (header : IsHeader 
         rows_cover = λ n e s c. not_below key t kept_here n e s c;
         shape = λ n x at. row_shape key t kept_here n x at;
         letters_tell = λ l h. letter_tells l h (parts.letters l h);
-        acks_tell = λ l h s top is. ack_sent l s top is (letters_told runs key run.header header run.events t ends l h);
+        acks_tell = λ l h s top is. ack_sent l s top is (letters_told runs key run.header header run.events t ends l h (subst IsOfReplicas (sym is) tt));
         notes_tell = λ n p has k h.
             let o = (pending_of (members_at t) (view key t) n ((view key t).node n) ((view key t).node n).phase p has (parts.nodes n).phase).notes k h in
             record { member = o.member; other = other_noted key t kept_here n p has k h; covered = o.covers; exact = o.exact };

@@ -4,8 +4,8 @@ use Rattle.hk_register.specs.Machine.{In, Pending}
 use Rattle.hk_register.specs.Machine.Letter.{Ack}
 use Rattle.hk_register.specs.Effects.{Has}
 use Rattle.hk_world.specs.Steps.{acting_of}
-use Rattle.hk_world.specs.Sound.{IsHeader}
 use Rattle.hk_effects.specs.View.{Trace, view, traced}
+use Rattle.hk_world.specs.Sound.{IsHeader}
 use Rattle.hk_parts.specs.Moments.{Run, Ends, Moment, EventOf}
 use Rattle.hk_parts.specs.Facts.{HasCovered, WasExact}
 

@@ -1,10 +1,9 @@
 -- The invariant's part on epochs, leases and copies.
-use Rattle.std.specs.Prelude.{◌≡◌, ◌⊎◌, ℕ, Bool, true, false, List, [], ◌∷◌, ◌++◌, not, ◌+◌, ◌<◌, ◌≤◌, ◌==◌, Option, Some}
-use Rattle.std.specs.List.{filter}
-use Rattle.hk_base.specs.declared.stamp.NodeId.{NodeId}
+use Rattle.std.specs.Prelude.{◌≡◌, ◌⊎◌, ℕ, Bool, true, false, List, [], ◌∷◌, ◌+◌, ◌<◌, ◌≤◌, Option, Some, ⊤}
 use Rattle.hk_base.specs.declared.call.Content.{Content}
 use Rattle.hk_base.specs.declared.letter.Actor.TheVariants as A
-use Rattle.hk_base.specs.declared.letter.Body.TheVariants.{CopyGive}
+use Rattle.hk_base.specs.declared.letter.Body.{Body}
+use Rattle.hk_base.specs.declared.letter.Body.TheVariants.{Inv, Ack, Val, CopyAsk, CopyGive}
 use Rattle.hk_base.specs.declared.letter.CopyItem.{CopyItem}
 use Rattle.hk_base.specs.declared.letter.Letter.{Letter as Wire}
 use Rattle.hk_base.specs.declared.stamp.Kind.{Kind}
@@ -18,23 +17,24 @@ use Rattle.hk_node.specs.Copies.{copy_of}
 use Rattle.hk_world.specs.declared.event.Event.TheVariants.{Take}
 use Rattle.hk_world.specs.World.{numbered}
 use Rattle.hk_effects.specs.View.{Trace, view, traced, node_at, has_copied, covers}
-use Rattle.hk_effects.specs.Own.{Ended}
+use Rattle.hk_effects.specs.Own.{IsDropped, IsAdded, Ended}
 use Rattle.hk_parts.specs.Moments.{Run, Moment, EventOf, Sent}
 use Rattle.hk_parts.specs.Facts.{members_at, HasCovered}
-
--- the view with one member dropped
-abbrev pub IsDropped : View → View → Type 0
-IsDropped u v = (id : NodeId) × In (member_numbers u.members) id.0 × (v ≡ record { epoch = u.epoch + 1; members = filter (λ m. not (m.0 == id.0)) u.members; next = u.next })
-
--- the view with the node of the next number added
-abbrev pub IsAdded : View → View → Type 0
-IsAdded u v = v ≡ record { epoch = u.epoch + 1; members = u.members ++ record { 0 = u.next } ∷ []; next = u.next + 1 }
 
 -- the node has an agreed view, the only one of its epoch, and is a member of it
 pub record HasView (t : Trace) (n : ℕ) (x : NodeState) (v : View) : Type 0 where
   pub agreed : In t.world.views v
   pub only : (u : View) → In t.world.views u → u.epoch ≡ v.epoch → u ≡ v
   pub member : In (member_numbers v.members) n
+
+-- A letter of the register: an INV, an ACK, a VAL, or one of a copy. The others are those of leases and of managers.
+abbrev pub IsOfReplicas : Body → Type 0
+IsOfReplicas (Inv key s kind content) = ⊤
+IsOfReplicas (Ack key s top) = ⊤
+IsOfReplicas (Val key s) = ⊤
+IsOfReplicas (CopyAsk after room) = ⊤
+IsOfReplicas (CopyGive after done items) = ⊤
+IsOfReplicas body = ⊥
 
 -- the letter's sender was a member of the view of its epoch, and in that epoch when it sent it
 pub record SentInEpoch (key : List ℕ) (run : Run) (t : Trace) (l : Wire) : Type 0 where
@@ -92,8 +92,8 @@ pub record ViewPart (key : List ℕ) (run : Run) (t : Trace) : Type 0 where
       (n : ℕ) → In (member_numbers u.members) n → (In (member_numbers v.members) n → ⊥) → In (member_numbers w.members) n → ⊥
   pub own_view : (n : ℕ) (x : NodeState) → node_at n t.world.processes ≡ Some x → (v : View) → x.view ≡ Some v → HasView t n x v
   pub epochs_rise : (past : Trace) → Moment key run past → (n : ℕ) → ((view key past).node n).epoch ≤ ((view key t).node n).epoch
-  -- 2. Each letter was sent by a member of the view of its epoch while it was in that epoch: there are no managers.
-  pub senders : (l : Wire) → In t.world.letters l → SentInEpoch key run t l
+  -- 2. Each INV, ACK, VAL, CopyAsk and CopyGive was sent by a member of the view of its epoch while it was in that epoch.
+  pub senders : (l : Wire) → In t.world.letters l → IsOfReplicas l.body → SentInEpoch key run t l
   -- 3. For each view of an epoch e and each ready node in a later epoch: the node's row is not below what some member of view e, which
   -- has gone on, covered up to e. This is said of every ready node, whether it joined after e or before.
   pub ready_not_below : (n : ℕ) → ((view key t).node n).ready ≡ true → (e : ℕ) → 1 ≤ e → e < ((view key t).node n).epoch → IsNotBelow key run t e n ((view key t).node n).stamp

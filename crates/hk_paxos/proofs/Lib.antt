@@ -3,4 +3,5 @@ pub mod Quorums
 pub mod Parts
 pub mod Events
 pub mod Runs
+pub mod Values
 mod Worked

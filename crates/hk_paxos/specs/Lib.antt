@@ -1,3 +1,4 @@
 pub mod Paxos
 pub mod Run
 pub mod Worked
+pub mod Validity

@@ -4,8 +4,8 @@
 //! its own, proposes the view that the promises of a majority leave it, and reports a view once a majority accepted
 //! it. All of it is one instance, which is named by the epoch of the view that is agreed on. The calls are exactly the
 //! functions of `specs/Paxos.antt`. Of these a *run* is made, in `specs/Run.antt`: managers that propose, stop, and are
-//! delivered any letter that was ever sent, in any order, once, often or never. `agreement` is the law over all runs, and
-//! `worked_run` shows one.
+//! delivered any letter that was ever sent, in any order, once, often or never. `agreement` and `validity` are the laws over all runs,
+//! and `worked_run` shows one.
 //!
 //! The algorithm is Lamport's, "Paxos made simple" (2001); the phases 1a to 2b are named as in his TLA+ of Paxos.
 #![tactic(auto)]
@@ -15,5 +15,5 @@ mod law;
 mod proposer;
 
 pub use acceptor::{Acceptor, Promise};
-pub use law::{agreement, worked_run};
+pub use law::{agreement, validity, worked_run};
 pub use proposer::Proposer;

@@ -1,10 +1,11 @@
 -- The node that acts in an accepted event, and what its step tells.
-use Rattle.std.proofs.Common.{◌≡◌, ◌≢◌, ◌⊎◌, ℕ, ◌+◌, ◌<◌, ◌≤◌, List, [], ◌∷◌, ◌++◌, length, map, Bool, true, false, cond, not, Option, Some, None, Ok, Err, refl, sym, ap, subst, ◌∙◌, inl, inr, ⊎_elim, arith, IfSome, eqb, ltb, leb, Less}
+use Rattle.std.proofs.Common.{◌≡◌, ◌≢◌, ◌⊎◌, ℕ, ◌+◌, ◌<◌, ◌≤◌, List, [], ◌∷◌, ◌++◌, map, Bool, true, false, cond, Option, Some, None, Result, Ok, refl, sym, ap, subst, ◌∙◌, inl, inr, ⊎_elim, arith, IfSome, Less}
 use Rattle.std.specs.Prelude.{⊤}
 use Rattle.std.specs.Option.{IsSomeAnd, option_map}
-use Rattle.std.specs.List.{AllByRecursion, find, filter}
+use Rattle.std.specs.List.{AllByRecursion}
 use Rattle.std.specs.List.Sorted.{IsStrictlySortedBy}
 use Rattle.std.specs.Map.{keys_of}
+use Rattle.std.proofs.lemmas.List.{append-nil}
 use Rattle.std.proofs.lemmas.Map.Keys.{sorted_head, sorted_tail}
 use Rattle.hk_base.specs.declared.stamp.NodeId.{NodeId}
 use Rattle.hk_base.specs.declared.call.CallNo.{CallNo}
@@ -12,8 +13,6 @@ use Rattle.hk_base.specs.declared.call.Op.{Op}
 use Rattle.hk_base.specs.declared.call.Reply.{Reply}
 use Rattle.hk_base.specs.declared.letter.Letter.{Letter}
 use Rattle.hk_base.specs.declared.view.View.{View}
-use Rattle.hk_base.specs.declared.view.Change.{Change}
-use Rattle.hk_base.specs.declared.view.Change.TheVariants.{Drop, Add}
 use Rattle.hk_base.specs.Range.{IsLetter}
 use Rattle.hk_base.specs.View.{IsView}
 use Rattle.hk_base.specs.Stamp.{tag_of}
@@ -22,11 +21,16 @@ use Rattle.hk_key.specs.declared.row.Pending.{Pending}
 use Rattle.hk_key.specs.declared.row.Row.{Row}
 use Rattle.hk_node.specs.declared.event.NodeEvent.{NodeEvent}
 use Rattle.hk_node.specs.declared.event.NodeEvent.TheVariants as N
-use Rattle.hk_node.specs.Node.{NodeState, epoch_of, is_member}
+use Rattle.hk_clocks.specs.Clocks.{Paces}
+use Rattle.hk_manager.specs.declared.event.ManagerEvent.TheVariants.{Propose as Proposal, Receive as Receipt, Activate as Activation}
+use Rattle.hk_manager.specs.declared.fault.ManagerFault.{ManagerFault}
+use Rattle.hk_manager.specs.Manager.{ManagerState}
+use Rattle.hk_manager.specs.Steps.{Stepped as ManagerStepped, manager_step}
+use Rattle.hk_node.specs.Node.{NodeState}
 use Rattle.hk_node.specs.Rows.{row_at}
 use Rattle.hk_node.specs.Sound.{IsNode, IsEvent as IsNodeEvent}
 use Rattle.hk_node.specs.Report.{AreChanged, changed_rows}
-use Rattle.hk_node.specs.Stepped.{Stepped, idle}
+use Rattle.hk_node.specs.Stepped.{Stepped}
 use Rattle.hk_node.specs.Calls.{called}
 use Rattle.hk_node.specs.Steps.{node_step, receives, installs}
 use Rattle.hk_node.specs.Laws.{IsAnsweredAlone, HasBegun}
@@ -36,16 +40,14 @@ use Rattle.hk_node.proofs.Exact.{reports_are_exact}
 use Rattle.hk_node.proofs.InOrder.{told_in_order}
 use Rattle.hk_world.specs.declared.event.Event.{Event}
 use Rattle.hk_world.specs.declared.event.Event.TheVariants.{Call, Take, Tick, TickAll, Crash, Resend, Replay, Copy, Start, Agree, Install, Lease, AskLease, Propose, Activate}
-use Rattle.hk_world.specs.declared.process.Process.{Process}
-use Rattle.hk_world.specs.declared.refused.Refused.TheVariants.{Behind, NotMember, NoSuchMember, LastMember, Full, NoNumbers}
 use Rattle.hk_world.specs.declared.shown.Shown.{Shown}
 use Rattle.hk_world.specs.World.{WorldState, process_at, put_process, numbered, last_view}
-use Rattle.hk_world.specs.Steps.{Accepted, acting_of, world_step, aside, nothing, takes, acts, calls_at, process_ticked, joining, agreed_on, agrees, ticks_at, crashes_at, may_run, guarded_by, installs_at, leases_at}
+use Rattle.hk_world.specs.Steps.{Accepted, acting_of, world_step, aside, nothing, live, live_manager, manager_acts, with_manager_step, manager_shown, acts, calls_at, process_ticked, joining, agrees, ticks_at, manager_ticks_at, crashes_at, manager_crashes_at, installs_at, leases_at}
 use Rattle.hk_world.specs.Sound.{IsEvent}
 use Rattle.hk_world.proofs.Viewed.{numbered_holds}
 use Rattle.hk_effects.specs.View.{is_behind, told_at, node_at}
 use Rattle.hk_effects.specs.Own.{IsOwn, IsPendingOf}
-use Rattle.hk_effects.proofs.Accepting.{alive, live_step, live_actor_step, ticks_step, all_tick_step, starts_step, leases_step}
+use Rattle.hk_effects.proofs.Accepting.{alive, makes, with_processes, with_managers, live_manager_step, makes_manager_step, unmanaged_step, live_step, any_actor_step, any_takes_step, ticks_step, any_tick_step, manager_ticks_step, manager_crashes_step, crashes_step, any_starts_step, changes_step, installs_step, leases_step}
 use Rattle.hk_effects.proofs.Frames.{accepted}
 use Rattle.hk_effects.proofs.Order.{same_of, same_not, test_of_below, cases_key}
 use Rattle.hk_effects.proofs.Rising.{RisesBehind, not_down, bound_differs, not_behind_itself}
@@ -71,11 +73,11 @@ node_event w (Replay id key) = Some (N.Replay key)
 node_event w (Copy id from room) = Some (N.AskCopy from room)
 node_event w (Install id epoch) = option_map N.Install (numbered epoch w.views)
 node_event w (Lease id end) = Some (N.Grant end)
+node_event w (AskLease id manager) = Some (N.AskLease manager)
 node_event w event = None
 
--- The node makes the step of that. Where it asks for a lease nothing happens yet.
+-- the node makes the step of that
 abbrev pub IsStepOf : WorldState → NodeState → Stepped → Event → Type 0
-IsStepOf w x o (AskLease id manager) = o ≡ idle x
 IsStepOf w x o event = (e : NodeEvent) × (node_event w event ≡ Some e) × (o ≡ node_step x e)
 
 -- a live node makes its step of the event
@@ -84,19 +86,20 @@ pub record IsStep (w : WorldState) (event : Event) (a : Accepted) (id : NodeId) 
   pub at : process_at id w.processes ≡ Some (alive x)
   pub o : Stepped
   pub how : IsStepOf w x o event
-  pub is : a ≡ accepted w id x o (calls_after event w.calls) (call_in (next_call w) event)
+  pub paces : Paces
+  pub is : a ≡ accepted w id x o (calls_after event w.calls) paces (call_in (next_call w) event)
 
 -- an event that is no call
 abbrev pub IsNoCall : Event → Type 0
 IsNoCall (Call id key op) = ⊥
 IsNoCall event = ⊤
 
--- no node acts, and nothing is sent or told
+-- no node acts, and nothing is told
 pub record IsBeside (w : WorldState) (event : Event) (a : Accepted) : Type 0 where
   pub acting : acting_of a ≡ None
   pub told : a.told ≡ []
   pub replies : a.shown.replies ≡ []
-  pub letters : a.shown.letters ≡ []
+  pub letters : a.world.letters ≡ w.letters ++ a.shown.letters
   pub calls : a.world.calls ≡ calls_after event w.calls
   pub no_call : IsNoCall event
 
@@ -109,9 +112,9 @@ abbrev pub IsMadeBy : WorldState → Event → Accepted → Type 0
 IsMadeBy w event a = ((id : NodeId) × IsStep w event a id × is_at event id) ⊎ IsBeside w event a
 
 module _ (w : WorldState) (a : Accepted) where
-  step_made : (event : Event) (id : NodeId) → is_at event id → (x : NodeState) → process_at id w.processes ≡ Some (alive x) → (o : Stepped) →
-      IsStepOf w x o event → calls_after event w.calls ≡ w.calls → call_in (next_call w) event ≡ None → acts w id x o ≡ Ok a → IsMadeBy w event a
-  step_made event id named x at o how quiet uncalled made =
+  makes_made : (event : Event) (id : NodeId) → is_at event id → (x : NodeState) → process_at id w.processes ≡ Some (alive x) → (o : Stepped) (paces : Paces) →
+      IsStepOf w x o event → calls_after event w.calls ≡ w.calls → call_in (next_call w) event ≡ None → makes w id x o paces ≡ Ok a → IsMadeBy w event a
+  makes_made event id named x at o paces how quiet uncalled made =
       inl (
         id,
         record {
@@ -119,78 +122,42 @@ module _ (w : WorldState) (a : Accepted) where
           at = at;
           o = o;
           how = how;
-          is = the_accepted a (accepted w id x o w.calls None) (Ok a) refl (sym made)
-              ∙ ap (λ (n : ℕ). accepted w id x o n None) (sym quiet)
-              ∙ ap (λ (c : Option CallNo). accepted w id x o (calls_after event w.calls) c) (sym uncalled);
+          paces = paces;
+          is = the_accepted a (accepted w id x o w.calls paces None) (Ok a) refl (sym made)
+              ∙ ap (λ (n : ℕ). accepted w id x o n paces None) (sym quiet)
+              ∙ ap (λ (c : Option CallNo). accepted w id x o (calls_after event w.calls) paces c) (sym uncalled);
         },
         named,
       )
 
+  step_made : (event : Event) (id : NodeId) → is_at event id → (x : NodeState) → process_at id w.processes ≡ Some (alive x) → (o : Stepped) →
+      IsStepOf w x o event → calls_after event w.calls ≡ w.calls → call_in (next_call w) event ≡ None → acts w id x o ≡ Ok a → IsMadeBy w event a
+  step_made event id named x at o how quiet uncalled made = makes_made event id named x at o w.paces how quiet uncalled made
+
   beside_made : (event : Event) (next : WorldState) (shown : Shown) → next.calls ≡ calls_after event w.calls → shown.acted ≡ None → shown.replies ≡ [] →
-      shown.letters ≡ [] → IsNoCall event → aside next shown ≡ Ok a → IsMadeBy w event a
-  beside_made event next shown quiet unacted silent unsent none made =
+      next.letters ≡ w.letters ++ shown.letters → IsNoCall event → aside next shown ≡ Ok a → IsMadeBy w event a
+  beside_made event next shown quiet unacted silent sent none made =
       let is : a ≡ record { world = next; told = []; shown = shown } =
       the_accepted a (record { world = next; told = []; shown = shown }) (Ok a) refl (sym made) in
       inr (record {
         acting = ap (λ (b : Accepted). acting_of b) is ∙ ap (option_map (λ r. r.node)) unacted;
         told = ap (λ (b : Accepted). b.told) is;
         replies = ap (λ (b : Accepted). b.shown.replies) is ∙ silent;
-        letters = ap (λ (b : Accepted). b.shown.letters) is ∙ unsent;
+        letters = rw is sent;
         calls = ap (λ (b : Accepted). b.world.calls) is ∙ quiet;
         no_call = none;
       })
 
-  take_made : (number : ℕ) (o : Option Letter) → numbered number w.letters ≡ o → takes w o ≡ Ok a → IsMadeBy w (Take number) a
-  take_made number None found e = cc
-  take_made number (Some l) found e = live_actor_step (IsMadeBy w (Take number) a) w a l.to (λ id node. acts w id node (receives node l))
-      (λ id x at made. step_made (Take number) id tt x at (receives x l) (N.Receive l, ap (option_map N.Receive) found, refl) refl refl made) e
+  -- nothing is sent
+  unsent_made : (event : Event) (next : WorldState) (v : Option View) → next.calls ≡ calls_after event w.calls → next.letters ≡ w.letters → IsNoCall event →
+      aside next (record nothing { view = v }) ≡ Ok a → IsMadeBy w event a
+  unsent_made event next v quiet same none made = beside_made event next (record nothing { view = v }) quiet refl refl (same ∙ sym (append-nil w.letters)) none made
 
-  agreed_made : (change : Change) (v : View) → agreed_on w v ≡ Ok a → IsMadeBy w (Agree change) a
-  agreed_made change v e = beside_made (Agree change) (record w { views = w.views ++ v ∷ [] }) (record nothing { view = Some v }) refl refl refl refl tt e
-
-  agree_made : (change : Change) → agrees w (last_view w.views) change ≡ Ok a → IsMadeBy w (Agree change) a
-  agree_made (Drop id) e =
-      by_member (is_member id (last_view w.views).members) (eqb (length (last_view w.views).members) 1)
-      (record {
-        epoch = (last_view w.views).epoch + 1;
-        members = filter (λ m. not (eqb m.0 id.0)) (last_view w.views).members;
-        next = (last_view w.views).next;
-      }) e
-    where
-      by_member : (b c : Bool) (v : View) → cond b (cond c (Err LastMember) (agreed_on w v)) (Err NoSuchMember) ≡ Ok a → IsMadeBy w (Agree (Drop id)) a
-      by_member true true v e = cc
-      by_member true false v e = agreed_made (Drop id) v e
-      by_member false c v e = cc
-  agree_made Add e =
-      by_full (leb 16 (length (last_view w.views).members)) (leb 65536 (last_view w.views).next)
-      (record {
-        epoch = (last_view w.views).epoch + 1;
-        members = (last_view w.views).members ++ record { 0 = (last_view w.views).next } ∷ [];
-        next = (last_view w.views).next + 1;
-      }) e
-    where
-      by_full : (b c : Bool) (v : View) → cond b (Err Full) (cond c (Err NoNumbers) (agreed_on w v)) ≡ Ok a → IsMadeBy w (Agree Add) a
-      by_full true c v e = cc
-      by_full false true v e = cc
-      by_full false false v e = agreed_made Add v e
-
-  install_made : (id : NodeId) (epoch : ℕ) (x : NodeState) → process_at id w.processes ≡ Some (alive x) → (o : Option View) → numbered epoch w.views ≡ o →
-      installs_at o w id x ≡ Ok a → IsMadeBy w (Install id epoch) a
-  install_made id epoch x at None found e = cc
-  install_made id epoch x at (Some v) found e = by_member (is_member id v.members) e
-    where
-      by_running : (o : Option (NodeId × Process)) → guarded_by o w id x v ≡ Ok a → IsMadeBy w (Install id epoch) a
-      by_running None e = step_made (Install id epoch) id tt x at (installs x v) (N.Install v, ap (option_map N.Install) found, refl) refl refl e
-      by_running (Some p) e = cc
-
-      by_later : (b : Bool) → cond b (guarded_by (find (may_run w.views v) w.processes) w id x v) (Err (Behind (epoch_of x))) ≡ Ok a → IsMadeBy w (Install id epoch) a
-      by_later true e = by_running (find (may_run w.views v) w.processes) e
-      by_later false e = cc
-
-      by_member : (b : Bool) → cond b (cond (ltb (epoch_of x) v.epoch) (guarded_by (find (may_run w.views v) w.processes) w id x v)
-          (Err (Behind (epoch_of x)))) (Err NotMember) ≡ Ok a → IsMadeBy w (Install id epoch) a
-      by_member true e = by_later (ltb (epoch_of x) v.epoch) e
-      by_member false e = cc
+  -- a manager makes a step
+  manager_made : (event : Event) → IsNoCall event → calls_after event w.calls ≡ w.calls → (m : ℕ) (step : ManagerState → Result ManagerStepped ManagerFault) →
+      live_manager w m (λ x. manager_acts w m (step x)) ≡ Ok a → IsMadeBy w event a
+  manager_made event none quiet m step e = live_manager_step (IsMadeBy w event a) w a m (λ x. manager_acts w m (step x)) (λ x at e.
+      makes_manager_step (IsMadeBy w event a) w a m (step x) (λ s is made. beside_made event (with_manager_step w m s) (manager_shown w m s) (sym quiet) refl refl refl none made) e) e
 
   call_made : (id : NodeId) (key : List ℕ) (op : Op) (x : NodeState) → process_at id w.processes ≡ Some (alive x) → calls_at w id key op x ≡ Ok a →
       IsMadeBy w (Call id key op) a
@@ -202,37 +169,53 @@ module _ (w : WorldState) (a : Accepted) where
           at = at;
           o = called x (next_call w) key op;
           how = (N.Call (next_call w) key op, refl, refl);
-          is = the_accepted a (accepted w id x (called x (next_call w) key op) (w.calls + 1) (Some (next_call w))) (Ok a) refl (sym e);
+          paces = w.paces;
+          is = the_accepted a (accepted w id x (called x (next_call w) key op) (w.calls + 1) w.paces (Some (next_call w))) (Ok a) refl (sym e);
         },
         refl,
       )
 
   pub is_made_by : (event : Event) → world_step w event ≡ Ok a → IsMadeBy w event a
   is_made_by (Call id key op) e = live_step (IsMadeBy w (Call id key op) a) w a id (calls_at w id key op) (λ x at made. call_made id key op x at made) e
-  is_made_by (Take number) e = take_made number (numbered number w.letters) refl e
-  is_made_by (Tick actor to) e = live_actor_step (IsMadeBy w (Tick actor to) a) w a actor (ticks_at w to)
-      (λ id x at e. ticks_step (IsMadeBy w (Tick actor to) a) w a to id x (λ up made. step_made (Tick actor to) id tt x at (node_step x (N.Tick to)) (N.Tick to, refl, refl) refl refl made) e) e
-  is_made_by (TickAll to) e = all_tick_step (IsMadeBy w (TickAll to) a) w a to
-      (λ made. beside_made (TickAll to) (record w { processes = map (process_ticked to) w.processes }) nothing refl refl refl refl tt made) e
-  is_made_by (Crash actor) e = live_actor_step (IsMadeBy w (Crash actor) a) w a actor (crashes_at w)
-      (λ id x at made. beside_made (Crash actor) (record w { processes = put_process id (record { node = x; crashed = true }) w.processes }) nothing refl refl refl refl tt made) e
+  is_made_by (Take number) e = any_takes_step (IsMadeBy w (Take number) a) w a number
+      (λ l found id x at made. step_made (Take number) id tt x at (receives x l) (N.Receive l, ap (option_map N.Receive) found, refl) refl refl made)
+      (λ l found m e. manager_made (Take number) tt refl m (λ x. manager_step x (Receipt l)) e) e
+  is_made_by (Tick actor to) e = any_actor_step (IsMadeBy w (Tick actor to) a) w a actor (ticks_at w to) (manager_ticks_at w to)
+      (λ id x at e. ticks_step (IsMadeBy w (Tick actor to) a) w a to id x
+      (λ paces made. makes_made (Tick actor to) id tt x at (node_step x (N.Tick to)) paces (N.Tick to, refl, refl) refl refl made) e)
+      (λ m e. live_manager_step (IsMadeBy w (Tick actor to) a) w a m (manager_ticks_at w to m)
+      (λ x at e. manager_ticks_step (IsMadeBy w (Tick actor to) a) w a to m x
+      (λ managers paces made. unsent_made (Tick actor to) (with_managers (with_processes w w.processes paces) managers) None refl refl tt made) e) e) e
+  is_made_by (TickAll to) e = any_tick_step (IsMadeBy w (TickAll to) a) w a to
+      (λ managers paces made. unsent_made (TickAll to) (with_managers (with_processes w (map (process_ticked to) w.processes) paces) managers) None refl refl tt made) e
+  is_made_by (Crash actor) e = any_actor_step (IsMadeBy w (Crash actor) a) w a actor (crashes_at w) (manager_crashes_at w)
+      (λ id x at e. crashes_step (IsMadeBy w (Crash actor) a) w a id x
+      (λ paces made. unsent_made (Crash actor) (with_processes w (put_process id (record { node = x; crashed = true }) w.processes) paces) None refl refl tt made) e)
+      (λ m e. live_manager_step (IsMadeBy w (Crash actor) a) w a m (manager_crashes_at w m)
+      (λ x at e. manager_crashes_step (IsMadeBy w (Crash actor) a) w a m x
+      (λ managers paces made. unsent_made (Crash actor) (with_managers (with_processes w w.processes paces) managers) None refl refl tt made) e) e) e
   is_made_by (Resend id key) e = live_step (IsMadeBy w (Resend id key) a) w a id (λ node. acts w id node (node_step node (N.Resend key)))
       (λ x at made. step_made (Resend id key) id tt x at (node_step x (N.Resend key)) (N.Resend key, refl, refl) refl refl made) e
   is_made_by (Replay id key) e = live_step (IsMadeBy w (Replay id key) a) w a id (λ node. acts w id node (node_step node (N.Replay key)))
       (λ x at made. step_made (Replay id key) id tt x at (node_step x (N.Replay key)) (N.Replay key, refl, refl) refl refl made) e
   is_made_by (Copy id from room) e = live_step (IsMadeBy w (Copy id from room) a) w a id (λ node. acts w id node (node_step node (N.AskCopy from room)))
       (λ x at made. step_made (Copy id from room) id tt x at (node_step x (N.AskCopy from room)) (N.AskCopy from room, refl, refl) refl refl made) e
-  is_made_by (Start id) e = starts_step (IsMadeBy w (Start id) a) w a id
-      (λ inside made. beside_made (Start id) (record w { processes = put_process id (joining w id) w.processes }) nothing refl refl refl refl tt made) e
-  is_made_by (Agree change) e = agree_made change e
-  is_made_by (Install id epoch) e = live_step (IsMadeBy w (Install id epoch) a) w a id (λ node. installs_at (numbered epoch w.views) w id node)
-      (λ x at made. install_made id epoch x at (numbered epoch w.views) refl made) e
-  is_made_by (Lease id end) e = live_step (IsMadeBy w (Lease id end) a) w a id (leases_at w id end)
-      (λ x at made. leases_step (IsMadeBy w (Lease id end) a) w a id end x (λ inside e. step_made (Lease id end) id tt x at (node_step x (N.Grant end)) (N.Grant end, refl, refl) refl refl e) made) e
-  is_made_by (AskLease id manager) e = live_step (IsMadeBy w (AskLease id manager) a) w a id (λ node. acts w id node (idle node))
-      (λ x at made. step_made (AskLease id manager) id tt x at (idle x) refl refl refl made) e
-  is_made_by (Propose manager base change) e = cc
-  is_made_by (Activate manager) e = cc
+  is_made_by (Start id) e = any_starts_step (IsMadeBy w (Start id) a) w a id
+      (λ none may paces made. unsent_made (Start id) (with_processes w (put_process id (joining w id) w.processes) paces) None refl refl tt made) e
+  is_made_by (Agree change) e = unmanaged_step (IsMadeBy w (Agree change) a) w a (agrees w (last_view w.views) change)
+      (λ e. changes_step (IsMadeBy w (Agree change) a) w a change (λ v how made. unsent_made (Agree change) (record w { views = w.views ++ v ∷ [] }) (Some v) refl refl tt made) e) e
+  is_made_by (Install id epoch) e = unmanaged_step (IsMadeBy w (Install id epoch) a) w a (live w id (λ node. installs_at (numbered epoch w.views) w id node))
+      (λ e. live_step (IsMadeBy w (Install id epoch) a) w a id (λ node. installs_at (numbered epoch w.views) w id node)
+      (λ x at e. installs_step (IsMadeBy w (Install id epoch) a) w a epoch id x
+      (λ v may made. step_made (Install id epoch) id tt x at (installs x v) (N.Install v, ap (option_map N.Install) may.found, refl) refl refl made) e) e) e
+  is_made_by (Lease id end) e = unmanaged_step (IsMadeBy w (Lease id end) a) w a (live w id (leases_at w id end))
+      (λ e. live_step (IsMadeBy w (Lease id end) a) w a id (leases_at w id end)
+      (λ x at made. leases_step (IsMadeBy w (Lease id end) a) w a id end x
+      (λ inside e. step_made (Lease id end) id tt x at (node_step x (N.Grant end)) (N.Grant end, refl, refl) refl refl e) made) e) e
+  is_made_by (AskLease id manager) e = live_step (IsMadeBy w (AskLease id manager) a) w a id (λ node. acts w id node (node_step node (N.AskLease manager)))
+      (λ x at made. step_made (AskLease id manager) id tt x at (node_step x (N.AskLease manager)) (N.AskLease manager, refl, refl) refl refl made) e
+  is_made_by (Propose manager base change) e = manager_made (Propose manager base change) tt refl manager (λ x. manager_step x (Proposal base change)) e
+  is_made_by (Activate manager) e = manager_made (Activate manager) tt refl manager (λ x. manager_step x Activation) e
 
 -- the node's event is one that a node may be given
 module _ (w : WorldState) (own : IsOwn w) where
@@ -246,7 +229,7 @@ module _ (w : WorldState) (own : IsOwn w) where
   installed epoch None e found is = cc
   installed epoch (Some v) e found is =
       let same : N.Install v ≡ e = cc in
-      subst IsNodeEvent same (numbered_holds IsView epoch w.views v own.sound.views.each found)
+      subst IsNodeEvent same (numbered_holds IsView epoch w.views v own.sound.each found)
 
   of : (d e : NodeEvent) → Some d ≡ Some e → IsNodeEvent d → IsNodeEvent e
   of d e is within = let same : d ≡ e = cc in subst IsNodeEvent same within
@@ -264,7 +247,7 @@ module _ (w : WorldState) (own : IsOwn w) where
   node_within (Crash actor) e within is = cc
   node_within (Start id) e within is = cc
   node_within (Agree change) e within is = cc
-  node_within (AskLease id manager) e within is = cc
+  node_within (AskLease id manager) e within is = of (N.AskLease manager) e is tt
   node_within (Propose manager base change) e within is = cc
   node_within (Activate manager) e within is = cc
 
@@ -307,18 +290,17 @@ lone_sorted key (t ∷ told) sorted = ⊎_elim
 
 -- ---- what holds of every step
 module _ (w : WorldState) (own : IsOwn w) (x : NodeState) (ok : IsNode x) where
-  by_step : (P : Stepped → Type 0) → ((e : NodeEvent) → IsNodeEvent e → P (node_step x e)) → P (idle x) → (o : Stepped) (event : Event) → IsEvent event →
+  by_step : (P : Stepped → Type 0) → ((e : NodeEvent) → IsNodeEvent e → P (node_step x e)) → (o : Stepped) (event : Event) → IsEvent event →
       IsStepOf w x o event → P o
-  by_step P steps idles o (AskLease id manager) within how = subst P (sym how) idles
-  by_step P steps idles o event within how = subst P (sym how.2) (steps how.0 (node_within w own event how.0 within how.1))
+  by_step P steps o event within how = subst P (sym how.2) (steps how.0 (node_within w own event how.0 within how.1))
 
   pub told_lone : (o : Stepped) (event : Event) → IsEvent event → IsStepOf w x o event → (key : List ℕ) → IsLone (told_at key o.told)
   told_lone o event within how key = by_step (λ (o : Stepped). IsLone (told_at key o.told))
-      (λ e inside. lone_sorted key (node_step x e).told (told_in_order x e ok inside)) tt o event within how
+      (λ e inside. lone_sorted key (node_step x e).told (told_in_order x e ok inside)) o event within how
 
   pub changed_rows_are : (o : Stepped) (event : Event) → IsEvent event → IsStepOf w x o event → AreChanged (changed_rows x.rows o.node.rows) x.rows o.node.rows
   changed_rows_are = by_step (λ (o : Stepped). AreChanged (changed_rows x.rows o.node.rows) x.rows o.node.rows)
-      (λ e inside. reports_are_exact x e ok inside) (reports_are_exact x (N.Tick 0) ok (omega arith))
+      (λ e inside. reports_are_exact x e ok inside)
 
 -- ---- a call
 -- what waits on the row is no call that is yet to come

@@ -203,6 +203,37 @@ covers_more v c f xs x old mid new first second =
     subst (AreCovered v c old new) (sym (flat_more f xs x)) (are_joined v c old mid new (flat_map f xs) (f x) first second)
 
 -- ---- a row
+-- ---- one cover twice
+doubled : (s n : ℕ) (b : Bool) → is_in s (cond b (n ∷ cond b (n ∷ []) []) (cond b (n ∷ []) [])) ≡ is_in s (cond b (n ∷ []) [])
+doubled s n true = again (eqb s n)
+  where
+    again : (x : Bool) → cond x true (cond x true false) ≡ cond x true false
+    again true = refl
+    again false = refl
+doubled s n false = refl
+
+module _ (v : View) (c : Cover) where
+  covered_alike : (old new : KeyState) (a b : List ℕ) → ((s : ℕ) → is_in s b ≡ is_in s a) → IsCovered v c old new a → IsCovered v c old new b
+  covered_alike old new a b alike covered = record {
+    items = covered.items;
+    update = covered.update;
+    looks = covered.looks;
+    known = λ V fits marks s some k.
+        subst (λ (t : Bool). IsKnownBy V (with_mark t (mark_by c v s) marks) s (at_stamp s new).evidence) (sym (alike s)) (covered.known V fits marks s some k);
+  }
+
+  pub are_again : (old new : Keys) (t : Touch) → AreCovered v c old new (t ∷ []) → AreCovered v c old new (t ∷ t ∷ [])
+  are_again old new t covered = record {
+    keys = covered.keys;
+    there = covered.there;
+    each = λ key there. covered_alike (key_at key old) (key_at key new) (tags_at key (t ∷ [])) (tags_at key (t ∷ t ∷ []))
+        (λ s. doubled s t.1 (is_same_key key t.0)) (covered.each key there);
+  }
+
+-- what waits has this tag
+pub waits_is : (o : Option Waits) (p : Waits) (tag : ℕ) → o ≡ Some p → tag_of p.stamp ≡ tag → (key : List ℕ) → wait_touches key o ≡ (key, tag) ∷ []
+waits_is o p tag some is key = ap (wait_touches key) some ∙ ap (λ (t : ℕ). (key, t) ∷ []) is
+
 pub waits_within : (x : NodeState) (key : List ℕ) (row : Row) → IsNode x → find_row key x.rows ≡ Some row → IfSome row.pending (λ p. IsWithin p.stamp)
 waits_within x key row ok found = within row.pending (found_sound x key row ok found).update
   where
@@ -218,6 +249,15 @@ module _ (v : View) (c : Cover) (x : NodeState) (key : List ℕ) where
       subst (λ (r : Row). AreCovered v c old new (row_touches key r)) (sym same)
       (are_joined v c old mid new ((key, tag_of row.stamp) ∷ []) (wait_touches key row.pending)
       (subst (λ (t : ℕ). AreCovered v c old mid ((key, t) ∷ [])) is first) second)
+
+  -- what waits has the row's own stamp, so that one cover is that of both
+  pub row_again : (row : Row) (tag : ℕ) (old new : Keys) → find_row key x.rows ≡ Some row → tag ≡ tag_of row.stamp → AreCovered v c old new ((key, tag) ∷ []) →
+      wait_touches key row.pending ≡ (key, tag) ∷ [] → AreCovered v c old new (touches_now x key)
+  row_again row tag old new found is covered waits =
+      let same : row_at key x.rows ≡ row = row_of_found key x.rows (Some row) found in
+      subst (λ (r : Row). AreCovered v c old new (row_touches key r)) (sym same)
+      (subst (λ (l : List Touch). AreCovered v c old new ((key, tag_of row.stamp) ∷ l)) (sym waits)
+      (subst (λ (t : ℕ). AreCovered v c old new ((key, t) ∷ (key, tag) ∷ [])) is (are_again v c old new (key, tag) covered)))
 
   -- with no row the key has the stamp of no update
   pub row_missing : (keys : Keys) → find_row key x.rows ≡ None → AreCovered v c keys keys (touches_now x key)

@@ -18,7 +18,7 @@ use Rattle.hk_effects.specs.Own.{IsOwn, Agrees}
 use Rattle.hk_effects.specs.Orders.{family}
 use Rattle.hk_effects.specs.Runs.{IsKept}
 use Rattle.hk_effects.proofs.Frames.{itself}
-use Rattle.hk_effects.proofs.Legality.{family_agrees}
+use Rattle.hk_effects.proofs.Legality.{own_agrees}
 use Rattle.hk_effects.proofs.Two.{append_three}
 use Rattle.hk_effects.proofs.WorldKept.{next_kept}
 use Rattle.hk_safety.specs.declared.evidence.Evidence.{Evidence}
@@ -103,16 +103,16 @@ After a = family a.world.views
 
 module _ (key : List ℕ) (t : Trace) (event : Event) (a : Accepted) (e : world_step t.world event ≡ Ok a) (kept : IsKept key t) (own : IsOwn a.world) where
   pub agrees_before : Agrees t.world (After a)
-  agrees_before v h = family_agrees a.world own.sound.views v ((next_kept t.world event a e kept.own).grows v h)
+  agrees_before v h = own_agrees a.world own v ((next_kept t.world event a e kept.own).grows v h)
 
   same_views : (m : Mark) → In t.marks m → Before t m.epoch ≡ After a m.epoch
   same_views m h =
-      let parts : Parts (Before t) (view key t) = kept.parts (Before t) (family_agrees t.world kept.own.sound.views) in
+      let parts : Parts (Before t) (view key t) = kept.parts (Before t) (own_agrees t.world kept.own) in
       let some : 1 ≤ m.epoch = (parts.marks m (m, itself m, h)).some_epoch in
       let v = kept.own.views.each m.epoch some (kept.trace.guarded m h).upto in
-      subst (λ (k : ℕ). Before t k ≡ After a k) v.2 (sym (family_agrees t.world kept.own.sound.views v.0 v.1) ∙ agrees_before v.0 v.1)
+      subst (λ (k : ℕ). Before t k ≡ After a k) v.2 (sym (own_agrees t.world kept.own v.0 v.1) ∙ agrees_before v.0 v.1)
 
   -- what is known before the event, by the views after it
   pub known_before : (s : ℕ) (ev : Evidence) → IsKnown (Before t) (view key t) s ev → IsKnownBy (After a) t.marks s ev
   known_before s ev k = known_also (Before t) (After a) t.marks same_views s ev
-      (known_by (Before t) (view key t) (kept.parts (Before t) (family_agrees t.world kept.own.sound.views)) s ev k)
+      (known_by (Before t) (view key t) (kept.parts (Before t) (own_agrees t.world kept.own)) s ev k)

@@ -26,7 +26,7 @@ use Rattle.hk_register.proofs.Once.{look_slot}
 use Rattle.hk_effects.specs.View.{Trace, view}
 use Rattle.hk_effects.specs.Runs.{IsKept}
 use Rattle.hk_effects.specs.Orders.{family, order_of}
-use Rattle.hk_effects.proofs.Legality.{family_agrees}
+use Rattle.hk_effects.proofs.Legality.{own_agrees}
 use Rattle.hk_safety.specs.declared.evidence.Evidence.{Evidence}
 use Rattle.hk_safety.specs.declared.evidence.Evidence.TheVariants.{Covers}
 use Rattle.hk_safety.specs.declared.evidence.Evidence.TheVariants as E
@@ -271,5 +271,5 @@ pub kept_is_printed : (key : List ℕ) (k : KeyState) (t : Trace) → IsKeyOf ke
     kept_order k ≡ order_of key t
 kept_is_printed key k t is ordered kept =
     let V : ℕ → List ℕ = family t.world.views in
-    let parts : Parts V (view key t) = kept.parts V (family_agrees t.world kept.own.sound.views) in
+    let parts : Parts V (view key t) = kept.parts V (own_agrees t.world kept.own) in
     order_is V (view key t) parts k (record { ordered = ordered; update = is.update; looks = is.looks; known = is.known })

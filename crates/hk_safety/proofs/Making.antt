@@ -30,6 +30,7 @@ use Rattle.hk_node.proofs.Again.{found_sound}
 use Rattle.hk_node.specs.Stepped.{Stepped}
 use Rattle.hk_node.specs.Calls.{called}
 use Rattle.hk_node.specs.Laws.{IsAnsweredAlone}
+use Rattle.hk_manager.proofs.Kept.{keeps_managers, letters_in_range as manager_letters}
 use Rattle.hk_node.proofs.KeepsMore.{step_keeps_node}
 use Rattle.hk_node.proofs.Ranged.{letters_in_range}
 use Rattle.hk_world.specs.declared.event.Event.{Event}
@@ -44,7 +45,7 @@ use Rattle.hk_effects.specs.View.{Trace, view, key_node, node_at, is_same_key, l
 use Rattle.hk_effects.specs.Own.{IsOwn}
 use Rattle.hk_effects.specs.Runs.{IsKept}
 use Rattle.hk_effects.proofs.Accepting.{alive}
-use Rattle.hk_effects.proofs.Legality.{family_agrees}
+use Rattle.hk_effects.proofs.Legality.{own_agrees}
 use Rattle.hk_effects.proofs.Order.{cases_key, same_not, same_itself, same_of, same_true}
 use Rattle.hk_effects.proofs.Processes.{node-put_same}
 use Rattle.hk_effects.proofs.Rests.{node_holds}
@@ -96,7 +97,7 @@ behind [] ys all = all
 behind (x ∷ xs) ys all = behind xs ys all.1
 
 pub world_after : (w : WorldState) (event : Event) (a : Accepted) → IsOwn w → IsEvent event → world_step w event ≡ Ok a → IsWorld a.world
-world_after w event a own within made = step_sound (step_keeps_node, letters_in_range) w event a own.sound within made
+world_after w event a own within made = step_sound (step_keeps_node, letters_in_range) (keeps_managers, manager_letters) w event a own.sound within made
 
 -- whether the key's row had another tag
 found_former : (key : List ℕ) (rows : List Former) (f : Former) → find (λ f. is_same_key key f.key) rows ≡ Some f → In rows f × (key ≡ f.key)
@@ -405,7 +406,7 @@ module _ (key : List ℕ) (t : Trace) (event : Event) (within : IsEvent event) (
   parts = kept.parts V (agrees_before key t event a e kept kept_next.own)
 
   parts_next : Parts V (view key next)
-  parts_next = kept_next.parts V (family_agrees a.world kept_next.own.sound.views)
+  parts_next = kept_next.parts V (own_agrees a.world kept_next.own)
 
   seen_as : (v : View) → st.o.node.view ≡ Some v →
       IsSeen V key (view key t) (view key next) id.0 r st.x st.o.node v a.shown.letters
@@ -424,7 +425,7 @@ module _ (key : List ℕ) (t : Trace) (event : Event) (within : IsEvent event) (
         epoch = refl;
         readied = refl;
         rows = changes t.world event a id st kept.own within (ok_of event st);
-        fits = family_agrees a.world kept_next.own.sound.views v agreed;
+        fits = own_agrees a.world kept_next.own v agreed;
       }
 
   module _ (told new : Keys) (there : is_some (find_key key told) ≡ true) where
@@ -501,7 +502,7 @@ beside_follows key t event a e kept kept_now old new same is =
       update = is.update;
       looks = is.looks;
       known = λ s some. known_of (After a) (view key (traced_by key t event a None))
-          (kept_now.parts (After a) (family_agrees a.world kept_now.own.sound.views)) s (at_stamp s old).evidence
+          (kept_now.parts (After a) (own_agrees a.world kept_now.own)) s (at_stamp s old).evidence
           (known_before key t event a e kept kept_now.own s (at_stamp s old).evidence (is.known s some));
     })
 
@@ -584,4 +585,7 @@ shown_within w event a own within made = by_way (is_made_by w a event made)
               (subst (AllByRecursion IsLetter) all (world_after w event a own within made).letters)),
           subst AreFormer (sym (acted_is w event a s.0 st)) (formers_within st.x ok (report st.x st.o.node).rows rows.each),
         )
-    by_way (inr b) = (subst (AllByRecursion IsLetter) (sym b.letters) tt, by_option a.shown.acted b.acting)
+    by_way (inr b) = (
+      behind w.letters a.shown.letters (subst (AllByRecursion IsLetter) b.letters (world_after w event a own within made).letters),
+      by_option a.shown.acted b.acting,
+    )

@@ -15,7 +15,7 @@ use Rattle.hk_effects.specs.View.{Trace, view, key_node, node_at, told_at, pendi
 use Rattle.hk_effects.specs.Orders.{family}
 use Rattle.hk_effects.specs.Runs.{IsKept}
 use Rattle.hk_effects.proofs.Frames.{itself}
-use Rattle.hk_effects.proofs.Legality.{family_agrees}
+use Rattle.hk_effects.proofs.Legality.{own_agrees}
 use Rattle.hk_effects.proofs.Order.{same_not}
 use Rattle.hk_effects.proofs.Replies.{replies_begin_none}
 use Rattle.hk_safety.specs.Kept.{IsKeyOf, first_key, called_from}
@@ -58,7 +58,7 @@ module _ (key : List ℕ) (t : Trace) (event : Event) (a : Accepted) (kept : IsK
   marks_of_none : St.begun ≡ [] → (m : Mark) → In St.marks m → m.stamp ≡ 0
   marks_of_none none m h =
       let V : ℕ → List ℕ = family (traced key t event a).world.views in
-      let parts : Parts V St = kept.parts V (family_agrees (traced key t event a).world kept.own.sound.views) in
+      let parts : Parts V St = kept.parts V (own_agrees (traced key t event a).world kept.own) in
       ⊎_elim
       (λ (z : m.stamp ≡ 0). z)
       (λ (b : MarkBegun V St m). let h : In [] b.update = subst (λ (us : List Update). In us b.update) none b.begun in absurd h)

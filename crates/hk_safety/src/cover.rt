@@ -1,6 +1,6 @@
 //! Who covers which stamp after an event: all is read from what the event showed and from the present world.
 
-ghost use Rattle.std.specs.Prelude.{◌≡◌, ◌∷◌, [], IfSome, OnOk};
+ghost use Rattle.std.specs.Prelude.{◌≡◌, ◌∷◌, [], List, ℕ, true, IfSome, OnOk};
 ghost use Rattle.std.specs.List.{flat_map, AllByRecursion};
 ghost use Rattle.hk_base.specs.Range.{IsLetter, IsWithin};
 ghost use Rattle.hk_node.specs.Sound.{IsNode};
@@ -52,7 +52,18 @@ fn cover_pending(
     }
 }
 
-// The node covers what its row has, and what waits there.
+// Whether what waits has this tag.
+fn waits_at(pending: &Option<Pending>, tag: u64) -> bool
+    requires { IfSome pending.now (λ p. IsWithin p.stamp) }
+    ensures { result ≡ true → (key : List ℕ) → wait_touches key pending.now ≡ (key, tag) ∷ [] }
+{
+    match pending {
+        Some(pending) => pending.stamp.tag() == tag,
+        None => false,
+    }
+}
+
+// The node covers what its row has, and what waits there, which is mostly the same.
 fn cover_row(
     keys: &mut BTreeMap<Key, KeyRun>,
     alloc: Global,
@@ -67,7 +78,11 @@ fn cover_row(
     let Some(row) = node.row(key) else {
         return Ok(());
     };
-    cover_tag(keys, alloc, view, cover, key, row.stamp.tag())?;
+    let tag = row.stamp.tag();
+    cover_tag(keys, alloc, view, cover, key, tag)?;
+    if waits_at(&row.pending, tag) {
+        return Ok(());
+    }
     cover_pending(keys, alloc, view, cover, key, &row.pending)
 }
 

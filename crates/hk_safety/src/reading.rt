@@ -28,6 +28,18 @@ fn share_event(event: &Event) -> Result<Event, Memory>
     }
 }
 
+/// The same events, which share the bytes.
+pub(crate) fn share_items(alloc: Global, items: &[Event]) -> Result<Items, Memory>
+    ensures { IfOk result (λ same. same ≡ items.now) }
+{
+    let mut same = Items::new(alloc);
+    for event in items {
+        let event = share_event(event)?;
+        same.push(event)?;
+    }
+    Ok(same)
+}
+
 // Whether the update is complete.
 fn is_complete(evidence: &Evidence) -> bool
     ensures { result ≡ is_complete evidence.now }
@@ -75,15 +87,10 @@ fn put_stamp(order: &mut Entries, stamp: u64, at: &AtStamp) -> Result<(), Memory
 
 impl KeyRun {
     /// The history of the key.
-    pub(crate) fn history(&self, alloc: Global) -> Result<Items, Memory>
-        ensures { IfOk result (λ items. items ≡ self.now.items) }
+    pub(crate) fn history(&self) -> &[Event]
+        ensures { result.now ≡ self.now.items }
     {
-        let mut items = Items::new(alloc);
-        for event in self.items.as_slice() {
-            let event = share_event(event)?;
-            items.push(event)?;
-        }
-        Ok(items)
+        self.items.as_slice()
     }
 
     /// The order of the key.

@@ -1,5 +1,5 @@
 -- A line is read as an event, or as a header, exactly where it is that one's line.
-use Rattle.std.proofs.Common.{◌≡◌, ℕ, List, [], ◌∷◌, Some, None, codes, decimal, refl, sym, ap, ◌∙◌, arith}
+use Rattle.std.proofs.Common.{◌≤◌, Option, None, ◌≡◌, ℕ, List, [], ◌∷◌, Some, None, codes, decimal, refl, sym, ap, ◌∙◌, arith}
 use Rattle.std.specs.List.{join_with_byte, AllByRecursion}
 use Rattle.std.proofs.lemmas.List.Splits.{join_with_byte-slice_split}
 use Rattle.hk_base.specs.declared.call.Op.{Op}
@@ -11,12 +11,12 @@ use Rattle.hk_world.specs.declared.event.Header.{Header}
 use Rattle.hk_world.specs.declared.event.Event.{Event}
 use Rattle.hk_world.specs.declared.event.Event.TheVariants.{Call, Take, Tick, TickAll, Crash, Resend, Replay, Copy, Start, Agree, Install, Lease, AskLease, Propose, Activate}
 use Rattle.hk_script.specs.Grammar.{IsOp, IsChange, IsWritten, IsEventLine, IsHeaderWritten, IsHeaderLine, op_words, change_words, event_words, header_words}
-use Rattle.hk_script.specs.Parts.{is_text, fields}
-use Rattle.hk_script.specs.Lines.{one, two, three, call_of, propose_of, group_event_of, actor_event_of, event_of_words, event_of, header, is_header, header_of_words, header_of}
+use Rattle.hk_script.specs.Parts.{is_text, fields, number_of}
+use Rattle.hk_script.specs.Lines.{one, two, three, call_of, propose_of, group_event_of, actor_event_of, event_of_words, event_of, header, header_with, is_header, header_of_words, header_of}
 use Rattle.hk_script.specs.Reading.{LinesTellEvents, LinesTellHeaders}
 use Rattle.hk_script.proofs.Choices.{held, both, text_is, some_same}
 use Rattle.hk_script.proofs.Spaces.{NoSpace, plain_no_space, fields_of}
-use Rattle.hk_script.proofs.Spelling.{word_no_space}
+use Rattle.hk_script.proofs.Spelling.{IsPart, number_part, word_no_space}
 use Rattle.hk_script.proofs.Actors.{number_64_part, flags_part, time_part, some_part, node_part, manager_part, actor_part, target_part, key_part}
 use Rattle.hk_script.proofs.Lines.{op_words_are, op_again, change_again, event_takes, three_takes}
 
@@ -103,28 +103,37 @@ pub events_are_one : LinesTellEvents
 events_are_one line a b p q = some_same a b (sym (event_read line a p) ∙ event_read line b q)
 
 -- ---- headers
-abbrev ReadHeader : List (List ℕ) → Header → Type 0
-ReadHeader ws h = IsHeaderWritten h × (ws ≡ decimal h.nodes ∷ decimal h.lease ∷ decimal h.skew ∷ [])
+abbrev ReadHeader : ℕ → List (List ℕ) → Header → Type 0
+ReadHeader managers ws h = IsHeaderWritten h × (ws ≡ decimal h.nodes ∷ decimal h.lease ∷ decimal h.skew ∷ []) × (h.managers ≡ managers)
 
-same_header : (a b c d e n l s x y z : List ℕ) → a ≡ codes "group" → b ≡ codes "managers" → c ≡ codes "0" → d ≡ codes "lease" → e ≡ codes "skew" → n ∷ l ∷ s ∷ [] ≡ x ∷ y ∷ z ∷ []
-    → a ∷ n ∷ b ∷ c ∷ d ∷ l ∷ e ∷ s ∷ [] ≡ codes "group" ∷ x ∷ codes "managers" ∷ codes "0" ∷ codes "lease" ∷ y ∷ codes "skew" ∷ z ∷ []
-same_header a b c d e n l s x y z f g h i j k = cc
+same_header : (a b m d e n l s u x y z : List ℕ) → a ≡ codes "group" → b ≡ codes "managers" → m ≡ u → d ≡ codes "lease" → e ≡ codes "skew" → n ∷ l ∷ s ∷ [] ≡ x ∷ y ∷ z ∷ []
+    → a ∷ n ∷ b ∷ m ∷ d ∷ l ∷ e ∷ s ∷ [] ≡ codes "group" ∷ x ∷ codes "managers" ∷ u ∷ codes "lease" ∷ y ∷ codes "skew" ∷ z ∷ []
+same_header a b m d e n l s u x y z f g h i j k = cc
+
+managers_part : IsPart (λ n. n ≤ 9) decimal (number_of 9)
+managers_part = number_part 9 (omega arith)
+
+with_takes : (word : List ℕ) (n l s : List ℕ) (h : Header) (o : Option ℕ) → number_of 9 word ≡ o → header_with o (n ∷ l ∷ s ∷ []) ≡ Some h → (IsHeaderWritten h × (n ∷ l ∷ s ∷ [] ≡ decimal h.nodes ∷ decimal h.lease ∷ decimal h.skew ∷ [])) × (word ≡ decimal h.managers)
+with_takes word n l s h None read is = cc
+with_takes word n l s h (Some managers) read is =
+    let m = managers_part.takes word managers read in
+    let r = three_takes (some_part 16 (omega arith)) time_part time_part (header managers) (ReadHeader managers) (λ n l s v w x. (record { some = v.0; few = v.1; managers = m.0; lease = w; skew = x }, refl, refl)) (n ∷ l ∷ s ∷ []) h is in
+    ((r.0, r.1), m.1 ∙ ap decimal (sym r.2))
 
 header_takes : (ws : List (List ℕ)) (h : Header) → header_of_words ws ≡ Some h → IsHeaderWritten h × (ws ≡ header_words h)
 unfolding header_of_words
-header_takes (a ∷ n ∷ b ∷ c ∷ d ∷ l ∷ e ∷ s ∷ []) h is =
-    let t = held (is_header a b c d e) _ h is in
+header_takes (a ∷ n ∷ b ∷ m ∷ d ∷ l ∷ e ∷ s ∷ []) h is =
+    let t = held (is_header a b d e) _ h is in
     let u = both (is_text a (codes "group")) _ t.0 in
     let v = both (is_text b (codes "managers")) _ u.1 in
-    let w = both (is_text c (codes "0")) _ v.1 in
-    let x = both (is_text d (codes "lease")) (is_text e (codes "skew")) w.1 in
-    let r = three_takes (some_part 16 (omega arith)) time_part time_part header ReadHeader (λ n l s v w x. (record { some = v.0; few = v.1; lease = w; skew = x }, refl)) (n ∷ l ∷ s ∷ []) h t.1 in
-    (r.0, same_header a b c d e n l s _ _ _ (text_is a _ u.0) (text_is b _ v.0) (text_is c _ w.0) (text_is d _ x.0) (text_is e _ x.1) r.1)
+    let x = both (is_text d (codes "lease")) (is_text e (codes "skew")) v.1 in
+    let r = with_takes m n l s h (number_of 9 m) refl t.1 in
+    (r.0.0, same_header a b m d e n l s _ _ _ _ (text_is a _ u.0) (text_is b _ v.0) r.1 (text_is d _ x.0) (text_is e _ x.1) r.0.1)
 header_takes ws h is = cc
 
 header_again : (h : Header) → IsHeaderWritten h → header_of_words (header_words h) ≡ Some h
 unfolding header_of_words three
-header_again h is = rw ((some_part 16 (omega arith)).again h.nodes (is.some, is.few), time_part.again h.lease is.lease, time_part.again h.skew is.skew) refl
+header_again h is = rw (managers_part.again h.managers is.managers, (some_part 16 (omega arith)).again h.nodes (is.some, is.few), time_part.again h.lease is.lease, time_part.again h.skew is.skew) refl
 
 header_no_space : (h : Header) → IsHeaderWritten h → AllNoSpace (header_words h)
 header_no_space h is = (
@@ -134,7 +143,7 @@ header_no_space h is = (
     (
       plain_no_space (codes "managers") refl,
       (
-        plain_no_space (codes "0") refl,
+        managers_part.spaceless h.managers is.managers,
         (plain_no_space (codes "lease") refl, (time_part.spaceless h.lease is.lease, (plain_no_space (codes "skew") refl, (time_part.spaceless h.skew is.skew, tt)))),
       ),
     ),

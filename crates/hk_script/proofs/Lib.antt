@@ -4,6 +4,7 @@ pub mod Choices
 pub mod Spaces
 pub mod Spelled
 pub mod Spelling
+pub mod Literal
 pub mod Actors
 pub mod Lines
 pub mod Exact

@@ -50,9 +50,8 @@ event_words (AskLease id manager) = codes "asklease" ∷ decimal id.0 ∷ actor_
 event_words (Propose manager base change) = codes "propose" ∷ actor_word (Manager manager) ∷ decimal base ∷ change_words change
 event_words (Activate manager) = codes "activate" ∷ actor_word (Manager manager) ∷ []
 
--- a group without managers
 abbrev pub header_words : Header → List (List ℕ)
-header_words h = codes "group" ∷ decimal h.nodes ∷ codes "managers" ∷ codes "0" ∷ codes "lease" ∷ decimal h.lease ∷ codes "skew" ∷ decimal h.skew ∷ []
+header_words h = codes "group" ∷ decimal h.nodes ∷ codes "managers" ∷ decimal h.managers ∷ codes "lease" ∷ decimal h.lease ∷ codes "skew" ∷ decimal h.skew ∷ []
 
 abbrev pub event_line : Event → List ℕ
 event_line event = join_with_byte 32 (event_words event)
@@ -112,10 +111,11 @@ IsWritten (AskLease id manager) = IsNodeNo id × (manager < 9)
 IsWritten (Propose manager base change) = (manager < 9) × IsNumber base × IsChange change
 IsWritten (Activate manager) = manager < 9
 
--- 1 to 16 founders; times within the limit
+-- 1 to 16 founders, 9 managers at most; times within the limit
 pub record IsHeaderWritten (h : Header) : Type 0 where
   pub some : 1 ≤ h.nodes
   pub few : h.nodes ≤ 16
+  pub managers : h.managers ≤ 9
   pub lease : h.lease ≤ MAX_TIME
   pub skew : h.skew ≤ MAX_TIME
 

@@ -11,7 +11,7 @@ use Rattle.hk_base.specs.declared.view.Change.TheVariants.{Drop, Add}
 use Rattle.hk_world.specs.declared.event.Header.{Header}
 use Rattle.hk_world.specs.declared.event.Event.{Event}
 use Rattle.hk_world.specs.declared.event.Event.TheVariants.{Call, Take, Tick, TickAll, Crash, Resend, Replay, Copy, Start, Agree, Install, Lease, AskLease, Propose, Activate}
-use Rattle.hk_script.specs.Parts.{◌>>=◌, fields, is_text, number_64, flags_of, time_of, some_of, key_of, data_of, node_of, manager_of, actor_of, target_of}
+use Rattle.hk_script.specs.Parts.{◌>>=◌, fields, is_text, number_of, number_64, flags_of, time_of, some_of, key_of, data_of, node_of, manager_of, actor_of, target_of}
 
 -- ---- so many words, each by its reader
 unfoldable pub none : {B : Type 0} → B → List (List ℕ) → Option B
@@ -119,16 +119,20 @@ abbrev pub event_of : List ℕ → Option Event
 event_of line = event_of_words (fields line)
 
 -- ---- headers
-abbrev pub header : ℕ → ℕ → ℕ → Header
-header nodes lease skew = record { nodes = nodes; lease = lease; skew = skew }
+abbrev pub header : ℕ → ℕ → ℕ → ℕ → Header
+header managers nodes lease skew = record { nodes = nodes; managers = managers; lease = lease; skew = skew }
 
-abbrev pub is_header : List ℕ → List ℕ → List ℕ → List ℕ → List ℕ → Bool
-is_header group managers zero lease skew =
-    is_text group (codes "group") && (is_text managers (codes "managers") && (is_text zero (codes "0")
-    && (is_text lease (codes "lease") && is_text skew (codes "skew"))))
+abbrev pub is_header : List ℕ → List ℕ → List ℕ → List ℕ → Bool
+is_header group managers lease skew =
+    is_text group (codes "group") && (is_text managers (codes "managers") && (is_text lease (codes "lease") && is_text skew (codes "skew")))
+
+-- of so many managers
+abbrev pub header_with : Option ℕ → List (List ℕ) → Option Header
+header_with None ws = None
+header_with (Some managers) ws = three (some_of 16) time_of time_of (header managers) ws
 
 unfoldable pub header_of_words : List (List ℕ) → Option Header
-header_of_words (a ∷ n ∷ b ∷ c ∷ d ∷ l ∷ e ∷ s ∷ []) = if is_header a b c d e then three (some_of 16) time_of time_of header (n ∷ l ∷ s ∷ []) else None
+header_of_words (a ∷ n ∷ b ∷ m ∷ d ∷ l ∷ e ∷ s ∷ []) = if is_header a b d e then header_with (number_of 9 m) (n ∷ l ∷ s ∷ []) else None
 header_of_words ws = None
 
 abbrev pub header_of : List ℕ → Option Header

@@ -1,24 +1,44 @@
 //! What single words stand for.
 
-ghost use Rattle.std.specs.Prelude.{◌≡◌, ◌≤◌, IfSome};
+ghost use Rattle.std.specs.Prelude.{◌≡◌, ◌≤◌, IfSome, is_some, if◌then◌else◌, Some, None};
+ghost use Rattle.hk_base.specs.KeyFaults.{key_fault, data_fault};
 ghost use Rattle.hk_base.specs.declared.time.TheConstants.{MAX_TIME};
 ghost use Rattle.hk_script.specs.Parts.{Reads, key_of, data_of, node_of, manager_of, actor_of, target_of, some_of, flags_of, time_of};
 
-use crate::words::{bytes, is, number};
+use crate::words::{bytes, is, is_literal, number};
 use hk_base::{Actor, Data, DataFault, Key, KeyFault, MAX_TIME, Memory, NodeId};
 use std::alloc::Global;
+
+fn key_in(alloc: Global, bytes: &[u8]) -> Result<Option<Key>, Memory>
+    ensures { Reads result (if is_some (key_fault bytes.now) then None else Some bytes.now) }
+{
+    match Key::read(alloc, bytes) {
+        Ok(key) => Ok(Some(key)),
+        Err(KeyFault::Memory) => Err(Memory),
+        Err(_) => Ok(None),
+    }
+}
 
 /// The key that a word is.
 #[tactic(auto, unfolding(crate::specs::Parts::key_of))]
 pub(crate) fn key(alloc: Global, word: &[u8]) -> Result<Option<Key>, Memory>
     ensures { Reads result (key_of word.now) }
 {
+    if is_literal(word) {
+        return key_in(alloc, word);
+    }
     let Some(bytes) = bytes(alloc, word)? else {
         return Ok(None);
     };
-    match Key::read(alloc, bytes.as_slice()) {
-        Ok(key) => Ok(Some(key)),
-        Err(KeyFault::Memory) => Err(Memory),
+    key_in(alloc, bytes.as_slice())
+}
+
+fn data_in(alloc: Global, bytes: &[u8]) -> Result<Option<Data>, Memory>
+    ensures { Reads result (if is_some (data_fault bytes.now) then None else Some bytes.now) }
+{
+    match Data::read(alloc, bytes) {
+        Ok(data) => Ok(Some(data)),
+        Err(DataFault::Memory) => Err(Memory),
         Err(_) => Ok(None),
     }
 }
@@ -28,14 +48,13 @@ pub(crate) fn key(alloc: Global, word: &[u8]) -> Result<Option<Key>, Memory>
 pub(crate) fn data(alloc: Global, word: &[u8]) -> Result<Option<Data>, Memory>
     ensures { Reads result (data_of word.now) }
 {
+    if is_literal(word) {
+        return data_in(alloc, word);
+    }
     let Some(bytes) = bytes(alloc, word)? else {
         return Ok(None);
     };
-    match Data::read(alloc, bytes.as_slice()) {
-        Ok(data) => Ok(Some(data)),
-        Err(DataFault::Memory) => Err(Memory),
-        Err(_) => Ok(None),
-    }
+    data_in(alloc, bytes.as_slice())
 }
 
 /// The node that a word is.

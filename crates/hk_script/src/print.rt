@@ -104,10 +104,17 @@ fn put_propose(out: &mut Vec<u8>, manager: u8, base: u64, change: Change) -> Res
 }
 
 fn put_limits(out: &mut Vec<u8>, lease: u64, skew: u64) -> Result<(), Memory>
-    ensures { OnOk result (out.new.items ≡ out.old.items ++ (codes " managers 0 lease " ++ (decimal lease ++ (codes " skew " ++ decimal skew)))) }
+    ensures { OnOk result (out.new.items ≡ out.old.items ++ (codes " lease " ++ (decimal lease ++ (codes " skew " ++ decimal skew)))) }
 {
-    put_named(out, b" managers 0 lease", lease)?;
+    put_named(out, b" lease", lease)?;
     put_named(out, b" skew", skew)
+}
+
+fn put_managers(out: &mut Vec<u8>, managers: u8, lease: u64, skew: u64) -> Result<(), Memory>
+    ensures { OnOk result (out.new.items ≡ out.old.items ++ (codes " managers " ++ (decimal managers ++ (codes " lease " ++ (decimal lease ++ (codes " skew " ++ decimal skew)))))) }
+{
+    put_named(out, b" managers", u64::from(managers))?;
+    put_limits(out, lease, skew)
 }
 
 /// Puts the line of a header behind what is there, without a line feed. After `Memory` a front of it may stand there.
@@ -116,7 +123,7 @@ pub fn print_header(header: &Header, out: &mut Vec<u8>) -> Result<(), Memory>
     ensures { OnOk result (out.new.items ≡ out.old.items ++ header_line header.now) }
 {
     put_named(out, b"group", u64::from(header.nodes))?;
-    put_limits(out, header.lease, header.skew)
+    put_managers(out, header.managers, header.lease, header.skew)
 }
 
 /// Puts the line of an event behind what is there, without a line feed. After `Memory` a front of it may stand there.

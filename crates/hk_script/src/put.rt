@@ -1,6 +1,6 @@
 //! The printer of words.
 
-ghost use Rattle.std.specs.Prelude.{◌≡◌, ◌<◌, ◌++◌, OnOk, codes, decimal};
+ghost use Rattle.std.specs.Prelude.{◌≡◌, ◌<◌, ◌++◌, ◌∷◌, [], OnOk, codes, decimal};
 ghost use Rattle.std.specs.List.{flat_map, join_with_byte};
 ghost use Rattle.hk_script.specs.Words.{spelled, hexadecimal, word_of, actor_word};
 ghost use Rattle.hk_script.specs.Grammar.{op_words, change_words};
@@ -17,10 +17,21 @@ pub fn put(out: &mut Vec<u8>, text: &[u8]) -> Result<(), Memory>
     Ok(())
 }
 
+// Puts a byte behind what is there.
+fn put_one(out: &mut Vec<u8>, byte: u8) -> Result<(), Memory>
+    ensures { OnOk result (out.new.items ≡ out.old.items ++ byte ∷ []) }
+{
+    out.push(byte)?;
+    Ok(())
+}
+
 /// Puts a decimal number behind what is there. After `Memory` a front of it may stand there.
 pub fn put_number(out: &mut Vec<u8>, number: u64) -> Result<(), Memory>
     ensures { OnOk result (out.new.items ≡ out.old.items ++ decimal number) }
 {
+    if number < 10 {
+        return put_one(out, 48 + number as u8);
+    }
     let mut buffer = Buffer::new();
     put(out, buffer.format(number).as_bytes())
 }
@@ -43,7 +54,7 @@ fn put_byte(out: &mut Vec<u8>, byte: u8) -> Result<(), Memory>
     ensures { OnOk result (out.new.items ≡ out.old.items ++ spelled byte) }
 {
     if is_plain(byte) {
-        put(out, &[byte])
+        put_one(out, byte)
     } else {
         put(out, &[b'%', digit(byte / 16), digit(byte % 16)])
     }

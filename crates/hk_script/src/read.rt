@@ -14,7 +14,7 @@ use hk_base::Memory;
 use hk_world::{Event, Header};
 use std::alloc::Global;
 
-/// Reads the header of a script: `group N managers 0 lease L skew E`, with N from 1 to 16, and L and E times.
+/// Reads the header of a script: `group N managers M lease L skew E`, with N from 1 to 16, M from 0 to 9, and L and E times.
 pub fn read_header(line: &[u8]) -> Result<Header, LineFault>
     ensures exact { IsHeaderRead result line.now }
     // Nothing is allocated.

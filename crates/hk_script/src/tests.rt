@@ -181,7 +181,7 @@ fn reads_and_prints_headers(rt: HostRuntime) -> Result<(), Fail> {
     let alloc = rt.alloc();
     for line in [
         "group 3 managers 0 lease 1000 skew 10",
-        "group 1 managers 0 lease 0 skew 0",
+        "group 1 managers 9 lease 0 skew 0",
         "group 16 managers 0 lease 1000000000000 skew 1000000000000",
     ] {
         let header = read_header(line.as_bytes())?;
@@ -192,7 +192,7 @@ fn reads_and_prints_headers(rt: HostRuntime) -> Result<(), Fail> {
     for line in [
         "group 0 managers 0 lease 0 skew 0",
         "group 17 managers 0 lease 0 skew 0",
-        "group 1 managers 1 lease 0 skew 0",
+        "group 1 managers 10 lease 0 skew 0",
         "group 1 managers 0 lease 1000000000001 skew 0",
         "group 1 managers 0 lease 0 skew 00",
         "group 1 managers 0 lease 0 skew",

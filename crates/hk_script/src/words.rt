@@ -149,7 +149,7 @@ fn byte(first: u8, rest: &[u8]) -> Option<(u8, &[u8])>
 fn unspelled(alloc: Global, word: &[u8]) -> Result<Option<Vec<u8>>, AllocError>
     ensures { IfOk result (λ o. option_map (λ v. v.items) o ≡ unspelled (length word.now) word.now) }
 {
-    let mut bytes = Vec::new(alloc);
+    let mut bytes = Vec::with_capacity(alloc, word.len())?;
     let mut rest = word;
     for _turn in 0..word.len() {
         let Some((first, others)) = rest.split_first() else {
@@ -166,6 +166,25 @@ fn unspelled(alloc: Global, word: &[u8]) -> Result<Option<Vec<u8>>, AllocError>
     } else {
         Ok(None)
     }
+}
+
+fn all_plain(word: &[u8]) -> bool
+    ensures { result ≡ list_all is_plain word.now }
+{
+    word.iter().all(|byte| is_plain(*byte))
+}
+
+/// Whether a word has bytes that stand for themselves alone, so that it spells just those.
+pub(crate) fn is_literal(word: &[u8]) -> bool
+    ensures { result ≡ true → bytes_of word.now ≡ Some word.now }
+{
+    if word.is_empty() {
+        return false;
+    }
+    if is(word, b"-") {
+        return false;
+    }
+    all_plain(word)
 }
 
 /// The bytes that a word is.

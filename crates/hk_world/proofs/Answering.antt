@@ -55,7 +55,7 @@ pub running_from : (crashed told : Bool) → told ≡ not crashed → told ≡ t
 running_from crashed told is so = not-true crashed (sym is ∙ so)
 
 abbrev world_with : WorldState → Processes → List Letter → ℕ → WorldState
-world_with w processes letters calls = record { skew = w.skew; processes = processes; letters = letters; views = w.views; calls = calls }
+world_with w processes letters calls = record { skew = w.skew; lease = w.lease; processes = processes; managers = w.managers; paces = w.paces; letters = letters; views = w.views; calls = calls }
 
 abbrev process_with : Bool → NodeState → Process
 process_with crashed node = record { node = node; crashed = crashed }
@@ -75,6 +75,7 @@ abbrev shown_with : Option CallNo → NodeId → List Letter → NodeState → O
 shown_with call id sent node installed letters replies reports = record {
   call = call;
   view = view_of installed node;
+  chosen = None;
   installed = installer_of installed id;
   first_letter = first_number sent letters;
   letters = letters;

@@ -1,5 +1,8 @@
 pub mod Processes
 pub mod Steady
+pub mod Managing
+pub mod Clocked
+pub mod Built
 pub mod Unmanaged
 pub mod Viewed
 pub mod Soundness
@@ -9,3 +12,5 @@ pub mod Allowed
 pub mod Changed
 pub mod Founded
 pub mod Eventful
+pub mod Inside
+pub mod Timed

@@ -1,14 +1,14 @@
 -- The processes of a world: what a put leaves of them, and what holds of each.
-use Rattle.std.proofs.Common.{◌≡◌, ℕ, cond, List, [], ◌∷◌, Option, Some, None, refl, sym, ap, subst, ◌∙◌}
+use Rattle.std.proofs.Common.{◌≡◌, ◌⊎◌, inl, inr, ℕ, Bool, true, false, cond, List, [], ◌∷◌, Option, Some, None, refl, sym, ap, subst, ◌∙◌}
 use Rattle.std.specs.declared.cmp.Ordering.{Ordering}
 use Rattle.std.specs.declared.cmp.Ordering.TheVariants.{Less, Equal, Greater}
 use Rattle.std.specs.Ordering.{match_ordering, is_eq, ordering_reverse}
 use Rattle.std.specs.Cmp.{IsTotalOrder}
 use Rattle.std.specs.BTreeMap.{insert_entry, is_at}
-use Rattle.std.specs.Map.{lookup, set_value, keys_of}
+use Rattle.std.specs.Map.{lookup, set_value, remove_entry, keys_of}
 use Rattle.std.specs.List.{AllByRecursion}
 use Rattle.std.specs.List.Sorted.{IsStrictlySortedBy}
-use Rattle.std.proofs.lemmas.Cmp.{nat_cmp_total}
+use Rattle.std.proofs.lemmas.Cmp.{nat_cmp_total, tied_itself}
 use Rattle.std.proofs.lemmas.Map.{lookup-none}
 use Rattle.std.proofs.lemmas.Map.Entries.{none_below_head}
 use Rattle.std.proofs.lemmas.Map.Keys.{sorted_head, sorted_tail}
@@ -26,6 +26,18 @@ numbered_as n = record { 0 = n }
 pub same_id : (a b : NodeId) → by_number a b ≡ Equal → a ≡ b
 unfolding numbered_as
 same_id a b e = ap numbered_as (exact_unsigned a.0 b.0 e)
+
+-- by whether they are one
+pub which : (a b : NodeId) → (a ≡ b) ⊎ (is_at (by_number a) b ≡ false)
+which a b = at (by_number a b) refl
+  where
+    at : (o : Ordering) → by_number a b ≡ o → (a ≡ b) ⊎ (is_at (by_number a) b ≡ false)
+    at Less is = inr (ap is_eq is)
+    at Equal is = inl (same_id a b is)
+    at Greater is = inr (ap is_eq is)
+
+pub itself : (a : NodeId) → by_number a a ≡ Equal
+itself a = tied_itself by_number_total a
 
 none_some : {X : Type 0} (v : X) (o : Option X) → o ≡ None → o ≡ Some v → ⊥
 none_some v o n s = absurd cc
@@ -108,3 +120,38 @@ module _ {X : Type 0} where
   pub all_map : (P Q : NodeId × X → Type 0) → ((e : NodeId × X) → P e → Q e) → (es : List (NodeId × X)) → AllByRecursion P es → AllByRecursion Q es
   all_map P Q f [] all = tt
   all_map P Q f (e ∷ es) all = (f e all.0, all_map P Q f es all.1)
+
+  -- ---- what is found where a value was put
+  pub put_same : (k : NodeId) (v : X) (es : List (NodeId × X)) → lookup (is_at (by_number k)) (insert_entry by_number es k v) ≡ Some v
+  put_same k v [] = rw (itself k) refl
+  put_same k v (e ∷ es) = at (by_number k e.0) refl (put_same k v es)
+    where
+      at : (o : Ordering) → by_number k e.0 ≡ o → lookup (is_at (by_number k)) (insert_entry by_number es k v) ≡ Some v →
+          lookup (is_at (by_number k)) (match_ordering o ((k, v) ∷ e ∷ es) ((e.0, v) ∷ es) (e ∷ insert_entry by_number es k v)) ≡ Some v
+      at Less is more = rw (itself k) refl
+      at Equal is more = ap (λ (o : Ordering). cond (is_eq o) (Some v) (lookup (is_at (by_number k)) es)) is
+      at Greater is more = ap (λ (o : Ordering). cond (is_eq o) (Some e.1) (lookup (is_at (by_number k)) (insert_entry by_number es k v))) is ∙ more
+
+  pub put_other : (q k : NodeId) (v : X) (es : List (NodeId × X)) → is_at (by_number q) k ≡ false → lookup (is_at (by_number q)) (insert_entry by_number es k v) ≡ lookup (is_at (by_number q)) es
+  put_other q k v [] ne = rw ne refl
+  put_other q k v (e ∷ es) ne = at (by_number k e.0) refl (put_other q k v es ne)
+    where
+      at : (o : Ordering) → by_number k e.0 ≡ o → lookup (is_at (by_number q)) (insert_entry by_number es k v) ≡ lookup (is_at (by_number q)) es →
+          lookup (is_at (by_number q)) (match_ordering o ((k, v) ∷ e ∷ es) ((e.0, v) ∷ es) (e ∷ insert_entry by_number es k v)) ≡ lookup (is_at (by_number q)) (e ∷ es)
+      at Less is more = rw ne refl
+      at Equal is more =
+          let other : is_at (by_number q) e.0 ≡ false = subst (λ (x : NodeId). is_at (by_number q) x ≡ false) (same_id k e.0 is) ne in
+          ap (λ (b : Bool). cond b (Some v) (lookup (is_at (by_number q)) es)) other ∙ sym (ap (λ (b : Bool). cond b (Some e.1) (lookup (is_at (by_number q)) es)) other)
+      at Greater is more = ap (λ (o : Option X). cond (is_at (by_number q) e.0) (Some e.1) o) more
+
+  -- a value that was put where there was none is taken out again
+  pub taken_out : (k : NodeId) (v : X) (es : List (NodeId × X)) → lookup (is_at (by_number k)) es ≡ None → remove_entry (is_at (by_number k)) (insert_entry by_number es k v) ≡ es
+  taken_out k v [] none = rw (itself k) refl
+  taken_out k v (e ∷ es) none = at (by_number k e.0) refl none (taken_out k v es)
+    where
+      at : (o : Ordering) → by_number k e.0 ≡ o → cond (is_eq o) (Some e.1) (lookup (is_at (by_number k)) es) ≡ None →
+          (lookup (is_at (by_number k)) es ≡ None → remove_entry (is_at (by_number k)) (insert_entry by_number es k v) ≡ es) →
+          remove_entry (is_at (by_number k)) (match_ordering o ((k, v) ∷ e ∷ es) ((e.0, v) ∷ es) (e ∷ insert_entry by_number es k v)) ≡ e ∷ es
+      at Less is there ih = rw (itself k) refl
+      at Equal is there ih = absurd cc
+      at Greater is there ih = rw (ap is_eq is) (ap (λ (l : List (NodeId × X)). e ∷ l) (ih there))

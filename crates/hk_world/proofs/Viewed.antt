@@ -1,5 +1,5 @@
 -- The agreed views: the next one, and who was a member.
-use Rattle.std.proofs.Common.{◌≡◌, ◌≢◌, ◌⊎◌, inl, inr, ⊎_elim, ◌&&◌, ◌==◌, ◌++◌, ◌+◌, ◌<◌, ◌≤◌, ℕ, zero, suc, Bool, true, false, cond, not, nat_lt, nat_eq, List, [], ◌∷◌, length, Some, refl, sym, ap, subst, ◌∙◌, arith}
+use Rattle.std.proofs.Common.{◌≡◌, ◌≢◌, ◌⊎◌, inl, inr, ⊎_elim, ◌&&◌, ◌==◌, ◌++◌, ◌+◌, ◌<◌, ◌≤◌, ℕ, zero, suc, Bool, true, false, cond, not, nat_lt, nat_eq, List, [], ◌∷◌, length, Option, Some, None, refl, sym, ap, subst, ◌∙◌, arith}
 use Rattle.std.specs.declared.cmp.Ordering.TheVariants.{Less, Equal}
 use Rattle.std.specs.Ordering.{nat_cmp}
 use Rattle.std.specs.List.{AllByRecursion, list_any, filter, slice_get}
@@ -76,6 +76,27 @@ last_get v (w ∷ vs) = last_get w vs
 pub last_numbered : (vs : List View) → 1 ≤ length vs → numbered (length vs) vs ≡ Some (last_view vs)
 last_numbered [] some = absurd (omega arith)
 last_numbered (v ∷ vs) some = last_get v vs
+
+pub numbered_last : (vs : List View) (n : ℕ) (v : View) → n ≡ length vs → numbered n vs ≡ Some v → v.epoch ≡ (last_view vs).epoch
+numbered_last [] n v same at = absurd (no_number n v at)
+  where
+    no_number : (k : ℕ) (x : View) → numbered k [] ≡ Some x → ⊥
+    no_number zero x h = absurd cc
+    no_number (suc k) x h = absurd cc
+numbered_last (w ∷ vs) n v same at =
+    let there : numbered (length (w ∷ vs)) (w ∷ vs) ≡ Some v = subst (λ (k : ℕ). numbered k (w ∷ vs) ≡ Some v) same at in
+    let one : v ≡ last_view (w ∷ vs) = one_of v (last_view (w ∷ vs)) (sym there ∙ last_numbered (w ∷ vs) (omega arith)) in
+    ap (λ (x : View). x.epoch) one
+  where
+    one_of : (x y : View) → ◌≡◌ {A = Option View} (Some x) (Some y) → x ≡ y
+    one_of x y e = cc
+
+pub none_last : (vs : List View) (n : ℕ) → n ≡ length vs → numbered n vs ≡ None → 0 ≡ (last_view vs).epoch
+none_last [] n same at = refl
+none_last (w ∷ vs) n same at = absurd (some_none (last_view (w ∷ vs)) (sym (last_numbered (w ∷ vs) (omega arith)) ∙ subst (λ (k : ℕ). numbered k (w ∷ vs) ≡ None) same at))
+  where
+    some_none : (x : View) → ◌≡◌ {A = Option View} (Some x) None → ⊥
+    some_none x e = cc
 
 -- ---- who was a member
 pub was_later : (vs : List View) (e f : ℕ) (id : NodeId) → e ≤ f → was_member vs e id ≡ true → was_member vs f id ≡ true

@@ -1,8 +1,13 @@
--- What becomes of an event of one node, in the words of the node's event.
+-- What becomes of an event of one actor, in the words of its own event.
 use Rattle.std.specs.Prelude.{ℕ, Option, Some, None, Result, Ok, Err, if◌then◌else◌}
 use Rattle.hk_base.specs.declared.stamp.NodeId.{NodeId}
 use Rattle.hk_base.specs.declared.call.CallNo.{CallNo}
+use Rattle.hk_manager.specs.declared.event.ManagerEvent.{ManagerEvent}
+use Rattle.hk_manager.specs.declared.event.ManagerEvent.TheVariants.{Tick as ManagerTick}
+use Rattle.hk_manager.specs.Sound.{IsEvent as IsManagerEvent}
 use Rattle.hk_node.specs.declared.event.NodeEvent.{NodeEvent}
+use Rattle.hk_node.specs.declared.event.NodeEvent.TheVariants.{Tick as NodeTick}
+use Rattle.hk_node.specs.Sound.{IsEvent as IsNodeEvent}
 use Rattle.hk_node.specs.Node.{NodeState}
 use Rattle.hk_node.specs.Steps.{node_step}
 use Rattle.hk_world.specs.declared.process.Process.{Process}
@@ -29,3 +34,12 @@ counting calls (Err refused) = Err refused
 abbrev pub running : Option Process → Result NodeState Refused
 running None = Err NoActor
 running (Some process) = if process.crashed then Err Crashed else Ok process.node
+
+-- an event by which a node, or a manager, acts: any that is in range but a tick, which is a matter of all clocks
+abbrev pub IsAct : NodeEvent → Type 0
+IsAct (NodeTick now) = ⊥
+IsAct event = IsNodeEvent event
+
+abbrev pub IsManagerAct : ManagerEvent → Type 0
+IsManagerAct (ManagerTick now) = ⊥
+IsManagerAct event = IsManagerEvent event

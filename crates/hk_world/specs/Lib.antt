@@ -2,6 +2,7 @@ pub mod World
 pub mod Start
 pub mod Steps
 pub mod Sound
+pub mod Faults
 pub mod Posted
 pub mod Acting
 pub mod Views

@@ -14,9 +14,9 @@ use Rattle.hk_base.specs.declared.letter.Actor.TheVariants.{Node}
 use Rattle.hk_base.specs.declared.view.Change.TheVariants.{Drop, Add}
 use Rattle.hk_world.specs.declared.event.Header.{Header}
 use Rattle.hk_world.specs.declared.event.Event.{Event}
-use Rattle.hk_world.specs.declared.event.Event.TheVariants.{Call, Take, Tick, TickAll, Crash, Replay, Copy, Start, Agree, Install, Lease}
+use Rattle.hk_world.specs.declared.event.Event.TheVariants.{Call, Take, Tick, TickAll, Crash, Replay, Copy, Start, Agree, Install, Lease, AskLease, Propose, Activate}
 use Rattle.hk_world.specs.declared.refused.Refused.{Refused}
-use Rattle.hk_world.specs.declared.refused.Refused.TheVariants.{Crashed, LeaseRuns, NotMember, Skew}
+use Rattle.hk_world.specs.declared.refused.Refused.TheVariants.{Crashed, LeaseRuns, Managed, NotMember, NotPast, ClockFalls, Skew}
 use Rattle.hk_world.specs.World.{WorldState}
 use Rattle.hk_world.specs.Start.{start}
 use Rattle.hk_world.specs.Steps.{Accepted, world_step}
@@ -39,8 +39,11 @@ abbrev pub tells : WorldState → List Event → List Told
 tells world [] = []
 tells world (event ∷ events) = told_by (world_step world event) ∷ tells (world_after world (world_step world event)) events
 
+abbrev pub managed : ℕ → ℕ → ℕ → Header
+managed nodes managers skew = record { nodes = nodes; managers = managers; lease = 1000; skew = skew }
+
 abbrev pub group : ℕ → ℕ → Header
-group nodes skew = record { nodes = nodes; lease = 1000; skew = skew }
+group nodes skew = managed nodes 0 skew
 
 abbrev pub node : ℕ → NodeId
 node n = record { 0 = n }
@@ -56,6 +59,9 @@ call n op = Call (node n) key op
 
 abbrev pub take : ℕ → Event
 take n = Take n
+
+abbrev pub tick : ℕ → ℕ → Event
+tick n to = Tick (Node (node n)) to
 
 abbrev pub stamp : ℕ → ℕ → Stamp
 stamp version n = record { version = version; node = n }
@@ -102,12 +108,22 @@ abbrev pub LeaseRunsOut : Type 0
 LeaseRunsOut = tells (start (group 2 10)) (Agree (Drop (node 1)) ∷ TickAll 990 ∷ Install (node 0) 2 ∷ TickAll 991 ∷ Install (node 0) 2 ∷ call 1 Read ∷ Lease (node 1) 3000 ∷ []) ≡
     quiet ∷ quiet ∷ Err (LeaseRuns (node 1) 1000) ∷ quiet ∷ quiet ∷ says 1 (Busy (OfLease 1000 991)) ∷ Err NotMember ∷ []
 
--- a clock does not go too far from the others
-abbrev pub ClocksStayNear : Type 0
-ClocksStayNear = tells (start (group 2 5)) (Tick (Node (node 0)) 6 ∷ Tick (Node (node 0)) 7 ∷ []) ≡ quiet ∷ Err (Skew 7 1) ∷ []
+-- A clock does not run ahead of another by more than the skew beside one part in ten: where node 1 has gone by 10, node 0 may go by 11
+-- more, less what it is ahead.
+abbrev pub ClocksKeepTheRate : Type 0
+ClocksKeepTheRate = tells (start (group 2 10)) (tick 0 11 ∷ tick 1 12 ∷ tick 1 11 ∷ tick 0 22 ∷ tick 0 21 ∷ TickAll 20 ∷ []) ≡
+    quiet ∷ Err (Skew 12 11) ∷ quiet ∷ Err (Skew 22 11) ∷ quiet ∷ Err (ClockFalls 21) ∷ []
 
 -- A joiner is Busy, whatever lease it has, until it has copied the rows.
 abbrev pub JoinerCopies : Type 0
 JoinerCopies = tells (start (group 1 0)) (call 0 (Write content) ∷ Agree Add ∷ Start (node 1) ∷ Lease (node 1) 1000 ∷ Install (node 1) 2 ∷ Install (node 0) 2
     ∷ call 1 Read ∷ Copy (node 1) (node 0) 9 ∷ take 1 ∷ take 2 ∷ call 1 Read ∷ []) ≡
     says 1 Stored ∷ quiet ∷ quiet ∷ quiet ∷ quiet ∷ quiet ∷ says 2 (Busy (OfLease 0 1)) ∷ quiet ∷ quiet ∷ quiet ∷ says 3 (Found content 131072) ∷ []
+
+-- A manager proposes to drop node 1, and by its own promise and acceptance the view is chosen. It lets it begin once its clock is
+-- past the wait for the lease of node 1, which has run out there. Node 0 installs it, gets a lease, and answers alone.
+abbrev pub ManagersChangeTheView : Type 0
+ManagersChangeTheView = tells (start (managed 2 1 10)) (Agree (Drop (node 1)) ∷ Propose 0 1 (Drop (node 1)) ∷ take 1 ∷ take 2 ∷ take 3 ∷ take 4 ∷ TickAll 1100 ∷ Activate 0
+    ∷ TickAll 1101 ∷ Activate 0 ∷ take 5 ∷ AskLease (node 0) 0 ∷ take 6 ∷ take 7 ∷ call 0 (Write content) ∷ call 1 Read ∷ []) ≡
+    Err Managed ∷ quiet ∷ quiet ∷ quiet ∷ quiet ∷ quiet ∷ quiet ∷ Err (NotPast (node 1) 1100)
+    ∷ quiet ∷ quiet ∷ quiet ∷ quiet ∷ quiet ∷ quiet ∷ says 1 Stored ∷ says 2 (Busy (OfLease 1000 1101)) ∷ []

@@ -7,9 +7,11 @@ use hk_base::{Actor, Change, Key, NodeId, Op};
 pub struct Header {
     /// How many founders there are, 1 to 16. They are the nodes 0 and up.
     pub nodes: u8,
-    /// How long the founders' leases are, in milliseconds.
+    /// How many managers there are, 0 to 9. With none, views and leases come from outside.
+    pub managers: u8,
+    /// How long the leases of founders are, and those that managers grant, in milliseconds.
     pub lease: u64,
-    /// By how much the clocks of live actors may differ, in milliseconds.
+    /// By how much one clock of a live actor may run ahead of another, beside one part in ten, in milliseconds.
     pub skew: u64,
 }
 
@@ -55,25 +57,25 @@ pub enum Event {
         from: NodeId,
         room: u8,
     },
-    /// The joiner starts. The last agreed view has it as a member.
+    /// The joiner starts. The last view, or one that a manager holds, has it as a member.
     Start {
         node: NodeId,
     },
-    /// The next view is agreed.
+    /// The next view is agreed, in a group without managers.
     Agree {
         change: Change,
     },
-    /// The node installs the agreed view of this epoch.
+    /// The node installs the agreed view of this epoch, in a group without managers.
     Install {
         node: NodeId,
         epoch: u64,
     },
-    /// The node is granted a lease.
+    /// The node is granted a lease, in a group without managers.
     Lease {
         node: NodeId,
         end: u64,
     },
-    /// The node asks a manager for a lease. Nothing comes of it in a group without managers.
+    /// The node asks a manager for a lease. Nothing comes of it where that manager is not there.
     AskLease {
         node: NodeId,
         manager: u8,

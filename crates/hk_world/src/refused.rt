@@ -3,6 +3,8 @@
 ghost use Rattle.std.specs.Prelude.{◌≡◌};
 
 use hk_base::{Memory, NodeId};
+use hk_clocks::ClockFault;
+use hk_manager::ManagerFault;
 
 /// Why a world refuses an event. Nothing changes then.
 #[derive(Clone, Copy, Debug, PartialEq, Eq)]
@@ -13,17 +15,19 @@ pub enum Refused {
     Crashed,
     /// No letter of this number was sent.
     NoLetter,
-    /// A clock at `to` would differ by more than the skew from that of another live actor, which reads `other`.
+    /// A clock at `to` would run too far ahead of that of another live actor, which reads `other`.
     Skew { to: u64, other: u64 },
-    /// The clock reads more already, namely `clock`.
+    /// The clock, or the greatest of those that would rise, reads more already, namely `clock`.
     ClockFalls { clock: u64 },
     /// The lease of a live node outside the view may still run: it ends at `end`.
     LeaseRuns { node: NodeId, end: u64 },
+    /// The group has managers: it is not told its views and leases from outside.
+    Managed,
     /// No view of this epoch was agreed.
     NoView,
     /// The view does not have the node as a member.
     NotMember,
-    /// The node is in an epoch that is not below, namely `held`.
+    /// The node is in an epoch that is not below, or the manager holds the view of another one, namely `held`.
     Behind { held: u64 },
     /// The node that is to leave is no member.
     NoSuchMember,
@@ -33,6 +37,9 @@ pub enum Refused {
     Full,
     /// All numbers of nodes were given.
     NoNumbers,
+    /// A lease of a node outside the view that the manager holds may still run: its clock is not past `end`, the until that it
+    /// noted for the node.
+    NotPast { node: NodeId, end: u64 },
     /// The node has started already.
     Started,
 }
@@ -54,5 +61,45 @@ impl From<Memory> for WorldFault {
         ensures from_gives { result ≡ Wanting }
     {
         WorldFault::Memory
+    }
+}
+
+impl From<ClockFault> for WorldFault {
+    ghost use Rattle.hk_world.specs.Faults.{clock_fault};
+
+    ghost from_gives = { λ fault result. result ≡ clock_fault fault };
+
+    fn from(fault: ClockFault) -> WorldFault
+        ensures from_gives { result ≡ clock_fault fault }
+    {
+        match fault {
+            ClockFault::Memory => WorldFault::Memory,
+            ClockFault::Live => WorldFault::Refused(Refused::NoActor),
+            ClockFault::NotLive => WorldFault::Refused(Refused::NoActor),
+            ClockFault::ClockFalls { clock } => WorldFault::Refused(Refused::ClockFalls { clock }),
+            ClockFault::Skew { to, other } => WorldFault::Refused(Refused::Skew { to, other }),
+        }
+    }
+}
+
+impl From<ManagerFault> for WorldFault {
+    ghost use Rattle.hk_world.specs.Faults.{manager_fault};
+
+    ghost from_gives = { λ fault result. result ≡ manager_fault fault };
+
+    fn from(fault: ManagerFault) -> WorldFault
+        ensures from_gives { result ≡ manager_fault fault }
+    {
+        match fault {
+            ManagerFault::Memory => WorldFault::Memory,
+            ManagerFault::Behind { held } => WorldFault::Refused(Refused::Behind { held }),
+            ManagerFault::NoSuchMember => WorldFault::Refused(Refused::NoSuchMember),
+            ManagerFault::LastMember => WorldFault::Refused(Refused::LastMember),
+            ManagerFault::Full => WorldFault::Refused(Refused::Full),
+            ManagerFault::NoNumbers => WorldFault::Refused(Refused::NoNumbers),
+            ManagerFault::NotPast { node, end } => {
+                WorldFault::Refused(Refused::NotPast { node, end })
+            }
+        }
     }
 }

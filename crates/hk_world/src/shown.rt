@@ -15,8 +15,10 @@ pub struct Acted {
 pub struct Shown {
     /// The number of the call that was made.
     pub call: Option<CallNo>,
-    /// The view that was agreed, or that the node `installed` now has.
+    /// The view that was agreed, that the manager `chosen` now holds, or that the node `installed` now has.
     pub view: Option<View>,
+    /// The manager that now holds another view than before.
+    pub chosen: Option<u8>,
     /// The node that installed a view.
     pub installed: Option<NodeId>,
     /// The number of the first letter that was sent, if any was; letters are numbered from 1.

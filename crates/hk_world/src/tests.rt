@@ -2,7 +2,7 @@ ghost use Rattle.std.specs.Prelude.{◌≤◌, IfOk};
 ghost use Rattle.hk_world.specs.Sound.{IsEvent};
 
 use super::*;
-use hk_base::{Answer, Content, Data, Key, NodeId, Op};
+use hk_base::{Actor, Answer, Change, Content, Data, Key, NodeId, Op};
 use std::alloc::Global;
 use std::test::Fail;
 
@@ -14,6 +14,7 @@ fn group(alloc: Global, nodes: u8) -> Result<World, Fail>
         alloc,
         Header {
             nodes,
+            managers: 0,
             lease: 1000,
             skew: 10,
         },

@@ -6,46 +6,55 @@ ghost use Rattle.hk_base.specs.declared.time.TheConstants.{MAX_TIME};
 
 mod act;
 mod allowed;
-mod change;
+mod clocks;
+mod crash;
 mod events;
 mod founders;
+mod learn;
+mod manage;
 mod numbers;
 mod post;
 mod scan;
+mod start;
 mod views;
 
 use crate::event::{Event, Header};
 use crate::laws::worlds_stay_sound;
-use crate::process::Process;
-use crate::refused::{Refused, WorldFault};
+use crate::process::{ManagerProcess, Process};
+use crate::refused::WorldFault;
 use crate::shown::Shown;
-use founders::{founders, founding_view};
+use founders::{founders, founding_clocks, founding_managers, founding_view};
 use hk_base::{Letter, Memory, NodeId, View};
+use hk_clocks::Clocks;
 use hk_node::Node;
 use numbers::numbered;
 use std::alloc::Global;
 use std::collections::BTreeMap;
 use std::marker::Model;
 
-/// A group of nodes without managers, with every letter ever sent and the views that were agreed.
+/// A group of nodes, and of managers if it has any, with their clocks, every letter ever sent and the views that were agreed.
 #[derive(Drop)]
 pub struct World {
     skew: u64,
+    lease: u64,
     processes: BTreeMap<NodeId, Process>,
+    managers: Vec<ManagerProcess>,
+    clocks: Clocks,
     letters: Vec<Letter>,
     views: Vec<View>,
     calls: u64,
 }
 
 impl Model for World {
+    ghost use Rattle.std.specs.Prelude.{◌≡◌};
     ghost use Rattle.hk_world.specs.World.{WorldState};
     ghost use Rattle.hk_world.specs.Sound.{IsWorld};
 
     ghost Value = { WorldState };
 
-    ghost view = { λ w. record { skew = w.skew; processes = w.processes.entries; letters = w.letters.items; views = w.views.items; calls = w.calls } };
+    ghost view = { λ w. record { skew = w.skew; lease = w.lease; processes = w.processes.entries; managers = w.managers.items; paces = w.clocks.paces; letters = w.letters.items; views = w.views.items; calls = w.calls } };
 
-    ghost invariant = { λ w. IsWorld (record { skew = w.skew; processes = w.processes.entries; letters = w.letters.items; views = w.views.items; calls = w.calls }) };
+    ghost invariant = { λ w. (w.clocks.skew ≡ w.skew) × IsWorld (record { skew = w.skew; lease = w.lease; processes = w.processes.entries; managers = w.managers.items; paces = w.clocks.paces; letters = w.letters.items; views = w.views.items; calls = w.calls }) };
 }
 
 impl World {
@@ -54,7 +63,7 @@ impl World {
     ghost use Rattle.hk_world.specs.Start.{start};
     ghost use Rattle.hk_world.specs.Sound.{IsHeader, IsEvent, IsStepOf};
 
-    /// The world of founders: they are in the first view, each with a lease, their clocks at 1.
+    /// The world of founders: they are in the first view, each with a lease, and managers hold it. All clocks read 1.
     pub fn new(alloc: Global, header: Header) -> Result<World, Memory>
         requires { IsHeader header }
         ensures { IfOk result (λ world. world ≡ start header) }
@@ -62,11 +71,16 @@ impl World {
         worlds_stay_sound();
         let view = founding_view(alloc, header)?;
         let processes = founders(alloc, header, &view)?;
+        let managers = founding_managers(alloc, header, &view)?;
+        let clocks = founding_clocks(alloc, header)?;
         let mut views = Vec::new(alloc);
         views.push(view)?;
         Ok(World {
             skew: header.skew,
+            lease: header.lease,
             processes,
+            managers,
+            clocks,
             letters: Vec::new(alloc),
             views,
             calls: 0,
@@ -92,9 +106,12 @@ impl World {
             Event::Install { node, epoch } => self.install(alloc, *node, *epoch),
             Event::Lease { node, end } => self.lease(alloc, *node, *end),
             Event::AskLease { node, manager } => self.ask_lease(alloc, *node, *manager),
-            Event::Propose { .. } | Event::Activate { .. } => {
-                Err(WorldFault::Refused(Refused::NoActor))
-            }
+            Event::Propose {
+                manager,
+                base,
+                change,
+            } => self.propose(alloc, *manager, *base, *change),
+            Event::Activate { manager } => self.activate(alloc, *manager),
         }
     }
 
@@ -112,7 +129,7 @@ impl World {
         numbered(number, &self.letters)
     }
 
-    /// The agreed view of this epoch. None exactly where none was agreed.
+    /// The view of this epoch. None exactly where none was agreed, or no manager has learned it yet.
     pub fn view(&self, epoch: u64) -> Option<&View>
         ensures { option_copied result ≡ numbered epoch self.now.views }
     {

@@ -96,6 +96,7 @@ pub(super) fn put_refusal(out: &mut Vec<u8>, refused: Refused) -> Result<(), Mem
         Refused::Skew { to, other } => put_two(out, b"skew ", to, other),
         Refused::ClockFalls { clock } => put_named(out, b"clock-falls ", clock),
         Refused::LeaseRuns { node, end } => put_two(out, b"lease-runs ", u64::from(node.0), end),
+        Refused::Managed => put_text(out, b"managed"),
         Refused::NoView => put_text(out, b"no-view"),
         Refused::NotMember => put_text(out, b"not-member"),
         Refused::Behind { held } => put_named(out, b"behind ", held),
@@ -103,6 +104,7 @@ pub(super) fn put_refusal(out: &mut Vec<u8>, refused: Refused) -> Result<(), Mem
         Refused::LastMember => put_text(out, b"last-member"),
         Refused::Full => put_text(out, b"full"),
         Refused::NoNumbers => put_text(out, b"no-numbers"),
+        Refused::NotPast { node, end } => put_two(out, b"not-past ", u64::from(node.0), end),
         Refused::Started => put_text(out, b"started"),
     }
 }

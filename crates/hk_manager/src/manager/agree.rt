@@ -6,15 +6,17 @@ ghost use Rattle.hk_base.specs.declared.letter.Body.TheVariants.{Accept, Accepte
 ghost use Rattle.hk_base.specs.Range.{IsBallot, IsVote};
 ghost use Rattle.hk_base.specs.View.{IsView};
 ghost use Rattle.hk_paxos.specs.declared.acceptor.Promise.{Promise};
-ghost use Rattle.hk_manager.specs.Steps.{idle, is_too_late, promise_body, prepares, accepts, proposal_in, at_proposal, counts_promise, reports, counts_acceptance};
-ghost use Rattle.hk_manager.specs.Sound.{IsProposal};
-ghost use Rattle.hk_manager.specs.Outs.{IsMadeOf};
+ghost use Rattle.hk_manager.specs.Steps.{sends, idle, is_too_late, promise_body, prepares, accepts, proposal_in, at_proposal, counts_promise, reports, counts_acceptance};
+ghost use Rattle.hk_manager.specs.Sound.{IsInstance, IsProposal};
+ghost use Rattle.hk_manager.specs.Manager.{with_instance};
+ghost use Rattle.hk_manager.specs.Undone.{HasReplaced, TellsReplaced};
+ghost use Rattle.hk_manager.specs.Outs.{made, IsMadeOf};
 
 use super::Manager;
 use super::post::idle;
-use crate::instance::MAX_ROUND;
-use crate::out::ManagerOut;
-use hk_base::{Ballot, Body, Memory, View, Voted};
+use crate::instance::{Instance, MAX_ROUND};
+use crate::out::{ManagerOut, Replaced};
+use hk_base::{Ballot, Body, Letters, Memory, View, Voted};
 use hk_paxos::{Promise, Proposer};
 use std::alloc::Global;
 
@@ -65,7 +67,56 @@ fn is_of(proposer: &Proposer, epoch: u64) -> bool
     proposer.epoch() == epoch
 }
 
+// The epoch of a view that is held in place of another one.
+fn epoch_learned(former: &Option<View>, epoch: u64) -> Option<u64>
+    ensures { result ≡ option_map (λ _view. epoch) former.now }
+{
+    match former {
+        Some(_) => Some(epoch),
+        None => None,
+    }
+}
+
 impl Manager {
+    // Puts what it now knows of an instance, with what it says of it.
+    fn put_known(
+        &mut self,
+        epoch: u64,
+        instance: Instance,
+        letters: Letters,
+    ) -> Result<ManagerOut, Memory>
+        requires { IsInstance instance }
+        ensures made { IsMadeOf result self.old self.new (sends (with_instance self.old epoch instance) letters) }
+        ensures replaced { TellsReplaced result self.old self.new }
+    {
+        let former = self.put_instance(epoch, instance)?;
+        Ok(ManagerOut {
+            letters,
+            chosen: None,
+            replaced: Replaced::Instance {
+                epoch,
+                instance: former,
+            },
+        })
+    }
+
+    // Puts its latest proposal, with what it says of it.
+    fn put_counted(&mut self, proposer: Proposer, letters: Letters) -> ManagerOut
+        requires { IsProposal self.old.id self.old.managers proposer }
+        ensures made { made self.new result ≡ sends (record self.old { proposal = Some proposer }) letters }
+        ensures replaced { HasReplaced result.replaced self.old self.new }
+    {
+        let proposal = self.put_proposal(proposer);
+        ManagerOut {
+            letters,
+            chosen: None,
+            replaced: Replaced::Proposal {
+                proposal,
+                held: None,
+            },
+        }
+    }
+
     /// Takes a Prepare.
     pub(super) fn take_prepare(
         &mut self,
@@ -73,7 +124,8 @@ impl Manager {
         epoch: u64,
         ballot: Ballot,
     ) -> Result<ManagerOut, Memory>
-        ensures { IsMadeOf result self.old self.new (if is_too_late ballot then idle self.old else prepares self.old epoch ballot) }
+        ensures made { IsMadeOf result self.old self.new (if is_too_late ballot then idle self.old else prepares self.old epoch ballot) }
+        ensures replaced { TellsReplaced result self.old self.new }
     {
         if is_too_late(ballot) {
             return Ok(idle(alloc));
@@ -82,11 +134,7 @@ impl Manager {
         let promise = instance.prepare(alloc, ballot)?;
         let body = promise_body(promise);
         let letters = self.tell_all(alloc, epoch, &body)?;
-        self.put_instance(epoch, instance)?;
-        Ok(ManagerOut {
-            letters,
-            chosen: None,
-        })
+        self.put_known(epoch, instance, letters)
     }
 
     /// Takes an Accept.
@@ -99,7 +147,8 @@ impl Manager {
     ) -> Result<ManagerOut, Memory>
         requires ballot { IsBallot ballot }
         requires view { IsView view.now }
-        ensures { IsMadeOf result self.old self.new (if is_too_late ballot then idle self.old else accepts self.old epoch ballot view.now) }
+        ensures made { IsMadeOf result self.old self.new (if is_too_late ballot then idle self.old else accepts self.old epoch ballot view.now) }
+        ensures replaced { TellsReplaced result self.old self.new }
     {
         if is_too_late(ballot) {
             return Ok(idle(alloc));
@@ -109,11 +158,7 @@ impl Manager {
         let accepted = instance.accept(ballot, view);
         let body = accepted_body(accepted);
         let letters = self.tell_all(alloc, epoch, &body)?;
-        self.put_instance(epoch, instance)?;
-        Ok(ManagerOut {
-            letters,
-            chosen: None,
-        })
+        self.put_known(epoch, instance, letters)
     }
 
     // A copy of the latest proposal, where it is of this instance.
@@ -143,7 +188,8 @@ impl Manager {
     ) -> Result<ManagerOut, Memory>
         requires sound { IsProposal self.old.id self.old.managers proposer }
         requires vote { IfSome promise.accepted IsVote }
-        ensures { IsMadeOf result self.old self.new (counts_promise proposer self.old from promise) }
+        ensures made { IsMadeOf result self.old self.new (counts_promise proposer self.old from promise) }
+        ensures replaced { TellsReplaced result self.old self.new }
     {
         let epoch = proposer.epoch();
         let ballot = proposer.ballot();
@@ -151,11 +197,7 @@ impl Manager {
         let view = proposer.on_promise(alloc, from, promise)?;
         let body = accept_body(ballot, view);
         let letters = self.tell_all(alloc, epoch, &body)?;
-        self.put_proposal(proposer);
-        Ok(ManagerOut {
-            letters,
-            chosen: None,
-        })
+        Ok(self.put_counted(proposer, letters))
     }
 
     /// Takes a Promise.
@@ -168,7 +210,8 @@ impl Manager {
         accepted: &Option<Voted>,
     ) -> Result<ManagerOut, Memory>
         requires { IfSome accepted.now IsVote }
-        ensures { IsMadeOf result self.old self.new (at_proposal (proposal_in self.old.proposal epoch) self.old (λ proposer. counts_promise proposer self.old from (record { ballot = ballot; accepted = accepted.now }))) }
+        ensures made { IsMadeOf result self.old self.new (at_proposal (proposal_in self.old.proposal epoch) self.old (λ proposer. counts_promise proposer self.old from (record { ballot = ballot; accepted = accepted.now }))) }
+        ensures replaced { TellsReplaced result self.old self.new }
     {
         match self.proposal_in(alloc, epoch)? {
             Some(proposer) => {
@@ -188,12 +231,19 @@ impl Manager {
     ) -> Result<ManagerOut, Memory>
         requires sound { IsProposal self.old.id self.old.managers proposer }
         requires view { IsView view }
-        ensures { IsMadeOf result self.old self.new (reports (record self.old { proposal = Some proposer }) (Some view)) }
+        ensures made { IsMadeOf result self.old self.new (reports (record self.old { proposal = Some proposer }) (Some view)) }
+        ensures replaced { TellsReplaced result self.old self.new }
     {
+        let epoch = view.epoch;
         let body = Body::Chosen(view.copy(alloc)?);
-        let letters = self.post_others(alloc, view.epoch, &body)?;
-        self.put_proposal(proposer);
-        Ok(self.learn(view, letters))
+        let letters = self.post_others(alloc, epoch, &body)?;
+        let proposal = self.put_proposal(proposer);
+        let held = self.learn(view);
+        Ok(ManagerOut {
+            letters,
+            chosen: epoch_learned(&held, epoch),
+            replaced: Replaced::Proposal { proposal, held },
+        })
     }
 
     // Counts an acceptance at a copy of the latest proposal, which it puts.
@@ -205,14 +255,15 @@ impl Manager {
         ballot: Ballot,
     ) -> Result<ManagerOut, Memory>
         requires { IsProposal self.old.id self.old.managers proposer }
-        ensures { IsMadeOf result self.old self.new (counts_acceptance proposer self.old from ballot) }
+        ensures made { IsMadeOf result self.old self.new (counts_acceptance proposer self.old from ballot) }
+        ensures replaced { TellsReplaced result self.old self.new }
     {
         let mut proposer = proposer;
         match proposer.on_accepted(alloc, from, ballot)? {
             Some(view) => self.report(alloc, proposer, view),
             None => {
-                self.put_proposal(proposer);
-                Ok(idle(alloc))
+                let none = Letters::new(alloc);
+                Ok(self.put_counted(proposer, none))
             }
         }
     }
@@ -225,7 +276,8 @@ impl Manager {
         from: u8,
         ballot: Ballot,
     ) -> Result<ManagerOut, Memory>
-        ensures { IsMadeOf result self.old self.new (at_proposal (proposal_in self.old.proposal epoch) self.old (λ proposer. counts_acceptance proposer self.old from ballot)) }
+        ensures made { IsMadeOf result self.old self.new (at_proposal (proposal_in self.old.proposal epoch) self.old (λ proposer. counts_acceptance proposer self.old from ballot)) }
+        ensures replaced { TellsReplaced result self.old self.new }
     {
         match self.proposal_in(alloc, epoch)? {
             Some(proposer) => self.count_acceptance(alloc, proposer, from, ballot),

@@ -1,27 +1,31 @@
 //! Leases, and views that begin.
 
-ghost use Rattle.std.specs.Prelude.{◌≡◌, ◌≤◌, OnOk, OnErr};
+ghost use Rattle.std.specs.Prelude.{◌≡◌, ◌≤◌, IfOk, OnOk, OnErr};
 ghost use Rattle.hk_lease.specs.Grants.{with_grant};
 ghost use Rattle.hk_base.specs.declared.time.TheConstants.{MAX_TIME};
 ghost use Rattle.hk_manager.specs.Steps.{asks_lease, activates};
+ghost use Rattle.hk_manager.specs.Undone.{HasReplaced, TellsReplaced};
 ghost use Rattle.hk_manager.specs.Outs.{IsMadeOf, IsStepOf};
 
 use super::Manager;
 use super::post::idle;
 use crate::change::is_member;
 use crate::fault::ManagerFault;
-use crate::out::ManagerOut;
+use crate::out::{ManagerOut, Replaced};
 use hk_base::{Actor, Body, Letters, MAX_TIME, Memory, NodeId};
 use hk_lease::wait;
 use std::alloc::Global;
 
 impl Manager {
-    // Notes an until for the node.
-    fn note(&mut self, node: NodeId, until: u64) -> Result<(), Memory>
+    // Notes an until for the node. It gives what the step replaced.
+    fn note(&mut self, node: NodeId, until: u64) -> Result<Replaced, Memory>
         ensures ok { OnOk result (self.new ≡ record self.old { untils = with_grant self.old.untils node until }) }
+        ensures replaced { IfOk result (λ replaced. HasReplaced replaced self.old self.new) }
         ensures err { OnErr result (self.new ≡ self.old) }
     {
-        self.untils.grant(node, until)
+        let noted = self.untils.noted(node);
+        self.untils.grant(node, until)?;
+        Ok(Replaced::Until { node, until: noted })
     }
 
     /// Takes a LeaseAsk, at `asked` milliseconds by the asker's clock.
@@ -32,7 +36,8 @@ impl Manager {
         asked: u64,
     ) -> Result<ManagerOut, Memory>
         requires { asked ≤ MAX_TIME }
-        ensures { IsMadeOf result self.old self.new (asks_lease self.old from asked) }
+        ensures made { IsMadeOf result self.old self.new (asks_lease self.old from asked) }
+        ensures replaced { TellsReplaced result self.old self.new }
     {
         if !is_member(&self.held, from) {
             return Ok(idle(alloc));
@@ -46,16 +51,18 @@ impl Manager {
             Body::LeaseGive { end },
             Actor::Node(from),
         )?;
-        self.note(from, until)?;
+        let replaced = self.note(from, until)?;
         Ok(ManagerOut {
             letters,
             chosen: None,
+            replaced,
         })
     }
 
     /// Tells the members of the view that it holds that it may begin, where its clock is past every until that it noted outside.
     pub fn activate(&self, alloc: Global) -> Result<ManagerOut, ManagerFault>
-        ensures { IsStepOf result self.now self.now (activates self.now) }
+        ensures made { IsStepOf result self.now self.now (activates self.now) }
+        ensures replaced { TellsReplaced result self.now self.now }
     {
         if let Err(running) = self.untils.all_past(&self.held, self.clock) {
             return Err(ManagerFault::NotPast {
@@ -68,6 +75,7 @@ impl Manager {
         Ok(ManagerOut {
             letters,
             chosen: None,
+            replaced: Replaced::Nothing,
         })
     }
 }

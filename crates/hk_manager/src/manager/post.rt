@@ -6,19 +6,22 @@ ghost use Rattle.hk_manager.specs.Manager.{ManagerState};
 ghost use Rattle.hk_manager.specs.Sends.{letter_to, to_all, to_others, to_members, told_all};
 ghost use Rattle.hk_manager.specs.Steps.{idle};
 ghost use Rattle.hk_manager.specs.Outs.{made};
+ghost use Rattle.hk_manager.specs.Undone.{HasReplaced};
 
 use super::Manager;
-use crate::out::ManagerOut;
+use crate::out::{ManagerOut, Replaced};
 use hk_base::{Actor, Body, Letter, Letters, Memory};
 use std::alloc::Global;
 
 /// Nothing happens. It takes no memory.
 pub(super) fn idle(alloc: Global) -> ManagerOut
-    ensures { (m : ManagerState) → made m result ≡ idle m }
+    ensures made { (m : ManagerState) → made m result ≡ idle m }
+    ensures replaced { (m : ManagerState) → HasReplaced result.replaced m m }
 {
     ManagerOut {
         letters: Letters::new(alloc),
         chosen: None,
+        replaced: Replaced::Nothing,
     }
 }
 

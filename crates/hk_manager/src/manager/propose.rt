@@ -7,6 +7,7 @@ ghost use Rattle.hk_manager.specs.Manager.{instance_at, with_instance};
 ghost use Rattle.hk_manager.specs.Changes.{changed, change_fault};
 ghost use Rattle.hk_manager.specs.Steps.{begins, proposes};
 ghost use Rattle.hk_manager.specs.Sound.{IsInstance, IsProposal};
+ghost use Rattle.hk_manager.specs.Undone.{HasReplaced, TellsReplaced};
 ghost use Rattle.hk_manager.specs.Outs.{IsMadeOf, IsStepOf};
 
 use super::Manager;
@@ -14,7 +15,7 @@ use super::post::idle;
 use crate::change::{changed, check_change};
 use crate::fault::ManagerFault;
 use crate::instance::{Instance, MAX_EPOCH, MAX_ROUND};
-use crate::out::ManagerOut;
+use crate::out::{ManagerOut, Replaced};
 use hk_base::{Ballot, Body, Change, Memory};
 use hk_paxos::Proposer;
 use std::alloc::Global;
@@ -36,21 +37,26 @@ impl Manager {
         Proposer::new(alloc, epoch, ballot, view, self.managers)
     }
 
-    // Puts what it knows of an instance in which it proposes, and the proposal.
+    // Puts what it knows of an instance in which it proposes, and the proposal. It gives what the step replaced.
     fn put_begun(
         &mut self,
         epoch: u64,
         instance: Instance,
         proposer: Proposer,
-    ) -> Result<(), Memory>
+    ) -> Result<Replaced, Memory>
         requires instance { IsInstance instance }
         requires proposer { IsProposal self.old.id self.old.managers proposer }
         ensures ok { OnOk result (self.new ≡ record (with_instance self.old epoch instance) { proposal = Some proposer }) }
+        ensures replaced { IfOk result (λ replaced. HasReplaced replaced self.old self.new) }
         ensures err { OnErr result (self.new ≡ self.old) }
     {
-        self.put_instance(epoch, instance)?;
-        self.put_proposal(proposer);
-        Ok(())
+        let instance = self.put_instance(epoch, instance)?;
+        let proposal = self.put_proposal(proposer);
+        Ok(Replaced::Begun {
+            epoch,
+            instance,
+            proposal,
+        })
     }
 
     // Proposes at the ballot, whose round is the next one of the instance.
@@ -68,7 +74,8 @@ impl Manager {
         requires late { self.old.held.epoch < MAX_EPOCH }
         requires round { instance.round < MAX_ROUND }
         requires possible { change_fault self.old.held change ≡ None }
-        ensures { IsMadeOf result self.old self.new (begins self.old change) }
+        ensures made { IsMadeOf result self.old self.new (begins self.old change) }
+        ensures replaced { TellsReplaced result self.old self.new }
     {
         let _ = &self.id;
         let proposer = self.proposal_of(alloc, epoch, ballot, change)?;
@@ -77,10 +84,11 @@ impl Manager {
             acceptor: instance.acceptor,
             round: ballot.round,
         };
-        self.put_begun(epoch, instance, proposer)?;
+        let replaced = self.put_begun(epoch, instance, proposer)?;
         Ok(ManagerOut {
             letters,
             chosen: None,
+            replaced,
         })
     }
 
@@ -89,7 +97,8 @@ impl Manager {
         requires epoch { epoch ≡ self.old.held.epoch + 1 }
         requires late { self.old.held.epoch < MAX_EPOCH }
         requires possible { change_fault self.old.held change ≡ None }
-        ensures { IsMadeOf result self.old self.new (begins self.old change) }
+        ensures made { IsMadeOf result self.old self.new (begins self.old change) }
+        ensures replaced { TellsReplaced result self.old self.new }
     {
         let instance = self.instance(alloc, epoch)?;
         if instance.round >= MAX_ROUND {
@@ -105,7 +114,8 @@ impl Manager {
     // Proposes a change that may be, where there is an epoch for it.
     fn begin(&mut self, alloc: Global, change: Change) -> Result<ManagerOut, Memory>
         requires { change_fault self.old.held change ≡ None }
-        ensures { IsMadeOf result self.old self.new (begins self.old change) }
+        ensures made { IsMadeOf result self.old self.new (begins self.old change) }
+        ensures replaced { TellsReplaced result self.old self.new }
     {
         if self.held.epoch >= MAX_EPOCH {
             return Ok(idle(alloc));
@@ -120,7 +130,8 @@ impl Manager {
         base: u64,
         change: Change,
     ) -> Result<ManagerOut, ManagerFault>
-        ensures { IsStepOf result self.old self.new (proposes self.old base change) }
+        ensures made { IsStepOf result self.old self.new (proposes self.old base change) }
+        ensures replaced { TellsReplaced result self.old self.new }
     {
         if self.held.epoch != base {
             return Err(ManagerFault::Behind {

@@ -1,19 +1,17 @@
 //! The parts of a manager that a step changes, each by itself.
 
-ghost use Rattle.std.specs.Prelude.{◌≡◌, ◌≤◌, Some, None, IfOk, OnOk, OnErr, nat_lt, if◌then◌else◌, max};
+ghost use Rattle.std.specs.Prelude.{◌≡◌, Some, None, IsSome, IfOk, OnOk, OnErr, nat_lt, if◌then◌else◌};
 ghost use Rattle.hk_base.specs.View.{IsView};
-ghost use Rattle.hk_base.specs.declared.time.TheConstants.{MAX_TIME};
 ghost use Rattle.hk_manager.specs.Manager.{instance_at, with_instance};
-ghost use Rattle.hk_manager.specs.Steps.{learns};
-ghost use Rattle.hk_manager.specs.Outs.{made};
 ghost use Rattle.hk_manager.specs.Sound.{IsInstance, IsProposal};
+ghost use Rattle.hk_manager.specs.Undone.{known_of, instance_given_back};
 
 use super::Manager;
 use crate::instance::Instance;
-use crate::out::ManagerOut;
-use hk_base::{Letters, Memory, View};
+use hk_base::{Memory, View};
 use hk_paxos::Proposer;
 use std::alloc::Global;
+use std::mem;
 
 impl Manager {
     /// A copy of what it knows of an instance.
@@ -27,40 +25,40 @@ impl Manager {
         }
     }
 
-    /// Puts what it now knows of an instance.
-    pub(super) fn put_instance(&mut self, epoch: u64, instance: Instance) -> Result<(), Memory>
+    /// Puts what it now knows of an instance. It gives what it knew before, if anything.
+    pub(super) fn put_instance(
+        &mut self,
+        epoch: u64,
+        instance: Instance,
+    ) -> Result<Option<Instance>, Memory>
         requires { IsInstance instance }
         ensures ok { OnOk result (self.new ≡ with_instance self.old epoch instance) }
+        ensures there { OnOk result (IsSome (known_of epoch self.new.instances)) }
+        ensures former { IfOk result (λ former. instance_given_back epoch former self.new.instances ≡ self.old.instances) }
         ensures err { OnErr result (self.new ≡ self.old) }
     {
-        self.instances.insert(epoch, instance)?;
-        Ok(())
+        let former = self.instances.insert(epoch, instance)?;
+        Ok(former)
     }
 
-    /// Puts its latest proposal.
-    pub(super) fn put_proposal(&mut self, proposer: Proposer)
+    /// Puts its latest proposal. It gives the one before, if there was one.
+    pub(super) fn put_proposal(&mut self, proposer: Proposer) -> Option<Proposer>
         requires { IsProposal self.old.id self.old.managers proposer }
-        ensures { self.new ≡ record self.old { proposal = Some proposer } }
+        ensures put { self.new ≡ record self.old { proposal = Some proposer } }
+        ensures former { result ≡ self.old.proposal }
     {
-        self.proposal = Some(proposer);
+        self.proposal.replace(proposer)
     }
 
-    /// Holds the view, where its epoch is greater.
-    pub(super) fn learn(&mut self, view: View, letters: Letters) -> ManagerOut
+    /// Holds the view, where its epoch is greater. It gives the view that it held before, exactly then.
+    pub(super) fn learn(&mut self, view: View) -> Option<View>
         requires { IsView view }
-        ensures { made self.new result ≡ learns self.old view letters }
+        ensures held { self.new ≡ record self.old { held = (if nat_lt self.old.held.epoch view.epoch then view else self.old.held) } }
+        ensures former { result ≡ (if nat_lt self.old.held.epoch view.epoch then Some self.old.held else None) }
     {
-        let epoch = view.epoch;
-        if epoch <= self.held.epoch {
-            return ManagerOut {
-                letters,
-                chosen: None,
-            };
+        if view.epoch <= self.held.epoch {
+            return None;
         }
-        self.held = view;
-        ManagerOut {
-            letters,
-            chosen: Some(epoch),
-        }
+        Some(mem::replace(&mut self.held, view))
     }
 }

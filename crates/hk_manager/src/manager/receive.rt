@@ -5,12 +5,13 @@ ghost use Rattle.hk_base.specs.Range.{IsBody, IsLetter};
 ghost use Rattle.hk_base.specs.View.{IsView};
 ghost use Rattle.hk_manager.specs.Steps.{is_addressed, from_node, from_manager, learns, receives_from, receives};
 ghost use Rattle.hk_manager.specs.declared.instance.TheConstants.{MAX_EPOCH};
+ghost use Rattle.hk_manager.specs.Undone.{TellsReplaced};
 ghost use Rattle.hk_manager.specs.Outs.{IsMadeOf};
 
 use super::Manager;
 use super::post::idle;
 use crate::instance::MAX_EPOCH;
-use crate::out::ManagerOut;
+use crate::out::{ManagerOut, Replaced};
 use hk_base::{Actor, Body, Letter, Letters, Memory, NodeId, View};
 use std::alloc::Global;
 
@@ -23,7 +24,8 @@ impl Manager {
         body: &Body,
     ) -> Result<ManagerOut, Memory>
         requires { IsBody body.now }
-        ensures { IsMadeOf result self.old self.new (from_node body.now self.old from) }
+        ensures made { IsMadeOf result self.old self.new (from_node body.now self.old from) }
+        ensures replaced { TellsReplaced result self.old self.new }
     {
         match body {
             Body::LeaseAsk { asked } => self.take_ask(alloc, from, *asked),
@@ -34,10 +36,19 @@ impl Manager {
     // Takes a Chosen.
     fn take_chosen(&mut self, alloc: Global, view: &View) -> Result<ManagerOut, Memory>
         requires { IsView view.now }
-        ensures { IsMadeOf result self.old self.new (learns self.old view.now []) }
+        ensures made { IsMadeOf result self.old self.new (learns self.old view.now []) }
+        ensures replaced { TellsReplaced result self.old self.new }
     {
         let view = view.copy(alloc)?;
-        Ok(self.learn(view, Letters::new(alloc)))
+        let epoch = view.epoch;
+        match self.learn(view) {
+            Some(former) => Ok(ManagerOut {
+                letters: Letters::new(alloc),
+                chosen: Some(epoch),
+                replaced: Replaced::Held(former),
+            }),
+            None => Ok(idle(alloc)),
+        }
     }
 
     // Takes a letter of one of the managers.
@@ -49,7 +60,8 @@ impl Manager {
         body: &Body,
     ) -> Result<ManagerOut, Memory>
         requires { IsBody body.now }
-        ensures { IsMadeOf result self.old self.new (from_manager body.now self.old epoch from) }
+        ensures made { IsMadeOf result self.old self.new (from_manager body.now self.old epoch from) }
+        ensures replaced { TellsReplaced result self.old self.new }
     {
         match body {
             Body::Prepare(ballot) => self.take_prepare(alloc, epoch, *ballot),
@@ -90,7 +102,8 @@ impl Manager {
     // Takes a letter that is admitted.
     fn take(&mut self, alloc: Global, letter: &Letter) -> Result<ManagerOut, Memory>
         requires { IsBody letter.now.body }
-        ensures { IsMadeOf result self.old self.new (receives_from letter.now.from self.old letter.now) }
+        ensures made { IsMadeOf result self.old self.new (receives_from letter.now.from self.old letter.now) }
+        ensures replaced { TellsReplaced result self.old self.new }
     {
         match letter.from {
             Actor::Node(from) => self.take_from_node(alloc, from, &letter.body),
@@ -107,7 +120,8 @@ impl Manager {
     /// such sender, is dropped and changes nothing.
     pub fn receive(&mut self, alloc: Global, letter: &Letter) -> Result<ManagerOut, Memory>
         requires { IsLetter letter.now }
-        ensures { IsMadeOf result self.old self.new (receives self.old letter.now) }
+        ensures made { IsMadeOf result self.old self.new (receives self.old letter.now) }
+        ensures replaced { TellsReplaced result self.old self.new }
     {
         if !self.admits(letter) {
             return Ok(idle(alloc));

@@ -4,28 +4,38 @@ ghost use Rattle.std.specs.Prelude.{◌≡◌, ◌≤◌};
 ghost use Rattle.hk_base.specs.declared.time.TheConstants.{MAX_TIME};
 ghost use Rattle.hk_manager.specs.Steps.{ticks, manager_step};
 ghost use Rattle.hk_manager.specs.Sound.{IsEvent};
-ghost use Rattle.hk_manager.specs.Outs.{IsStepOf};
+ghost use Rattle.hk_manager.specs.Undone.{HasReplaced, TellsReplaced};
+ghost use Rattle.hk_manager.specs.Outs.{made, IsStepOf};
 
 use super::Manager;
-use super::post::idle;
 use crate::event::ManagerEvent;
 use crate::fault::ManagerFault;
-use crate::out::ManagerOut;
+use crate::out::{ManagerOut, Replaced};
+use hk_base::Letters;
 use std::alloc::Global;
 
 impl Manager {
     /// The clock reads `now`, in milliseconds: it keeps the greater reading. It takes no memory.
-    pub fn tick(&mut self, now: u64)
+    pub fn tick(&mut self, alloc: Global, now: u64) -> ManagerOut
         requires { now ≤ MAX_TIME }
-        ensures { self.new ≡ (ticks self.old now).manager }
+        ensures made { made self.new result ≡ ticks self.old now }
+        ensures replaced { HasReplaced result.replaced self.old self.new }
     {
+        let former = self.clock;
         self.clock = self.clock.max(now);
+        ManagerOut {
+            letters: Letters::new(alloc),
+            chosen: None,
+            replaced: Replaced::Clock(former),
+        }
     }
 
-    /// Makes the step of an event, or refuses it. After a refusal, and after want of memory, the manager is as it was.
+    /// Makes the step of an event, or refuses it. After a refusal, and after want of memory, the manager is as it was. A step that
+    /// was made can be undone by what it replaced.
     pub fn step(&mut self, alloc: Global, event: &ManagerEvent) -> Result<ManagerOut, ManagerFault>
         requires { IsEvent event.now }
-        ensures { IsStepOf result self.old self.new (manager_step self.old event.now) }
+        ensures made { IsStepOf result self.old self.new (manager_step self.old event.now) }
+        ensures replaced { TellsReplaced result self.old self.new }
     {
         match event {
             ManagerEvent::Propose { base, change } => self.propose(alloc, *base, *change),
@@ -34,10 +44,7 @@ impl Manager {
                 Ok(out)
             }
             ManagerEvent::Activate => self.activate(alloc),
-            ManagerEvent::Tick { now } => {
-                self.tick(*now);
-                Ok(idle(alloc))
-            }
+            ManagerEvent::Tick { now } => Ok(self.tick(alloc, *now)),
         }
     }
 }

@@ -1,11 +1,10 @@
 //! The step of one live node.
 
 ghost use Rattle.std.specs.Prelude.{◌≡◌, IfOk, IfErr, Ok, Err, Some, None};
-ghost use Rattle.hk_node.specs.Sound.{IsEvent as IsNodeEvent};
 ghost use Rattle.hk_world.specs.World.{WorldState, process_at};
 ghost use Rattle.hk_world.specs.Steps.{live, calls_at};
 ghost use Rattle.hk_world.specs.Sound.{IsWorld, IsAnswerOf};
-ghost use Rattle.hk_world.specs.Acting.{made_by, allowed, counting, running};
+ghost use Rattle.hk_world.specs.Acting.{IsAct, made_by, allowed, counting, running};
 
 use super::World;
 use super::post::post;
@@ -48,7 +47,7 @@ impl World {
         call: Option<CallNo>,
         event: &NodeEvent,
     ) -> Result<Shown, WorldFault>
-        requires { IsNodeEvent event.now }
+        requires { IsAct event.now }
         ensures { IsAnswerOf result self.old self.new (made_by self.old id call event.now) }
     {
         steps_keep_nodes();
@@ -70,7 +69,7 @@ impl World {
         leave: Result<NodeId, Refused>,
         event: &NodeEvent,
     ) -> Result<Shown, WorldFault>
-        requires { IsNodeEvent event.now }
+        requires { IsAct event.now }
         ensures { IsAnswerOf result self.old self.new (allowed leave self.old event.now) }
     {
         match leave {
@@ -87,7 +86,7 @@ impl World {
         next: u64,
         event: &NodeEvent,
     ) -> Result<Shown, WorldFault>
-        requires { IsNodeEvent event.now }
+        requires { IsAct event.now }
         ensures { IsAnswerOf result self.old self.new (counting next (made_by self.old id (Some (record { 0 = next })) event.now)) }
     {
         match self.act(alloc, id, Some(CallNo(next)), event) {

@@ -1,19 +1,23 @@
 //! Which node an event lets act, or why it is refused.
 
 ghost use Rattle.std.specs.Prelude.{◌≡◌, ◌≤◌, length, Err, None, IfOk, IfErr};
+ghost use Rattle.std.specs.List.{list_any};
 ghost use Rattle.hk_base.specs.View.{IsView};
-ghost use Rattle.hk_node.specs.declared.event.NodeEvent.TheVariants.{Tick as NodeTick, Grant, Install as NodeInstall};
-ghost use Rattle.hk_world.specs.declared.event.Event.TheVariants.{Tick, Install, Lease};
+ghost use Rattle.hk_node.specs.Node.{is_member as is_node_member};
+ghost use Rattle.hk_node.specs.declared.event.NodeEvent.TheVariants.{Grant, Install as NodeInstall};
+ghost use Rattle.hk_world.specs.declared.event.Event.TheVariants.{Install, Lease};
 ghost use Rattle.hk_world.specs.World.{last_view};
 ghost use Rattle.hk_world.specs.Views.{given_before};
-ghost use Rattle.hk_world.specs.Steps.{world_step};
+ghost use Rattle.hk_world.specs.Steps.{may_join, world_step};
 ghost use Rattle.hk_world.specs.Acting.{made_by, allowed};
+ghost use Rattle.hk_world.specs.Allowed.{is_managed};
 
 use super::World;
 use super::numbers::numbered;
-use super::scan::{first_far, first_running, is_member};
+use super::scan::{first_running, is_member};
+use crate::process::ManagerProcess;
 use crate::refused::Refused;
-use hk_base::{Actor, NodeId, View};
+use hk_base::{NodeId, View};
 
 // How many numbers were given before the view of this epoch.
 fn given_before(views: &[View], epoch: u64) -> u32
@@ -28,32 +32,35 @@ fn given_before(views: &[View], epoch: u64) -> u32
     }
 }
 
+// Whether some manager holds a view that has the node as a member, also where it has crashed.
+fn is_held(id: NodeId, managers: &[ManagerProcess]) -> bool
+    ensures { result ≡ list_any (λ p. is_node_member id p.manager.held.members) managers.now }
+{
+    managers
+        .iter()
+        .any(|process| is_member(id, process.manager.held()))
+}
+
 impl World {
-    /// The last agreed view.
+    /// The last view.
     pub(super) fn last_view(&self) -> &View
         ensures { result.now ≡ last_view self.now.views }
     {
         &self.views[self.views.len() - 1]
     }
 
-    /// A clock does not fall, and does not go too far from that of any live node.
-    pub(super) fn may_tick(&self, actor: Actor, to: u64) -> Result<NodeId, Refused>
-        ensures { world_step self.now (Tick actor to) ≡ allowed result self.now (NodeTick to) }
+    /// Whether the group has managers, and so is not told its views and leases from outside.
+    pub(super) fn is_managed(&self) -> bool
+        ensures { result ≡ is_managed self.now.managers }
     {
-        let Actor::Node(id) = actor else {
-            return Err(Refused::NoActor);
-        };
-        let clock = match self.live(id) {
-            Ok(node) => node.now(),
-            Err(refused) => return Err(refused),
-        };
-        if to < clock {
-            return Err(Refused::ClockFalls { clock });
-        }
-        match first_far(&self.processes, self.skew, to, id) {
-            Some(refused) => Err(refused),
-            None => Ok(id),
-        }
+        !self.managers.is_empty()
+    }
+
+    /// Whether the last view, or one that a manager holds, has the node as a member.
+    pub(super) fn may_join(&self, id: NodeId) -> bool
+        ensures { result ≡ may_join self.now id }
+    {
+        is_member(id, self.last_view()) || is_held(id, &self.managers)
     }
 
     /// The view of the epoch. It is installed by a member that is in a lower epoch, and only where no lease outside the view
@@ -63,6 +70,9 @@ impl World {
         ensures is_view { IfOk result (λ view. IsView view.now) }
         ensures err { IfErr result (λ refused. world_step self.now (Install id epoch) ≡ Err refused) }
     {
+        if self.is_managed() {
+            return Err(Refused::Managed);
+        }
         let held = match self.live(id) {
             Ok(node) => node.epoch(),
             Err(refused) => return Err(refused),
@@ -87,6 +97,9 @@ impl World {
     pub(super) fn may_lease(&self, id: NodeId, end: u64) -> Result<NodeId, Refused>
         ensures { world_step self.now (Lease id end) ≡ allowed result self.now (Grant end) }
     {
+        if self.is_managed() {
+            return Err(Refused::Managed);
+        }
         if let Err(refused) = self.live(id) {
             return Err(refused);
         }

@@ -1,20 +1,20 @@
-//! Events of one node but calls: which node acts, and in what event of its own.
+//! Events of one actor but calls, ticks and crashes: which one acts, and in what event of its own.
 
-ghost use Rattle.std.specs.Prelude.{◌≡◌, ◌≤◌, [], Some, IfOk};
+ghost use Rattle.std.specs.Prelude.{◌≡◌, ◌≤◌, IfOk};
 ghost use Rattle.hk_base.specs.Range.{IsRoom};
 ghost use Rattle.hk_base.specs.declared.time.TheConstants.{MAX_TIME};
+ghost use Rattle.hk_manager.specs.declared.event.ManagerEvent.TheVariants.{Receive as Receipt};
 ghost use Rattle.hk_node.specs.declared.event.NodeEvent.TheVariants.{Resend as NodeResend, Replay as NodeReplay, Receive, Install as NodeInstall};
-ghost use Rattle.hk_world.specs.declared.event.Event.TheVariants.{Take, Tick, Resend, Replay, Copy, Install, Lease, AskLease};
-ghost use Rattle.hk_node.specs.Report.{rows_report};
-ghost use Rattle.hk_world.specs.Steps.{nothing};
+ghost use Rattle.hk_world.specs.declared.event.Event.TheVariants.{Take, Resend, Replay, Copy, Install, Lease, AskLease, Propose, Activate};
 ghost use Rattle.hk_world.specs.Sound.{IsStepOf};
 
 use super::World;
 use super::numbers::numbered;
 use crate::refused::{Refused, WorldFault};
-use crate::shown::{Acted, Shown};
-use hk_base::{Actor, Key, Letter, Letters, Memory, NodeId, Replies, View};
-use hk_node::{FormerRows, Node, NodeEvent, Report};
+use crate::shown::Shown;
+use hk_base::{Actor, Change, Key, Letter, Memory, NodeId, View};
+use hk_manager::ManagerEvent;
+use hk_node::NodeEvent;
 use std::alloc::Global;
 
 // The letter is taken, as an event of its addressee.
@@ -46,26 +46,11 @@ fn install(alloc: Global, view: &View) -> Result<NodeEvent, Memory>
     Ok(NodeEvent::Install(view))
 }
 
-// The node acts, and nothing happens.
-fn rests(alloc: Global, id: NodeId, node: &Node) -> Shown
-    ensures { result ≡ record nothing { acted = Some (record { node = id; report = rows_report node.now [] }) } }
+fn receipt(alloc: Global, letter: &Letter) -> Result<ManagerEvent, Memory>
+    ensures { IfOk result (λ event. event ≡ Receipt letter.now) }
 {
-    Shown {
-        call: None,
-        view: None,
-        installed: None,
-        first_letter: 0,
-        letters: Letters::new(alloc),
-        replies: Replies::new(alloc),
-        acted: Some(Acted {
-            node: id,
-            report: Report {
-                epoch: node.epoch(),
-                readied: false,
-                rows: FormerRows::new(alloc),
-            },
-        }),
-    }
+    let letter = letter.share(alloc)?;
+    Ok(ManagerEvent::Receive(letter))
 }
 
 impl World {
@@ -76,20 +61,16 @@ impl World {
         let Some(letter) = numbered(number, &self.letters) else {
             return Err(WorldFault::Refused(Refused::NoLetter));
         };
-        let Actor::Node(id) = letter.to else {
-            return Err(WorldFault::Refused(Refused::NoActor));
-        };
-        let event = receive(alloc, letter)?;
-        self.act(alloc, id, None, &event)
-    }
-
-    /// The clock of an actor rises.
-    pub(super) fn tick(&mut self, alloc: Global, actor: Actor, to: u64) -> Result<Shown, WorldFault>
-        requires { to ≤ MAX_TIME }
-        ensures { IsStepOf result self.old self.new (Tick actor to) }
-    {
-        let leave = self.may_tick(actor, to);
-        self.act_by(alloc, leave, &NodeEvent::Tick { now: to })
+        match letter.to {
+            Actor::Node(id) => {
+                let event = receive(alloc, letter)?;
+                self.act(alloc, id, None, &event)
+            }
+            Actor::Manager(manager) => {
+                let event = receipt(alloc, letter)?;
+                self.manage(alloc, manager, &event)
+            }
+        }
     }
 
     /// INV of the pending update of the node's key is sent again.
@@ -159,7 +140,7 @@ impl World {
         self.act_by(alloc, leave, &NodeEvent::Grant { end })
     }
 
-    /// No manager is there to be asked for a lease: the node acts, and nothing comes of it.
+    /// The node asks a manager for a lease.
     pub(super) fn ask_lease(
         &mut self,
         alloc: Global,
@@ -168,9 +149,26 @@ impl World {
     ) -> Result<Shown, WorldFault>
         ensures { IsStepOf result self.old self.new (AskLease id manager) }
     {
-        match self.live(id) {
-            Ok(node) => Ok(rests(alloc, id, node)),
-            Err(refused) => Err(WorldFault::Refused(refused)),
-        }
+        self.act(alloc, id, None, &NodeEvent::AskLease { manager })
+    }
+
+    /// A manager proposes a change of the view of the epoch `base`.
+    pub(super) fn propose(
+        &mut self,
+        alloc: Global,
+        manager: u8,
+        base: u64,
+        change: Change,
+    ) -> Result<Shown, WorldFault>
+        ensures { IsStepOf result self.old self.new (Propose manager base change) }
+    {
+        self.manage(alloc, manager, &ManagerEvent::Propose { base, change })
+    }
+
+    /// A manager lets the view that it holds begin.
+    pub(super) fn activate(&mut self, alloc: Global, manager: u8) -> Result<Shown, WorldFault>
+        ensures { IsStepOf result self.old self.new (Activate manager) }
+    {
+        self.manage(alloc, manager, &ManagerEvent::Activate)
     }
 }

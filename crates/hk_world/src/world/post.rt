@@ -8,16 +8,32 @@ ghost use Rattle.hk_copy.specs.Batches.{key_cmp};
 ghost use Rattle.hk_node.specs.Rows.{find_row};
 ghost use Rattle.hk_node.specs.Sound.{IsNode};
 ghost use Rattle.hk_node.specs.Report.{given_back};
-ghost use Rattle.hk_world.specs.Steps.{first_number, view_of};
+ghost use Rattle.hk_world.specs.Steps.{nothing, first_number, view_of};
 ghost use Rattle.hk_world.specs.Posted.{posted};
 
 use crate::shown::{Acted, Shown};
-use hk_base::{CallNo, Letter, Letters, Memory, NodeId, View};
+use hk_base::{CallNo, Letter, Letters, Memory, NodeId, Replies, View};
 use hk_node::{Node, NodeOut};
 use std::alloc::Global;
 
-// The same letters, which share keys and contents.
-fn share_letters(alloc: Global, letters: &Letters) -> Result<Letters, Memory>
+/// Nothing is shown.
+pub(super) fn nothing(alloc: Global) -> Shown
+    ensures { result ≡ nothing }
+{
+    Shown {
+        call: None,
+        view: None,
+        chosen: None,
+        installed: None,
+        first_letter: 0,
+        letters: Letters::new(alloc),
+        replies: Replies::new(alloc),
+        acted: None,
+    }
+}
+
+/// The same letters, which share keys and contents.
+pub(super) fn share_letters(alloc: Global, letters: &Letters) -> Result<Letters, Memory>
     ensures { IfOk result (λ same. same ≡ letters.now) }
 {
     let mut same = Letters::new(alloc);
@@ -48,8 +64,8 @@ fn copy_installed(
     }
 }
 
-// The number of the first of these letters behind those, 0 where there are none.
-fn first_number(sent: &Vec<Letter>, letters: &Letters) -> u64
+/// The number of the first of these letters behind those, 0 where there are none.
+pub(super) fn first_number(sent: &Vec<Letter>, letters: &Letters) -> u64
     ensures { result ≡ first_number sent.now.items letters.now }
 {
     if letters.is_empty() {
@@ -112,6 +128,7 @@ pub(crate) fn post(
         Ok(sent) => Ok(Shown {
             call,
             view: sent.view,
+            chosen: None,
             installed: out.installed.map(|_| id),
             first_letter,
             letters: sent.letters,

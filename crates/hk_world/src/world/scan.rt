@@ -1,15 +1,15 @@
-//! Readings over all processes, in rising order of their numbers.
+//! What is read of all actors, or done to all, in rising order of their numbers.
 
 ghost use Rattle.std.specs.Prelude.{◌≡◌, ◌+◌, ◌≤◌, map, nat_le};
 ghost use Rattle.std.specs.List.{find};
 ghost use Rattle.std.specs.Option.{option_map};
 ghost use Rattle.hk_base.specs.declared.time.TheConstants.{MAX_TIME};
 ghost use Rattle.hk_node.specs.Node.{is_member};
-ghost use Rattle.hk_world.specs.declared.refused.Refused.TheVariants.{Skew, LeaseRuns};
-ghost use Rattle.hk_world.specs.Steps.{is_far, is_far_from, greatest_clock, process_ticked};
-ghost use Rattle.hk_world.specs.Allowed.{may_run_by, higher_clock};
+ghost use Rattle.hk_world.specs.declared.refused.Refused.TheVariants.{LeaseRuns};
+ghost use Rattle.hk_world.specs.Steps.{process_ticked, manager_ticked};
+ghost use Rattle.hk_world.specs.Allowed.{may_run_by};
 
-use crate::process::Process;
+use crate::process::{ManagerProcess, Process};
 use crate::refused::Refused;
 use hk_base::{NodeId, View};
 use std::alloc::Global;
@@ -20,37 +20,6 @@ pub(super) fn is_member(id: NodeId, view: &View) -> bool
     ensures { result ≡ is_member id view.now.members }
 {
     view.members.as_slice().contains(&id)
-}
-
-// Whether two clocks differ by more than the skew.
-fn is_far(skew: u64, a: u64, b: u64) -> bool
-    ensures { result ≡ is_far skew a b }
-{
-    b.saturating_sub(a) > skew || a.saturating_sub(b) > skew
-}
-
-fn is_far_from(skew: u64, to: u64, id: NodeId, other: NodeId, process: &Process) -> bool
-    ensures { result ≡ is_far_from skew to id (other, process.now) }
-{
-    other != id && !process.crashed && is_far(skew, to, process.node.now())
-}
-
-/// The first live node but this one whose clock would be too far from `to`.
-pub(super) fn first_far(
-    processes: &BTreeMap<NodeId, Process>,
-    skew: u64,
-    to: u64,
-    id: NodeId,
-) -> Option<Refused>
-    ensures { result ≡ option_map (λ p. Skew to p.1.node.clock) (find (is_far_from skew to id) processes.now.entries) }
-{
-    for (other, process) in processes.iter() {
-        if is_far_from(skew, to, id, *other, process) {
-            let other = process.node.now();
-            return Some(Refused::Skew { to, other });
-        }
-    }
-    None
 }
 
 // Whether the lease may not be over yet on every clock.
@@ -87,26 +56,6 @@ pub(super) fn first_running(
     None
 }
 
-fn higher_clock(low: u64, process: &Process) -> u64
-    ensures { result ≡ higher_clock low process.now }
-{
-    if process.crashed {
-        return low;
-    }
-    low.max(process.node.now())
-}
-
-/// The greatest clock of a live node, but at least `low`.
-pub(super) fn greatest_clock(processes: &BTreeMap<NodeId, Process>, low: u64) -> u64
-    ensures { result ≡ greatest_clock low processes.now.entries }
-{
-    let mut greatest = low;
-    for (_id, process) in processes.iter() {
-        greatest = higher_clock(greatest, process);
-    }
-    greatest
-}
-
 /// The clocks of all live nodes rise. It takes no memory, and every process is kept.
 pub(super) fn tick_live(processes: &mut BTreeMap<NodeId, Process>, alloc: Global, to: u64)
     requires { to ≤ MAX_TIME }
@@ -116,4 +65,14 @@ pub(super) fn tick_live(processes: &mut BTreeMap<NodeId, Process>, alloc: Global
         process.tick(alloc, to);
         true
     });
+}
+
+/// The clocks of all live managers rise. It takes no memory.
+pub(super) fn tick_managers(managers: &mut Vec<ManagerProcess>, alloc: Global, to: u64)
+    requires { to ≤ MAX_TIME }
+    ensures { managers.new.items ≡ map (manager_ticked to) managers.old.items }
+{
+    for process in managers.iter_mut() {
+        process.tick(alloc, to);
+    }
 }

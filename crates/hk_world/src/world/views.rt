@@ -80,6 +80,7 @@ fn agreed(alloc: Global, view: View) -> Shown
     Shown {
         call: None,
         view: Some(view),
+        chosen: None,
         installed: None,
         first_letter: 0,
         letters: Letters::new(alloc),
@@ -104,6 +105,9 @@ impl World {
     pub(super) fn agree(&mut self, alloc: Global, change: Change) -> Result<Shown, WorldFault>
         ensures { IsStepOf result self.old self.new (Agree change) }
     {
+        if self.is_managed() {
+            return Err(WorldFault::Refused(Refused::Managed));
+        }
         let next = match next_view(alloc, self.last_view(), change) {
             Ok(next) => next,
             Err(fault) => return Err(fault),

@@ -1,5 +1,5 @@
 use Rattle.std.proofs.Common.{refl}
-use Rattle.hk_effects.proofs.Shown.{val_kept_shows, left_invalid_shows, countered_shows, replayed_shows, pending_installed_shows, left_alone_shows, joined_shows, copied_valid_shows, passed_shows}
+use Rattle.hk_effects.proofs.Shown.{val_kept_shows, left_invalid_shows, countered_shows, replayed_shows, pending_installed_shows, left_alone_shows, view_begun_shows, joined_shows, copied_valid_shows, passed_shows}
 use Rattle.hk_effects.proofs.worked.each_effect_shows.Goals as goal
 
 pub returns-clause-kept : goal.returns-clause-kept
@@ -19,6 +19,9 @@ returns-clause-pending c = pending_installed_shows
 
 pub returns-clause-alone : goal.returns-clause-alone
 returns-clause-alone c = left_alone_shows
+
+pub returns-clause-begun : goal.returns-clause-begun
+returns-clause-begun c = view_begun_shows
 
 pub returns-clause-joined : goal.returns-clause-joined
 returns-clause-joined c = joined_shows

@@ -24,3 +24,6 @@ returns-clause-clocks c = refl
 
 pub returns-clause-joiner : goal.returns-clause-joiner
 returns-clause-joiner c = refl
+
+pub returns-clause-managers : goal.returns-clause-managers
+returns-clause-managers c = refl

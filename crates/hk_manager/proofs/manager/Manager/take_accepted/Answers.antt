@@ -1,5 +1,5 @@
 use Rattle.std.proofs.Common.{◌∙◌, sym}
 use Rattle.hk_manager.proofs.manager.Manager.take_accepted.Goals as goal
 
-pub returns-in-None : goal.returns-in-None
-returns-in-None c = rw (sym c.in_ok-proposer.ensures.same ∙ c.in-None.is) (c.idle.ensures c.args.self.now)
+pub returns-in-None-clause-made : goal.returns-in-None-clause-made
+returns-in-None-clause-made c = rw (sym c.in_ok-proposer.ensures.same ∙ c.in-None.is) (c.idle.ensures.made c.args.self.now)

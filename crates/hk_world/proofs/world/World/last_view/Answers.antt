@@ -8,5 +8,5 @@ returns c =
     let long : c.len.result ≡ length c.self.inside.views.items = omega (arith, c.len.ensures, c.self.inside.views.ok.0) in
     c.index.ensures
     ∙ ap (λ (n : ℕ). get_or c.self.inside.views.items (n - 1) c.index.result.now) long
-    ∙ last_at c.self.inside.views.items c.index.result.now c.self.invariant.views.some
+    ∙ last_at c.self.inside.views.items c.index.result.now c.self.invariant.1.some
     ∙ ap (λ (w : WorldState). last_view w.views) c.self.view_is

@@ -1,4 +1,4 @@
-use Rattle.std.proofs.Common.{◌≡◌, ◌<◌, ℕ, List, true, Ok, Err, Option, Some, None, sym, ap, subst, ◌∙◌}
+use Rattle.std.proofs.Common.{◌≡◌, ◌<◌, ℕ, List, [], true, Ok, Err, Option, Some, None, sym, ap, subst, ◌∙◌}
 use Rattle.std.specs.Option.{option_map}
 use Rattle.std.specs.List.{find}
 use Rattle.hk_base.specs.declared.stamp.NodeId.{NodeId}
@@ -13,8 +13,9 @@ use Rattle.hk_world.specs.Steps.{world_step}
 use Rattle.hk_node.specs.declared.event.NodeEvent.TheVariants.{Install as NodeInstall}
 use Rattle.hk_world.specs.Acting.{made_by, running}
 use Rattle.hk_world.specs.Views.{given_before}
-use Rattle.hk_world.specs.Allowed.{may_run_by}
-use Rattle.hk_world.proofs.Allowed.{install_checked, guard_refuses, guard_lets}
+use Rattle.hk_world.specs.Allowed.{may_run_by, is_managed}
+use Rattle.hk_world.proofs.Inside.{seen}
+use Rattle.hk_world.proofs.Allowed.{no_managers, install_checked, guard_refuses, guard_lets}
 use Rattle.hk_world.proofs.world.World.may_install.Goals as goal
 
 abbrev told_of : Option (NodeId × Process) → Option Refused
@@ -22,9 +23,10 @@ told_of o = option_map (λ (p : NodeId × Process). LeaseRuns p.0 p.1.node.grant
 
 pub returns-in-Some-first_running-clause-err : goal.returns-in-Some-first_running-clause-err
 returns-in-Some-first_running-clause-err c =
-    let w : WorldState = record { skew = c.self.inside.skew; processes = c.self.inside.processes.entries; letters = c.self.inside.letters.items; views = c.self.inside.views.items; calls = c.self.inside.calls } in
+    let w : WorldState = seen c.self.inside in
     let view = c.in-Some.view.now in
     let node = c.in-Ok.node.now in
+    let none : w.managers ≡ [] = no_managers w.managers (ap (λ (o : WorldState). is_managed o.managers) c.self.view_is ∙ sym c.is_managed.ensures ∙ c.if-is_managed.false) in
     let runs : running (process_at c.args.id w.processes) ≡ Ok node = subst (λ (o : WorldState). running (process_at c.args.id o.processes) ≡ Ok node) (sym c.self.view_is) c.in-Ok.ensures.ok in
     let at : numbered c.args.epoch w.views ≡ Some view = ap (λ (vs : List View). numbered c.args.epoch vs) (sym c.deref.ensures.value) ∙ sym c.in-Some.ensures in
     let low : epoch_of node < view.epoch = subst (λ (n : ℕ). n < view.epoch) c.epoch-held.ensures c.if-view-held.false in
@@ -33,13 +35,14 @@ returns-in-Some-first_running-clause-err c =
     let first : told_of (find (may_run_by w.skew (given_before w.views c.args.epoch) view) w.processes) ≡ Some c.in-Some-first_running.refused =
     ap (λ (g : ℕ). told_of (find (may_run_by w.skew g view) w.processes)) (sym given) ∙ sym c.in-Some-first_running.ensures in
     subst (λ (o : WorldState). world_step o (Install c.args.id c.args.epoch) ≡ Err c.in-Some-first_running.refused) c.self.view_is
-    (install_checked w c.args.id c.args.epoch node view c.self.invariant runs at member low ∙ guard_refuses _ w c.args.id node view c.in-Some-first_running.refused first)
+    (install_checked w c.args.id c.args.epoch node view c.self.invariant.1 none runs at member low ∙ guard_refuses _ w c.args.id node view c.in-Some-first_running.refused first)
 
 pub returns-in-None-clause-ok : goal.returns-in-None-clause-ok
 returns-in-None-clause-ok c =
-    let w : WorldState = record { skew = c.self.inside.skew; processes = c.self.inside.processes.entries; letters = c.self.inside.letters.items; views = c.self.inside.views.items; calls = c.self.inside.calls } in
+    let w : WorldState = seen c.self.inside in
     let view = c.in-Some.view.now in
     let node = c.in-Ok.node.now in
+    let none : w.managers ≡ [] = no_managers w.managers (ap (λ (o : WorldState). is_managed o.managers) c.self.view_is ∙ sym c.is_managed.ensures ∙ c.if-is_managed.false) in
     let runs : running (process_at c.args.id w.processes) ≡ Ok node = subst (λ (o : WorldState). running (process_at c.args.id o.processes) ≡ Ok node) (sym c.self.view_is) c.in-Ok.ensures.ok in
     let at : numbered c.args.epoch w.views ≡ Some view = ap (λ (vs : List View). numbered c.args.epoch vs) (sym c.deref.ensures.value) ∙ sym c.in-Some.ensures in
     let low : epoch_of node < view.epoch = subst (λ (n : ℕ). n < view.epoch) c.epoch-held.ensures c.if-view-held.false in
@@ -48,4 +51,4 @@ returns-in-None-clause-ok c =
     let first : told_of (find (may_run_by w.skew (given_before w.views c.args.epoch) view) w.processes) ≡ None =
     ap (λ (g : ℕ). told_of (find (may_run_by w.skew g view) w.processes)) (sym given) ∙ sym c.in-None.ensures in
     subst (λ (o : WorldState). world_step o (Install c.args.id c.args.epoch) ≡ made_by o c.args.id None (NodeInstall view)) c.self.view_is
-    (install_checked w c.args.id c.args.epoch node view c.self.invariant runs at member low ∙ guard_lets _ w c.args.id node view first runs)
+    (install_checked w c.args.id c.args.epoch node view c.self.invariant.1 none runs at member low ∙ guard_lets _ w c.args.id node view first runs)

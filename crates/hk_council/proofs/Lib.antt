@@ -1,0 +1,9 @@
+pub mod Chains
+pub mod Leaving
+pub mod Instances
+pub mod Learning
+pub mod Steps
+pub mod Handlers
+pub mod Runs
+pub mod Working
+pub mod Going

@@ -1,0 +1,4 @@
+pub mod Chain
+pub mod Council
+pub mod Agreed
+pub mod Worked

@@ -1,0 +1,6 @@
+pub mod Runs
+pub mod Begun
+pub mod Council
+pub mod Rate
+pub mod Guarded
+pub mod Worked

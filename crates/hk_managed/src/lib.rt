@@ -1,0 +1,19 @@
+//! Why a group with managers needs no guard: a view that its managers let begin leaves out no node whose lease still runs.
+//!
+//! In a group without managers a view is installed behind a guard, and leases are granted to members of the last view alone. In one
+//! with managers nobody sees the whole group. The managers agree on views, let them begin and grant leases by what each of them
+//! knows, and nodes hear of it by letters that come late, again or never. The laws say that this is as good: whatever the events of
+//! a world are, the managers are a council that agrees (`hk_council`), and what they noted and granted, with the clocks of all, is
+//! what the machine of leases (`hk_earned`) has. So whatever view any node ever has, each live node that it leaves out has a clock
+//! past its end, then and ever after.
+//!
+//! The crate has laws alone. Whoever uses them owes nothing but a header with managers and a run of accepted events. One law is of
+//! all groups, also of those without managers: the clocks of a world run apart by their rate at most, as leases need it.
+#![tactic(auto)]
+
+mod law;
+
+pub use law::{
+    a_view_begins_without_a_node, clocks_of_worlds_keep_the_rate, managers_of_worlds_agree,
+    views_that_begin_have_ended,
+};

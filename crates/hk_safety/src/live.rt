@@ -1,0 +1,192 @@
+//! A run whose events are not kept.
+
+ghost use Rattle.std.specs.Prelude.{◌≡◌, [], ◌∷◌, ◌++◌, IfOk};
+ghost use Rattle.std.specs.Map.{keys_of};
+
+use crate::kept::{Kept, Unmade};
+use crate::key_run::KeyRun;
+use crate::laws::runs_are_legal;
+use crate::past::Past;
+use hk_base::{Key, Memory, Sequence};
+use hk_effects::runs_keep_parts;
+use hk_history::{Entries, Event as Item};
+use hk_world::{Event, Header, Shown, World, WorldFault};
+use std::alloc::Global;
+use std::collections::BTreeMap;
+use std::marker::Model;
+
+/// Keys, in the order of their bytes.
+pub type Keys = Sequence<Key>;
+
+/// A run whose events are told to clauses alone: its memory grows with the calls, the letters and the stamps of the run, and not with its
+/// events. A run that found no memory to keep what an event showed is as it was before, and answers `Memory` from then on.
+#[derive(Drop)]
+pub struct LiveRun {
+    header: Header,
+    past: Past,
+    kept: Option<Kept>,
+}
+
+impl Model for LiveRun {
+    ghost use Rattle.std.specs.Prelude.{IfSome};
+    ghost use Rattle.hk_safety.specs.Run.{RunState, IsRun};
+    ghost use Rattle.hk_safety.specs.Kept.{IsKeptOf};
+
+    ghost Value = { RunState };
+
+    ghost view = { λ r. record { header = r.header; events = r.past.events } };
+
+    ghost invariant = { λ r. IsRun (record { header = r.header; events = r.past.events }) × IfSome r.kept (λ k. IsKeptOf k (record { header = r.header; events = r.past.events })) };
+}
+
+// The keys of a map, which share their bytes.
+fn share_keys(alloc: Global, map: &BTreeMap<Key, KeyRun>) -> Result<Keys, Memory>
+    ensures { IfOk result (λ keys. keys ≡ keys_of map.now.entries) }
+{
+    let mut keys = Keys::new(alloc);
+    for (key, _run) in map.iter() {
+        let key = key.share()?;
+        keys.push(key)?;
+    }
+    Ok(keys)
+}
+
+impl LiveRun {
+    ghost use Rattle.hk_safety.specs.Kept.{IsKeptOf};
+    ghost use Rattle.hk_history.specs.Legal.{Legal};
+    ghost use Rattle.hk_world.specs.Sound.{IsHeader, IsEvent};
+    ghost use Rattle.hk_safety.specs.Run.{IsRun, world_of, history, printed, named};
+    ghost use Rattle.hk_safety.specs.Push.{IsPushed};
+
+    /// The run of no event.
+    pub fn new(alloc: Global, header: Header) -> Result<LiveRun, Memory>
+        requires { IsHeader header }
+        ensures { IfOk result (λ run. run ≡ record { header = header; events = [] }) }
+    {
+        let world = World::new(alloc, header)?;
+        Ok(LiveRun {
+            header,
+            past: Past::new(),
+            kept: Some(Kept {
+                world,
+                keys: BTreeMap::new(alloc),
+                calls: Vec::new(alloc),
+            }),
+        })
+    }
+
+    /// Makes an event, or tells why it is refused. After a refusal, and after want of memory, the run is as it was.
+    pub fn push(&mut self, alloc: Global, event: &Event) -> Result<Shown, WorldFault>
+        requires { IsEvent event.now }
+        ensures { IsPushed result self.old self.new event.now }
+    {
+        runs_keep_parts();
+        let Some(kept) = &mut self.kept else {
+            return Err(WorldFault::Memory);
+        };
+        match kept.make(alloc, event) {
+            Ok(shown) => {
+                self.past.note(event);
+                Ok(shown)
+            }
+            Err(Unmade::Memory) => Err(WorldFault::Memory),
+            Err(Unmade::Refused(refused)) => Err(WorldFault::Refused(refused)),
+            Err(Unmade::Lost) => {
+                self.kept = None;
+                Err(WorldFault::Memory)
+            }
+        }
+    }
+
+    // What is kept, unless memory was wanting.
+    fn kept(&self) -> Result<&Kept, Memory>
+        ensures kept { IfOk result (λ kept. IsKeptOf kept.now self.now) }
+        ensures run { IsRun self.now }
+    {
+        match &self.kept {
+            Some(kept) => Ok(kept),
+            None => Err(Memory),
+        }
+    }
+
+    /// The header. It takes no memory.
+    pub fn header(&self) -> &Header
+        ensures { result.now ≡ self.now.header }
+    {
+        &self.header
+    }
+
+    /// The present world.
+    pub fn world(&self) -> Result<&World, Memory>
+        ensures { IfOk result (λ world. world.now ≡ world_of self.now) }
+    {
+        let kept = self.kept()?;
+        Ok(&kept.world)
+    }
+
+    /// The keys that calls named.
+    pub fn keys(&self, alloc: Global) -> Result<Keys, Memory>
+        ensures { IfOk result (λ keys. keys ≡ named self.now) }
+    {
+        let kept = self.kept()?;
+        share_keys(alloc, &kept.keys)
+    }
+
+    // The same key, which shares the bytes of the one that a call named, if one did.
+    fn known(&self, key: Key) -> Result<Key, Memory>
+        ensures { IfOk result (λ same. same ≡ key) }
+    {
+        let kept = self.kept()?;
+        match kept.keys.get_key_value(&key) {
+            Some((name, _run)) => name.share(),
+            None => Ok(key),
+        }
+    }
+
+    /// The same event, whose key shares the bytes of the one that a call named, if one did. So a run that is made of such events holds the bytes of each
+    /// key once.
+    pub fn shared(&self, event: Event) -> Result<Event, Memory>
+        ensures { IfOk result (λ same. same ≡ event) }
+    {
+        match event {
+            Event::Call { node, key, op } => {
+                let key = self.known(key)?;
+                Ok(Event::Call { node, key, op })
+            }
+            Event::Resend { node, key } => {
+                let key = self.known(key)?;
+                Ok(Event::Resend { node, key })
+            }
+            Event::Replay { node, key } => {
+                let key = self.known(key)?;
+                Ok(Event::Replay { node, key })
+            }
+            event => Ok(event),
+        }
+    }
+
+    /// The calls on the key and their replies, where they are kept. It takes no memory.
+    pub fn items(&self, key: &Key) -> Result<&[Item], Memory>
+        ensures { IfOk result (λ items. items.now ≡ history self.now key.now) }
+    {
+        let kept = self.kept()?;
+        match kept.keys.get(key) {
+            Some(run) => Ok(run.history()),
+            None => Ok(&[]),
+        }
+    }
+
+    /// The order of the key, as [`crate::order_of`] has it.
+    pub fn order(&self, alloc: Global, key: &Key) -> Result<Entries, Memory>
+        ensures exact { IfOk result (λ order. order ≡ printed self.now key.now) }
+        ensures legal { Legal (history self.now key.now) (printed self.now key.now) }
+    {
+        runs_are_legal();
+        runs_keep_parts();
+        let kept = self.kept()?;
+        match kept.keys.get(key) {
+            Some(key_run) => key_run.order(alloc),
+            None => Ok(Entries::new(alloc)),
+        }
+    }
+}

@@ -1,5 +1,0 @@
-use Rattle.hk_world.proofs.Answering.{answer_as}
-use Rattle.hk_world.proofs.world.World.tick.Goals as goal
-
-pub returns : goal.returns
-returns c = answer_as c.act_by.result c.args.self.now c.act_by.new.self _ _ c.may_tick-leave.ensures c.act_by.ensures
