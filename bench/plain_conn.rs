@@ -1,12 +1,14 @@
-// A plain loop that serves the bytes of standard input as one connection, over a map, and writes the replies to
+// A plain loop that serves the bytes of standard input as one connection, over a table, and writes the replies to
 // standard output. It proves nothing, and knows only the requests that `plain_conn gen KIND REQUESTS` writes: small gets
 // (`get`), sets with 100 bytes of data (`set`), both (`mixed`), and gets of ten keys (`tens`). Before them come sets of
 // every key.
-use std::collections::BTreeMap;
 use std::io::{Read, Write};
 use std::sync::Arc;
 
 const KEYS: u64 = 10_000;
+
+// More than there are keys.
+const PLACES: usize = 32_768;
 
 fn generate(kind: &str, requests: u64) {
     let mut out = std::io::BufWriter::new(std::io::stdout().lock());
@@ -41,9 +43,59 @@ fn generate(kind: &str, requests: u64) {
     }
 }
 
+#[derive(Clone)]
 struct Content {
     flags: u32,
     bytes: Arc<[u8]>,
+}
+
+struct Held {
+    key: Vec<u8>,
+    content: Content,
+}
+
+// A key stands at the place that its bytes give, or at the first place behind it that was free when it came.
+struct Table {
+    places: Vec<Option<Held>>,
+}
+
+impl Table {
+    fn new() -> Table {
+        Table { places: (0..PLACES).map(|_| None).collect() }
+    }
+
+    fn find(&self, key: &[u8]) -> usize {
+        let mut at = first_place(key);
+        while let Some(held) = &self.places[at] {
+            if held.key == key {
+                break;
+            }
+            at = (at + 1) % PLACES;
+        }
+        at
+    }
+
+    // The content is shared, so that the table need not be held while it is written out.
+    fn get(&self, key: &[u8]) -> Option<Content> {
+        self.places[self.find(key)].as_ref().map(|held| held.content.clone())
+    }
+
+    fn insert(&mut self, key: Vec<u8>, content: Content) {
+        let at = self.find(&key);
+        match &mut self.places[at] {
+            Some(held) => held.content = content,
+            place => *place = Some(Held { key, content }),
+        }
+    }
+}
+
+// The Fowler-Noll-Vo hash, 1a, folded.
+fn first_place(key: &[u8]) -> usize {
+    let mut hash = 0xcbf2_9ce4_8422_2325_u64;
+    for byte in key {
+        hash = (hash ^ u64::from(*byte)).wrapping_mul(0x0100_0000_01b3);
+    }
+    (hash ^ (hash >> 32)) as usize % PLACES
 }
 
 struct Head {
@@ -74,9 +126,9 @@ fn line_end(bytes: &[u8]) -> Option<usize> {
     }
 }
 
-fn get(map: &BTreeMap<Vec<u8>, Content>, keys: &[&[u8]], replies: &mut Vec<u8>) {
+fn get(table: &Table, keys: &[&[u8]], replies: &mut Vec<u8>) {
     for key in keys {
-        if let Some(content) = map.get(*key) {
+        if let Some(content) = table.get(key) {
             replies.extend_from_slice(b"VALUE ");
             replies.extend_from_slice(key);
             write!(replies, " {} {}\r\n", content.flags, content.bytes.len()).unwrap();
@@ -100,7 +152,7 @@ fn main() {
     let mut buffer: Vec<u8> = Vec::new();
     let mut start = 0;
     let mut store: Option<Head> = None;
-    let mut map: BTreeMap<Vec<u8>, Content> = BTreeMap::new();
+    let mut table = Table::new();
     let mut replies: Vec<u8> = Vec::new();
     loop {
         let count = source.read(&mut piece).unwrap();
@@ -120,7 +172,7 @@ fn main() {
                     break;
                 }
                 let data = &buffer[start..start + head.bytes];
-                map.insert(head.key, Content { flags: head.flags, bytes: Arc::from(data) });
+                table.insert(head.key, Content { flags: head.flags, bytes: Arc::from(data) });
                 start += head.bytes + 2;
                 replies.extend_from_slice(b"STORED\r\n");
                 continue;
@@ -130,7 +182,7 @@ fn main() {
             start += end + 2;
             let words: Vec<&[u8]> = line.split(|b| *b == b' ').filter(|word| !word.is_empty()).collect();
             match words.as_slice() {
-                [b"get", keys @ ..] if !keys.is_empty() && keys.iter().all(|key| is_key(key)) => get(&map, keys, &mut replies),
+                [b"get", keys @ ..] if !keys.is_empty() && keys.iter().all(|key| is_key(key)) => get(&table, keys, &mut replies),
                 [b"set", key, flags, expiry, bytes] if is_key(key) && number(expiry) == Some(0) => {
                     if let (Some(flags), Some(bytes)) = (number(flags), number(bytes)) {
                         store = Some(Head { key: key.to_vec(), flags: flags as u32, bytes: bytes as usize });

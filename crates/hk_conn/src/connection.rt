@@ -24,7 +24,7 @@ pub fn serve_connection<C: Connection, D: Desk>(
 ) -> ConnEnd
     requires { 1 ≤ patience }
     // What was asked and written is what is served for the bytes that were read and what the desk told.
-    ensures served { Serves patience result (C.left conn.old) (C.left conn.new) (C.held conn.old) (C.held conn.new) (D.asks desk.old) (D.asks desk.new) }
+    ensures served { Serves patience result (C.left conn.old) (C.left conn.new) (C.Source.given conn.old) (C.Source.given conn.new) (C.held conn.old) (C.held conn.new) (D.asks desk.old) (D.asks desk.new) }
     ensures read_fault { result ≡ ConnEnd.ReadFault → Rose (C.Source.faults conn.old) (C.Source.faults conn.new) }
     ensures write_fault { result ≡ ConnEnd.WriteFault → Rose (C.Sink.faults conn.old) (C.Sink.faults conn.new) }
 {

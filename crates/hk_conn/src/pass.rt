@@ -27,14 +27,10 @@ pub fn pass<D: Desk>(
     ensures { Passes result (patience - 1) (D.asks desk.old) (D.asks desk.new) out.old.items out.new.items (place_of reader.old.pending reader.old.cutter) (place_of reader.new.pending reader.new.cutter) }
 {
     loop {
-        let turn = match reader.turn(alloc) {
-            Ok(turn) => turn,
-            Err(memory) => return Err(memory),
-        };
-        match turn {
-            Turn::Need => return Ok(Stop::Need),
-            Turn::Head => {}
-            Turn::Says(said) => {
+        match reader.turn(alloc) {
+            Ok(Turn::Need) => return Ok(Stop::Need),
+            Ok(Turn::Head) => {}
+            Ok(Turn::Says(said)) => {
                 match reply(desk, patience, said, out) {
                     Ok(None) => {}
                     Ok(Some(stop)) => return Ok(stop),
@@ -44,6 +40,7 @@ pub fn pass<D: Desk>(
                     return Ok(Stop::Full);
                 }
             }
+            Err(memory) => return Err(memory),
         }
     }
 }

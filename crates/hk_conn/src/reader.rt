@@ -47,7 +47,7 @@ impl Reader {
         requires { IsReader self.old.cutter self.old.pending }
         ensures reader { IsReader self.new.cutter self.new.pending }
         ensures pending { self.new.pending ≡ self.old.pending }
-        ensures pieces { Pieces result (C.left conn.old) (C.left conn.new) self.old.cutter self.new.cutter }
+        ensures pieces { Pieces result (C.left conn.old) (C.left conn.new) (C.Source.given conn.old) (C.Source.given conn.new) self.old.cutter self.new.cutter }
         ensures later { C.Source.faults conn.old ≤ C.Source.faults conn.new }
         ensures failed { OnErr result (result ≡ Err ConnEnd.ReadFault → Rose (C.Source.faults conn.old) (C.Source.faults conn.new)) }
         ensures held { C.held conn.new ≡ C.held conn.old }

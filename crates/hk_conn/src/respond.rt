@@ -30,6 +30,7 @@ pub fn respond<C: Connection, D: Desk>(
     requires reader { IsReader reader.old.cutter reader.old.pending }
     ensures responds { Responds result (patience - 1) (C.held conn.old) (C.held conn.new) (D.asks desk.old) (D.asks desk.new) (place_of reader.old.pending reader.old.cutter) (place_of reader.new.pending reader.new.cutter) }
     ensures left { C.left conn.new ≡ C.left conn.old }
+    ensures given { C.Source.given conn.new ≡ C.Source.given conn.old }
     ensures reads { C.Source.faults conn.new ≡ C.Source.faults conn.old }
     ensures later { C.Sink.faults conn.old ≤ C.Sink.faults conn.new }
     ensures failed { result ≡ Err ConnEnd.WriteFault → Rose (C.Sink.faults conn.old) (C.Sink.faults conn.new) }

@@ -4,6 +4,7 @@ ghost use Rattle.std.specs.Prelude.{◌≡◌, ◌≤◌, ◌<◌, ℕ, take, le
 ghost use Rattle.std.specs.Io.KnownBytes.{Appends, ReadConsumes, WriteAppends};
 ghost use Rattle.std.specs.Io.{ReadsAtMost, WritesAtMost};
 ghost use Rattle.hk_outside.specs.Causes.{Rose};
+ghost use Rattle.hk_outside.specs.Records.{RecordsRead};
 
 use hk_outside::{Connection, Failed, Sink, Source};
 
@@ -11,6 +12,7 @@ use hk_outside::{Connection, Failed, Sink, Source};
 pub fn read_some<C: Connection>(conn: &mut C, room: &mut [u8]) -> Result<usize, Failed>
     ensures bound { ReadsAtMost result room.new }
     ensures bytes { ReadConsumes (C.left conn.old) (C.left conn.new) result room.new }
+    ensures given { RecordsRead (C.Source.given conn.old) (C.Source.given conn.new) result room.new }
     ensures later { C.Source.faults conn.old ≤ C.Source.faults conn.new }
     ensures failed { OnErr result (Rose (C.Source.faults conn.old) (C.Source.faults conn.new)) }
     ensures held { C.held conn.new ≡ C.held conn.old }
@@ -26,6 +28,7 @@ pub fn write_all<C: Connection>(conn: &mut C, text: &[u8]) -> Result<(), Failed>
     ensures later { C.Sink.faults conn.old ≤ C.Sink.faults conn.new }
     ensures failed { OnErr result (Rose (C.Sink.faults conn.old) (C.Sink.faults conn.new)) }
     ensures left { C.left conn.new ≡ C.left conn.old }
+    ensures given { C.Source.given conn.new ≡ C.Source.given conn.old }
     ensures reads { C.Source.faults conn.new ≡ C.Source.faults conn.old }
 {
     let mut at = 0;
@@ -50,6 +53,7 @@ fn write_some<C: Connection>(conn: &mut C, text: &[u8]) -> Result<usize, Failed>
     ensures failed { OnErr result (Rose (C.Sink.faults conn.old) (C.Sink.faults conn.new)) }
     ensures took_none { result ≡ Ok 0 → 0 < length text.now → Rose (C.Sink.faults conn.old) (C.Sink.faults conn.new) }
     ensures left { C.left conn.new ≡ C.left conn.old }
+    ensures given { C.Source.given conn.new ≡ C.Source.given conn.old }
     ensures reads { C.Source.faults conn.new ≡ C.Source.faults conn.old }
 {
     conn.write(text)

@@ -10,5 +10,5 @@ invariant-loop-read g l = record {
   idle : ahead l.reader.pending l.reader.cutter [] ≡ [];
   reads : g.C.Source.faults l.fn.conn ≤ g.C.Source.faults l.conn;
   writes : g.C.Sink.faults l.fn.conn ≤ g.C.Sink.faults l.conn;
-  serving : IsServing (l.patience - 1) (g.C.Source.left l.fn.conn) (g.C.Source.left l.conn) (g.C.Sink.held l.fn.conn) (g.C.Sink.held l.conn) (g.D.Desk.asks l.fn.desk) (g.D.Desk.asks l.desk) l._read (replies_from (l.patience - 1) (place_of l.reader.pending l.reader.cutter));
+  serving : IsServing (l.patience - 1) (g.C.Source.left l.fn.conn) (g.C.Source.left l.conn) (g.C.Source.given l.fn.conn) (g.C.Source.given l.conn) (g.C.Sink.held l.fn.conn) (g.C.Sink.held l.conn) (g.D.Desk.asks l.fn.desk) (g.D.Desk.asks l.desk) l._read (replies_from (l.patience - 1) (place_of l.reader.pending l.reader.cutter));
 }

@@ -3,8 +3,8 @@ use Rattle.hk_conn.specs.Turns.{IsReader}
 use Rattle.hk_conn.specs.Serving.{Replying, place_of, replies_from}
 use Rattle.hk_conn.proofs.pass.pass.Given as goal
 
-abbrev pub invariant-loop-turn : goal.invariant-loop-turn
-invariant-loop-turn g l = IsReader l.reader.cutter l.reader.pending × Replying (l.patience - 1) (g.D.Desk.asks l.fn.desk) (g.D.Desk.asks l.desk) l.fn.out.items l.out.items (place_of l.fn.reader.pending l.fn.reader.cutter) (replies_from (l.patience - 1) (place_of l.reader.pending l.reader.cutter)) × (length l.reader.cutter.unread ≤ length l.fn.reader.cutter.unread)
+abbrev pub invariant-loop-said : goal.invariant-loop-said
+invariant-loop-said g l = IsReader l.reader.cutter l.reader.pending × Replying (l.patience - 1) (g.D.Desk.asks l.fn.desk) (g.D.Desk.asks l.desk) l.fn.out.items l.out.items (place_of l.fn.reader.pending l.fn.reader.cutter) (replies_from (l.patience - 1) (place_of l.reader.pending l.reader.cutter)) × (length l.reader.cutter.unread ≤ length l.fn.reader.cutter.unread)
 
-abbrev pub decreases-loop-turn : goal.decreases-loop-turn
-decreases-loop-turn g l = length l.reader.cutter.unread
+abbrev pub decreases-loop-said : goal.decreases-loop-said
+decreases-loop-said g l = length l.reader.cutter.unread

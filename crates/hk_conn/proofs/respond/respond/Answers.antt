@@ -4,7 +4,7 @@ use Rattle.hk_conn.proofs.Connected.{responding_starts, responding_more, cut_in_
 use Rattle.hk_conn.proofs.respond.respond.Goals as goal
 
 pub loop-stop-init : goal.loop-stop-init
-loop-stop-init g c = record { reader = c.requires.reader; left = refl; reads = refl; later = omega arith; responding = responding_starts _ _ _ _ }
+loop-stop-init g c = record { reader = c.requires.reader; left = refl; given = refl; reads = refl; later = omega arith; responding = responding_starts _ _ _ _ }
 
 pub returns-in-Err-clause-responds : goal.returns-in-Err-clause-responds
 returns-in-Err-clause-responds g c = cut_in_pass _ (g.C.Sink.held c.args.conn.now) (g.C.Sink.held c.loop-stop.conn) (g.D.Desk.asks c.args.desk.now) (g.D.Desk.asks c.loop-stop.desk) (g.D.Desk.asks c.pass.new.desk) _ (place_of c.loop-stop.reader.pending c.loop-stop.reader.cutter) c.loop-stop.invariant.responding c.in-Err.ensures
@@ -18,6 +18,7 @@ loop-stop-preserved g c =
     record {
       reader = full.1.0;
       left = c.write_all.ensures.left ∙ c.loop-stop.invariant.left;
+      given = c.write_all.ensures.given ∙ c.loop-stop.invariant.given;
       reads = c.write_all.ensures.reads ∙ c.loop-stop.invariant.reads;
       later = omega (arith, c.write_all.ensures.later, c.loop-stop.invariant.later);
       responding = responding_more (c.args.patience - 1) (g.C.Sink.held c.args.conn.now) (g.C.Sink.held c.loop-stop.conn) (g.C.Sink.held c.write_all.new.conn) (g.D.Desk.asks c.args.desk.now) (g.D.Desk.asks c.loop-stop.desk) (g.D.Desk.asks c.pass.new.desk) _ (place_of c.loop-stop.reader.pending c.loop-stop.reader.cutter) c.shrink_to.new.self.items c.pass.new.out.items _ c.loop-stop.invariant.responding (c.shrink_to.ensures.items ∙ c.clear.ensures.items) full.0 (rw c.as_slice.ensures.value at c.in-Ok-write_all.ensures.all);
@@ -27,6 +28,7 @@ pub returns-in_default : goal.returns-in_default
 returns-in_default g c = record {
   responds = (responding_more (c.args.patience - 1) (g.C.Sink.held c.args.conn.now) (g.C.Sink.held c.loop-stop.conn) (g.C.Sink.held c.write_all.new.conn) (g.D.Desk.asks c.args.desk.now) (g.D.Desk.asks c.loop-stop.desk) (g.D.Desk.asks c.pass.new.desk) _ (place_of c.loop-stop.reader.pending c.loop-stop.reader.cutter) c.shrink_to.new.self.items c.pass.new.out.items (behind_stop c.in-Ok.stop (c.args.patience - 1) (place_of c.pass.new.reader.pending c.pass.new.reader.cutter)) c.loop-stop.invariant.responding (c.shrink_to.ensures.items ∙ c.clear.ensures.items) c.in-Ok.ensures.0 (rw c.as_slice.ensures.value at c.in-Ok-write_all.ensures.all), rests_of c.in-Ok.stop (place_of c.loop-stop.reader.pending c.loop-stop.reader.cutter) _ c.in_default.not-Full c.in-Ok.ensures.1);
   left = c.write_all.ensures.left ∙ c.loop-stop.invariant.left;
+  given = c.write_all.ensures.given ∙ c.loop-stop.invariant.given;
   reads = c.write_all.ensures.reads ∙ c.loop-stop.invariant.reads;
   later = omega (arith, c.write_all.ensures.later, c.loop-stop.invariant.later);
   failed = λ e. absurd (cc);

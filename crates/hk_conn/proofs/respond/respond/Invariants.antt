@@ -8,6 +8,7 @@ abbrev pub invariant-loop-stop : goal.invariant-loop-stop
 invariant-loop-stop g l = record {
   reader : IsReader l.reader.cutter l.reader.pending;
   left : g.C.Source.left l.conn ≡ g.C.Source.left l.fn.conn;
+  given : g.C.Source.given l.conn ≡ g.C.Source.given l.fn.conn;
   reads : g.C.Source.faults l.conn ≡ g.C.Source.faults l.fn.conn;
   later : g.C.Sink.faults l.fn.conn ≤ g.C.Sink.faults l.conn;
   responding : Responding (l.patience - 1) (g.C.Sink.held l.fn.conn) (g.C.Sink.held l.conn) (g.D.Desk.asks l.fn.desk) (g.D.Desk.asks l.desk) (place_of l.fn.reader.pending l.fn.reader.cutter) (replies_from (l.patience - 1) (place_of l.reader.pending l.reader.cutter));
