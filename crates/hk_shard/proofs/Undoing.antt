@@ -1,0 +1,38 @@
+-- Steps are undone from the last to the first.
+use Rattle.std.proofs.Common.{◌≡◌, List, [], ◌∷◌, ◌++◌, refl, sym, subst}
+use Rattle.hk_node.specs.Node.{NodeState}
+use Rattle.hk_node.specs.declared.event.NodeEvent.{NodeEvent}
+use Rattle.hk_node.specs.declared.out.NodeOut.{NodeOut}
+use Rattle.hk_node.specs.Outs.{IsOutOf}
+use Rattle.hk_node.specs.Steps.{node_step}
+use Rattle.hk_node.specs.Sound.{IsNode}
+use Rattle.hk_shard.specs.declared.step.Replaced.{Replaced}
+use Rattle.hk_shard.specs.Replaced.{IsReplaced, AreReplaced}
+
+pub one_more : (first old new : NodeState) (replaced : List Replaced) (last : Replaced) → AreReplaced first replaced old → IsReplaced old last new → AreReplaced first (replaced ++ last ∷ []) new
+one_more first old new [] last are is = (new, subst (λ n. IsReplaced n last new) are is, refl)
+one_more first old new (x ∷ replaced) last are is = (are.0, are.1, one_more are.0 old new replaced last are.2 is)
+
+pub record Back (first : NodeState) (replaced : List Replaced) (last : Replaced) (new : NodeState) : Type 0 where
+  pub old : NodeState
+  pub before : AreReplaced first replaced old
+  pub is : IsReplaced old last new
+
+pub one_back : (first new : NodeState) (replaced : List Replaced) (last : Replaced) → AreReplaced first (replaced ++ last ∷ []) new → Back first replaced last new
+one_back first new [] last are = record { old = first; before = refl; is = subst (λ n. IsReplaced first last n) (sym are.2) are.1 }
+one_back first new (x ∷ replaced) last are =
+    let back = one_back are.0 new replaced last are.2 in
+    record { old = back.old; before = (are.0, are.1, back.before); is = back.is }
+
+-- what a step told is what it replaced
+pub replaced_by : (old new : NodeState) (event : NodeEvent) (out : NodeOut) → IsNode old → IsOutOf out old (node_step old event) → new ≡ (node_step old event).node
+    → IsReplaced old (record { report = out.report; beside = out.beside }) new
+replaced_by old new event out ok is same = subst (IsReplaced old (record { report = out.report; beside = out.beside })) (sym same) (record {
+  node = ok;
+  rising = is.changed.rising;
+  there = is.changed.there;
+  undone = is.undone;
+})
+
+pub last_back : (first new : NodeState) (all rest : List Replaced) (last : Replaced) → all ≡ rest ++ last ∷ [] → AreReplaced first all new → Back first rest last new
+last_back first new all rest last is are = one_back first new rest last (subst (λ l. AreReplaced first l new) is are)

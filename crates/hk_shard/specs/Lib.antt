@@ -1,0 +1,6 @@
+pub mod Changing
+pub mod Laws
+pub mod Publishing
+pub mod Replaced
+pub mod Shard
+pub mod Shown

@@ -1,0 +1,224 @@
+//! One shard.
+
+ghost use Rattle.std.specs.Prelude.{◌≡◌, ℕ, ◌<◌, ◌≤◌, ◌*◌, [], length, sum, map, None, IfOk, OnOk, OnErr};
+ghost use Rattle.hk_node.specs.Outs.{IsOutOf};
+ghost use Rattle.hk_node.specs.Steps.{node_step};
+ghost use Rattle.hk_node.specs.Calls.{lease_end};
+ghost use Rattle.hk_node.specs.Sound.{IsEvent};
+ghost use Rattle.hk_snap.specs.Ends.{names, seen_at, looked, Loads};
+ghost use Rattle.hk_snap.specs.Leases.{Looks};
+ghost use Rattle.hk_shard.specs.Shard.{shard_of};
+
+use crate::show::{call_of, lease_end, publish_rows};
+use crate::step::{go_on, make};
+use hk_base::{Key, Memory};
+use hk_journal::Journal;
+use hk_node::{Node, NodeEvent, NodeOut};
+use hk_snap::{LeaseCell, LeaseKeeper, SnapReader, SnapWriter, cells, lease_cell};
+use std::alloc::Global;
+use std::marker::Model;
+use std::mem;
+use std::sync::Wait;
+
+/// How many shards a node has.
+pub const SHARDS: u8 = 8;
+
+fn byte_sum(bytes: &[u8]) -> u64
+    requires { length bytes.now ≤ 250 }
+    ensures { result ≡ sum bytes.now }
+{
+    let mut sum = 0u64;
+    for byte in bytes {
+        sum += u64::from(*byte);
+    }
+    sum
+}
+
+/// The shard of a key, 0 to 7: the sum of its bytes modulo 8.
+pub fn shard_of(key: &Key) -> u8
+    ensures shard { result ≡ shard_of key.now }
+    ensures below { result < 8 }
+{
+    let shard = byte_sum(key.bytes()) % u64::from(SHARDS);
+    shard as u8
+}
+
+/// A shard of a node. Contracts see its base, its journal and its part, the ticket of the last event, and what its cells and its
+/// lease cell have shown.
+#[derive(Drop)]
+pub struct Shard {
+    base: Node,
+    part: Node,
+    journal: Journal,
+    /// The places in the journal of the entries that changed something.
+    changing: Vec<usize>,
+    last: u64,
+    writer: SnapWriter,
+    /// A reader of the cells that has loaded nothing, from which others are split.
+    reader: SnapReader,
+    keeper: LeaseKeeper,
+    /// One that looks at the lease cell, from which others are split.
+    lease: LeaseCell,
+}
+
+impl Model for Shard {
+    ghost use Rattle.std.specs.Prelude.{◌≡◌, None};
+    ghost use Rattle.hk_shard.specs.Shard.{ShardState, IsShard, unseen};
+    ghost use Rattle.hk_shard.specs.Changing.{AreChanging};
+
+    ghost Value = { ShardState };
+
+    ghost view = { λ s. record { base = s.base; journal = s.journal; part = s.part; last = s.last; ends = s.writer; lease = s.keeper } };
+
+    ghost invariant = { λ s.
+        IsShard (record { base = s.base; journal = s.journal; part = s.part; last = s.last; ends = s.writer; lease = s.keeper })
+        × AreChanging s.base s.journal s.changing.items
+        × (s.reader ≡ record { ends = unseen s.writer; shown = None })
+        × (s.lease.name ≡ s.keeper.name) };
+}
+
+impl Shard {
+    ghost use Rattle.hk_shard.specs.Shard.{ShardState, IsShard, IsNew, IsApplied, checkpointed, unseen};
+
+    /// A shard that begins with this node, which has no rows yet, as a founder and a joiner have none: so its cells show all that
+    /// the node will have.
+    pub fn new<R: Wait>(rt: &R, alloc: Global, base: Node) -> Result<Shard, Memory>
+        requires { base.rows ≡ [] }
+        ensures new { IfOk result (λ shard. IsNew base shard) }
+    {
+        let part = base.copy(alloc)?;
+        let (writer, reader) = cells(rt, alloc)?;
+        let (keeper, lease) = lease_cell(rt, alloc, lease_end(&part), part.now())?;
+        Ok(Shard {
+            base,
+            part,
+            journal: Journal::new(alloc),
+            changing: Vec::new(alloc),
+            last: 0,
+            writer,
+            reader,
+            keeper,
+            lease,
+        })
+    }
+
+    /// Makes the step of an event, and adds its entry to the journal with this ticket, which is above the last one. Each row that the
+    /// step changed is published before this returns, and the lease cell shows the end of the lease and the clock. It costs what the
+    /// step costs, and a store for each row that changed. Where memory is wanting, the shard is as it was.
+    pub fn apply<R: Wait>(
+        &mut self,
+        rt: &R,
+        alloc: Global,
+        ticket: u64,
+        event: NodeEvent,
+    ) -> Result<NodeOut, Memory>
+        requires ticket { self.old.last < ticket }
+        requires event { IsEvent event }
+        ensures out { IfOk result (λ out. IsOutOf out self.old.part (node_step self.old.part event)) }
+        ensures applied { OnOk result (IsApplied self.old ticket event self.new) }
+        ensures err { OnErr result (self.new ≡ self.old) }
+    {
+        let call = call_of(&event);
+        let out = make(
+            alloc,
+            &mut self.part,
+            &mut self.journal,
+            &mut self.changing,
+            ticket,
+            event,
+        )?;
+        let rows = out.report.rows.as_slice();
+        publish_rows(rt, &mut self.writer, &self.part, ticket, call, rows);
+        self.keeper
+            .raise(rt, lease_end(&self.part), self.part.now());
+        self.last = ticket;
+        Ok(out)
+    }
+
+    /// Hands out the journal, and begins a new one: the base becomes the part. It makes the steps of the entries that changed
+    /// something again, and costs nothing for the rows that did not change. Where memory is wanting, the shard is as it was.
+    pub fn checkpoint(&mut self, alloc: Global) -> Result<Journal, Memory>
+        ensures journal { IfOk result (λ journal. journal ≡ self.old.journal) }
+        ensures anew { OnOk result (self.new ≡ checkpointed self.old) }
+        ensures err { OnErr result (self.new ≡ self.old) }
+    {
+        go_on(
+            alloc,
+            &mut self.base,
+            &self.journal,
+            self.changing.as_slice(),
+        )?;
+        self.changing.clear();
+        Ok(mem::replace(&mut self.journal, Journal::new(alloc)))
+    }
+
+    /// By one load the reader has seen all that was published in a cell, with the calls and the contents that the cell doesn't
+    /// show. The reader is of this shard's cells.
+    pub fn meet<R: Wait>(&mut self, rt: &R, cell: u8, reader: &mut SnapReader) -> Result<(), Memory>
+        requires cell { cell < 32 }
+        requires same { names reader.old.ends ≡ names self.old.ends }
+        ensures same { self.new ≡ self.old }
+        ensures met { IfOk result (λ _. reader.new ≡ looked reader.old cell (seen_at self.old.ends cell)) }
+        ensures grown { IfOk result (λ _. Loads reader.old cell reader.new) }
+        ensures err { OnErr result (reader.new ≡ reader.old) }
+    {
+        self.writer.meet(rt, cell, reader)
+    }
+
+    /// By one load the other has seen the end of the part's lease and its clock. It is of this shard's lease cell.
+    pub fn meet_lease<R: Wait>(&mut self, rt: &R, lease: &mut LeaseCell) -> Result<(), Memory>
+        requires { lease.old.name ≡ self.old.lease.name }
+        ensures same { self.new ≡ self.old }
+        ensures end { IfOk result (λ _. lease.new.end ≡ lease_end self.old.part) }
+        ensures clock { IfOk result (λ _. lease.new.now ≡ self.old.part.clock) }
+        ensures looked { IfOk result (λ _. Looks lease.old lease.new) }
+        ensures err { OnErr result (lease.new ≡ lease.old) }
+    {
+        self.keeper.meet(rt, lease)
+    }
+
+    /// A reader of the cells that has seen nothing yet, and one that looks at the lease cell and has loaded nothing.
+    pub fn reader<R: Wait>(
+        &mut self,
+        rt: &R,
+        alloc: Global,
+    ) -> Result<(SnapReader, LeaseCell), Memory>
+        ensures same { self.new ≡ self.old }
+        ensures reader { IfOk result (λ made. made.0 ≡ record { ends = unseen self.old.ends; shown = None }) }
+        ensures names { IfOk result (λ made. names made.0.ends ≡ names self.old.ends) }
+        ensures lease { IfOk result (λ made. (made.1.name ≡ self.old.lease.name) × (made.1.loads ≡ 0)) }
+    {
+        let reader = self.reader.split(rt, alloc)?;
+        let lease = self.lease.split(rt)?;
+        Ok((reader, lease))
+    }
+
+    /// The node as it is.
+    pub fn part(&self) -> &Node
+        ensures part { result.now ≡ self.now.part }
+        ensures kept { IsShard self.now }
+    {
+        &self.part
+    }
+
+    /// The node as it was when the journal began.
+    pub fn base(&self) -> &Node
+        ensures { result.now ≡ self.now.base }
+    {
+        &self.base
+    }
+
+    /// What happened since.
+    pub fn journal(&self) -> &Journal
+        ensures { result.now ≡ self.now.journal }
+    {
+        &self.journal
+    }
+
+    /// The ticket of the last event, 0 before there was one. It stays over a checkpoint.
+    pub fn last_ticket(&self) -> u64
+        ensures { result ≡ self.now.last }
+    {
+        self.last
+    }
+}

@@ -1,0 +1,57 @@
+-- Asks as a map by the numbers of their calls, and how one of them stands.
+use Rattle.std.specs.Prelude.{◌≡◌, ◌≢◌, ℕ, List, Option, None, Some, Bool, false, is_some, not, ◌==◌}
+use Rattle.std.specs.Option.{IsSomeAnd, option_or}
+use Rattle.std.specs.declared.cmp.Ordering.{Ordering}
+use Rattle.std.specs.Ordering.{nat_cmp}
+use Rattle.std.specs.BTreeMap.{is_at}
+use Rattle.std.specs.Map.{lookup}
+use Rattle.hk_base.specs.declared.call.CallNo.{CallNo}
+use Rattle.hk_base.specs.declared.call.Answer.{Answer}
+use Rattle.hk_told.specs.declared.ask.Ask.{Ask}
+use Rattle.hk_told.specs.declared.asks.Look.{Look}
+use Rattle.hk_told.specs.declared.asks.Look.TheVariants.{Gone, Waits, Told}
+use Rattle.hk_told.specs.Held.{Asks}
+
+abbrev pub by_number : CallNo → CallNo → Ordering
+by_number a b = nat_cmp a.0 b.0
+
+-- the asks that a map keeps
+abbrev pub asks_in : List (CallNo × Ask) → Asks
+asks_in kept call = lookup (is_at (by_number call)) kept
+
+-- the ask once an answer came: what it was told first stays
+abbrev pub told_ask : Answer → Ask → Ask
+told_ask answer ask = record ask { told = option_or ask.told (Some answer) }
+
+-- the asks of all other calls are as they were
+abbrev pub AreOthersSame : CallNo → Asks → Asks → Type 0
+AreOthersSame call asks new = (other : CallNo) → other ≢ call → new other ≡ asks other
+
+-- nobody waits for it any more
+abbrev pub unwanted_ask : Ask → Ask
+unwanted_ask ask = record ask { wanted = false }
+
+-- the ask is kept, and was begun under the ticket
+abbrev pub is_of : ℕ → Option Ask → Bool
+is_of ticket None = false
+is_of ticket (Some ask) = ask.ticket == ticket
+
+-- the ask is kept, and was told something
+abbrev pub is_told : Option Ask → Bool
+is_told None = false
+is_told (Some ask) = is_some ask.told
+
+-- the ask is kept, and nobody waits for it
+abbrev pub is_left : Option Ask → Bool
+is_left None = false
+is_left (Some ask) = not ask.wanted
+
+abbrev pub look_at : Option Answer → Look
+look_at None = Waits
+look_at (Some answer) = Told answer
+
+-- How the ask of a call and a ticket stands: there is none, or it was told this, or nothing yet.
+abbrev pub LooksAs : ℕ → Option Ask → Look → Type 0
+LooksAs ticket asked Gone = (ask : Ask) → asked ≡ Some ask → ask.ticket ≢ ticket
+LooksAs ticket asked Waits = IsSomeAnd asked (λ ask. (ask.ticket ≡ ticket) × (ask.told ≡ None))
+LooksAs ticket asked (Told answer) = IsSomeAnd asked (λ ask. (ask.ticket ≡ ticket) × (ask.told ≡ Some answer))

@@ -1,0 +1,21 @@
+//! The laws on which the answers of desks rest: what becomes of a call that waits at a node, and how what is told of it is shown by what the node's shard
+//! published.
+//!
+//! A desk asks an update under its shard's lock, and its call may be answered much later, in a step that a worker makes under the same lock. Who keeps a
+//! shard keeps its *asks* beside it: of each the list of its key's cell has the beginning, and what follows it is as the ask was told, or that it was not.
+//! [`asks_stay_held`] says that each step of the node keeps this, over any number of keys in a cell, and [`told_is_shown`] what a desk may tell by it.
+//!
+//! The caller publishes all rows that a step changed before it delivers the step's replies, draws a ticket above the last for each step, and makes a
+//! call only under a number for which no ask is kept.
+#![tactic(auto)]
+
+mod ask;
+mod asks;
+mod laws;
+
+pub use ask::Ask;
+pub use asks::{Asks, Look};
+pub use laws::{
+    asks_are_shown, asks_stay_held, key_events_change_one_row, reads_leave_nodes, told_is_shown,
+    waiting_calls_move,
+};
