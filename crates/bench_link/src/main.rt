@@ -14,6 +14,7 @@ use std::{io, thread};
 const ROOM: usize = 1024;
 
 // A parcel with this number.
+#[tactic(auto, unfolding(hk_base::specs::Lengths::body_length))]
 fn parcel(number: u64) -> Parcel
     requires { number ≤ MAX_TIME }
 {

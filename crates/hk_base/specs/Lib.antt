@@ -5,3 +5,4 @@ pub mod Stamp
 pub mod Register
 pub mod View
 pub mod Range
+pub mod Lengths

@@ -10,6 +10,7 @@
 mod call;
 mod data;
 mod key;
+mod length;
 mod letter;
 mod memory;
 mod sequence;
@@ -22,6 +23,7 @@ mod view;
 pub use call::{Answer, CallNo, Content, Op, Replies, Reply, State, Why, share_content};
 pub use data::{Data, DataFault, MAX_DATA_LEN};
 pub use key::{Key, KeyFault, MAX_KEY_LEN};
+pub use length::{MAX_FRAME_LEN, frame_length};
 pub use letter::{Actor, Body, CopyItem, CopyItems, Letter, Letters};
 pub use memory::Memory;
 pub use sequence::Sequence;

@@ -19,7 +19,7 @@ use Rattle.hk_base.specs.declared.letter.Letter.{Letter}
 use Rattle.hk_base.specs.declared.letter.Body.{Body}
 use Rattle.hk_base.specs.declared.letter.Body.TheVariants.{Inv, Ack, Val, CopyAsk, CopyGive, LeaseAsk, LeaseGive, Prepare, Promise, Accept, Accepted, Chosen, Activate}
 use Rattle.hk_frame.specs.Frames.{update_byte, flag_byte, items_bytes, after_bytes, content_bytes, item_bytes, member_bytes, view_bytes, vote_bytes, actor_bytes, body_bytes, stamp_bytes, field_bytes, frame}
-use Rattle.hk_frame.specs.Lengths.{key_length, after_length, content_length, item_length, view_length, vote_length, body_length, frame_length, FitsFrame}
+use Rattle.hk_base.specs.Lengths.{key_length, after_length, content_length, item_length, view_length, vote_length, body_length, frame_length, FitsFrame}
 use Rattle.hk_frame.specs.Sendable.{IsContentValue, IsBodyValue, IsLetterValue}
 use Rattle.hk_frame.specs.Laws.{data_size, item_size, KeepsBatchLimit}
 

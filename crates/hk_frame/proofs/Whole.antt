@@ -9,7 +9,7 @@ use Rattle.hk_frame.specs.declared.fault.FrameFault.{FrameFault}
 use Rattle.hk_frame.specs.declared.fault.FrameFault.TheVariants.{Memory, Short, BadKind, BadLength, BadField}
 use Rattle.hk_frame.specs.declared.length.TheConstants.{MIN_LENGTH, MAX_LENGTH}
 use Rattle.hk_frame.specs.Frames.{field_bytes, frame}
-use Rattle.hk_frame.specs.Lengths.{frame_length}
+use Rattle.hk_base.specs.Lengths.{frame_length}
 use Rattle.hk_frame.specs.Sendable.{IsSendable}
 use Rattle.hk_frame.specs.Reading.{fields_at}
 use Rattle.hk_frame.specs.Told.{told_of, frame_with, frame_at, IsFault}

@@ -8,7 +8,7 @@ use Rattle.hk_base.specs.declared.letter.Body.TheVariants.{CopyGive}
 use Rattle.hk_base.specs.declared.call.Content.{Content}
 use Rattle.hk_base.specs.Range.{IsLetter}
 use Rattle.hk_frame.specs.Frames.{frame}
-use Rattle.hk_frame.specs.Lengths.{frame_length, FitsFrame}
+use Rattle.hk_base.specs.Lengths.{frame_length, FitsFrame}
 use Rattle.hk_frame.specs.Sendable.{IsLetterValue, IsSendable}
 
 -- where one frame begins another, they are one frame, of one letter of one shard

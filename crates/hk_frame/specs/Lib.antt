@@ -1,6 +1,5 @@
 pub mod Frames
 pub mod Kept
-pub mod Lengths
 pub mod Sendable
 pub mod Fields
 pub mod Reading

@@ -13,7 +13,7 @@ use Rattle.hk_base.specs.declared.letter.CopyItem.{CopyItem}
 use Rattle.hk_base.specs.declared.letter.Letter.{Letter}
 use Rattle.hk_base.specs.declared.letter.Body.{Body}
 use Rattle.hk_base.specs.declared.letter.Body.TheVariants.{Inv, Ack, Val, CopyAsk, CopyGive, LeaseAsk, LeaseGive, Prepare, Promise, Accept, Accepted, Chosen, Activate}
-use Rattle.hk_frame.specs.Lengths.{FitsFrame}
+use Rattle.hk_base.specs.Lengths.{FitsFrame}
 
 pub record IsStampValue (s : Stamp) : Type 0 where
   pub version : s.version < 2 ^ 64

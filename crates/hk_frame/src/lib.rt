@@ -24,7 +24,6 @@ mod values;
 ghost use Rattle.hk_frame.specs.Laws.{NoneBegins, OneLetter, LengthsHold, AllFit};
 
 pub use fault::FrameFault;
-pub use length::{MAX_FRAME_LEN, frame_length};
 pub use print::print_letter;
 pub use read::read_letter;
 pub use values::letter_is_value;

@@ -7,15 +7,14 @@ ghost use Rattle.hk_base.specs.Range.{IsLetter, IsBody, IsVote};
 ghost use Rattle.hk_base.specs.View.{IsView};
 ghost use Rattle.hk_frame.specs.Frames.{key_bytes, after_bytes, stamp_bytes, update_byte, content_bytes, some_content_bytes, data_bytes, flag_byte, item_bytes, items_bytes, actor_bytes, ballot_bytes, members_bytes, member_bytes, view_bytes, vote_bytes, body_bytes, field_bytes, frame};
 ghost use Rattle.hk_frame.specs.Kept.{IsKept};
-ghost use Rattle.hk_frame.specs.Lengths.{FitsFrame};
+ghost use Rattle.hk_base.specs.Lengths.{FitsFrame};
 ghost use Rattle.hk_frame.specs.Sendable.{IsSendable};
 
 use crate::kind::{kind_byte, kind_of};
-use crate::length::frame_length;
 use crate::values::letter_is_value;
 use hk_base::{
     Actor, Ballot, Body, Content, CopyItem, Data, Key, Kind, Letter, Memory, NodeId, Stamp, View,
-    Voted,
+    Voted, frame_length,
 };
 
 fn put(out: &mut Vec<u8>, bytes: &[u8]) -> Result<(), Memory>

@@ -12,12 +12,14 @@ use Rattle.hk_base.specs.declared.letter.Letter.{Letter}
 use Rattle.hk_base.specs.declared.letter.Body.{Body}
 use Rattle.hk_base.specs.declared.letter.Body.TheVariants.{Inv, Ack, Val, CopyAsk, CopyGive, LeaseAsk, LeaseGive, Prepare, Promise, Accept, Accepted, Chosen, Activate}
 use Rattle.hk_base.specs.View.{IsView}
+use Rattle.hk_base.specs.Lengths.{FitsFrame}
 use Rattle.hk_base.specs.Range.{Leaves, IsActor, IsRoom, IsBatch, IsVote, IsBody, IsLetter}
 
--- a node has eight shards
+-- a node has eight shards, and the letter is in range: its parts are, and it fits a frame
 pub record IsParcel (at : ℕ) (sent : Letter) : Type 0 where
   pub shard : at < 8
   pub letter : IsLetter sent
+  pub fits : FitsFrame sent
 
 IsActor-prop : (actor : Actor) → IsProp (IsActor actor)
 IsActor-prop (Node node) = hlevel props

@@ -10,6 +10,7 @@ use std::thread;
 use std::thread::Threads;
 
 // A VAL to shard 3, which a test knows by its version.
+#[tactic(auto, unfolding(hk_base::specs::Lengths::body_length))]
 fn parcel(alloc: Global, version: u64) -> Result<Parcel, Fail>
     requires { version < 1000 }
 {

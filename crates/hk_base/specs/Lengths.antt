@@ -1,4 +1,4 @@
--- How long a frame is, and which letters fit one.
+-- How long the frame of a letter is, its form as bytes, and which letters are in range.
 use Rattle.std.specs.Prelude.{ℕ, ◌+◌, ◌*◌, ◌≤◌, List, length, Option, Some, None}
 use Rattle.std.specs.List.{sum_by}
 use Rattle.hk_base.specs.declared.call.Content.{Content}
@@ -8,7 +8,8 @@ use Rattle.hk_base.specs.declared.letter.CopyItem.{CopyItem}
 use Rattle.hk_base.specs.declared.letter.Letter.{Letter}
 use Rattle.hk_base.specs.declared.letter.Body.{Body}
 use Rattle.hk_base.specs.declared.letter.Body.TheVariants.{Inv, Ack, Val, CopyAsk, CopyGive, LeaseAsk, LeaseGive, Prepare, Promise, Accept, Accepted, Chosen, Activate}
-use Rattle.hk_frame.specs.declared.length.TheConstants.{MAX_FRAME_LEN}
+use Rattle.hk_base.specs.Range.{IsLetter}
+use Rattle.hk_base.specs.declared.length.TheConstants.{MAX_FRAME_LEN}
 
 abbrev pub key_length : List ℕ → ℕ
 key_length key = 1 + length key
@@ -55,3 +56,8 @@ frame_length letter = 20 + body_length letter.body
 -- no frame is longer than 2,200,004 bytes
 abbrev pub FitsFrame : Letter → Type 0
 FitsFrame letter = frame_length letter ≤ MAX_FRAME_LEN
+
+-- a letter in range, as it may be sent: each of its parts is in range, and it fits a frame
+pub record IsInRange (letter : Letter) : Type 0 where
+  pub parts : IsLetter letter
+  pub fits : FitsFrame letter
