@@ -15,8 +15,6 @@ mod letter;
 mod memory;
 mod sequence;
 mod stamp;
-#[cfg(test)]
-mod tests;
 mod time;
 mod view;
 

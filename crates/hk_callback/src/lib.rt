@@ -7,8 +7,6 @@
 
 mod callbacks;
 mod completion;
-#[cfg(test)]
-mod tests;
 
 pub use callbacks::{Callbacks, KeepFault};
 pub use completion::{Completion, Delivery};

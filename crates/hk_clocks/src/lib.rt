@@ -16,8 +16,6 @@ mod laws;
 mod leads;
 mod pace;
 mod rise;
-#[cfg(test)]
-mod tests;
 mod values;
 
 pub use clocks::Clocks;

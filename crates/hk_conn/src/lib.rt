@@ -18,8 +18,6 @@ mod reader;
 mod respond;
 mod said;
 mod stream;
-#[cfg(test)]
-mod tests;
 
 pub use connection::serve_connection;
 pub use ends::ConnEnd;

@@ -11,8 +11,6 @@ mod given;
 mod laws;
 mod memory;
 mod rows;
-#[cfg(test)]
-mod tests;
 
 pub use copying::batch;
 pub use given::{Batch, MAX_BATCH_BYTES};

@@ -17,8 +17,6 @@ mod length;
 mod parts;
 mod print;
 mod read;
-#[cfg(test)]
-mod tests;
 mod values;
 
 ghost use Rattle.hk_frame.specs.Laws.{NoneBegins, OneLetter, LengthsHold, AllFit};

@@ -16,8 +16,6 @@ mod laws;
 mod out;
 mod row;
 mod same;
-#[cfg(test)]
-mod tests;
 
 pub use acks::{Ack, Acks, MAX_ACKS};
 pub use laws::{

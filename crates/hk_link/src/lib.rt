@@ -15,8 +15,6 @@ mod laws;
 mod parcel;
 mod rule;
 mod steps;
-#[cfg(test)]
-mod tests;
 
 pub use bell::Bell;
 pub use ends::{Inlet, Outlet, close_link, link};

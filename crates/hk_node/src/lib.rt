@@ -17,8 +17,6 @@ mod node;
 mod open;
 mod out;
 mod report;
-#[cfg(test)]
-mod tests;
 mod viewed;
 
 pub use event::NodeEvent;

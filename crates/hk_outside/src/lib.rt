@@ -19,8 +19,6 @@ mod standard;
 mod status;
 mod stream;
 mod tcp;
-#[cfg(test)]
-mod tests;
 mod threads;
 
 pub use clock::{Clock, HandClock, SteadyClock};

@@ -24,8 +24,6 @@ mod fields;
 mod line;
 mod numbers;
 mod request;
-#[cfg(test)]
-mod tests;
 mod words;
 
 pub use block::finish;

@@ -15,8 +15,6 @@ mod parts;
 mod print;
 mod put;
 mod read;
-#[cfg(test)]
-mod tests;
 mod words;
 
 pub use fault::LineFault;

@@ -10,8 +10,6 @@
 mod desk;
 mod laws;
 mod server;
-#[cfg(test)]
-mod tests;
 
 pub use desk::FounderDesk;
 pub use laws::lone_nodes_answer_at_once;

@@ -13,8 +13,6 @@ mod laws;
 mod process;
 mod refused;
 mod shown;
-#[cfg(test)]
-mod tests;
 mod worked;
 mod world;
 
