@@ -1,0 +1,146 @@
+//! The keys of open rows.
+
+ghost use Rattle.std.specs.Prelude.{◌≡◌, ◌⊎◌, [], true, map, Some, None, OnOk, OnErr};
+ghost use Rattle.std.specs.List.{find, filter};
+ghost use Rattle.std.specs.Option.{option_map, option_copied};
+ghost use Rattle.hk_node.specs.Index.{is_open_at};
+ghost use Rattle.hk_due.specs.Keys.{since_of, AreOthersSame, IsKept, IsMissed, IsLetGo, IsNoted, AreNoted, is_later, is_due, next_due};
+
+use hk_base::{Key, Memory, State};
+use hk_node::{Former, Node};
+use std::alloc::Global;
+use std::collections::BTreeMap;
+use std::marker::Model;
+use std::ops::Bound;
+
+/// The keys whose rows are open, which are those that are not Valid. Contracts see each with the ticket of the step since which it is open, in the order of
+/// the keys, and whether none is missing.
+#[derive(Drop)]
+pub struct OpenKeys {
+    since: BTreeMap<Key, u64>,
+    whole: bool,
+}
+
+impl Model for OpenKeys {
+    ghost use Rattle.hk_due.specs.Keys.{OpenState};
+
+    ghost Value = { OpenState };
+
+    ghost view = { λ o. record { since = o.since.entries; whole = o.whole } };
+}
+
+fn is_open(part: &Node, key: &Key) -> bool
+    ensures { result ≡ is_open_at part.now.rows key.now }
+{
+    match part.row(key) {
+        Some(row) => row.state != State::Valid,
+        None => false,
+    }
+}
+
+// The first key that is open since a step up to `before`.
+fn first_due(since: &BTreeMap<Key, u64>, before: u64) -> Option<&Key>
+    ensures { option_copied result ≡ option_map (λ e. e.0) (find (is_due before) since.now.entries) }
+{
+    for (key, ticket) in since.iter() {
+        if *ticket <= before {
+            return Some(key);
+        }
+    }
+    None
+}
+
+// The first one behind a key.
+fn due_behind<'a>(since: &'a BTreeMap<Key, u64>, after: &Key, before: u64) -> Option<&'a Key>
+    ensures { option_copied result ≡ option_map (λ e. e.0) (find (is_due before) (filter (is_later (Some after.now)) since.now.entries)) }
+{
+    for (key, ticket) in since.range((Bound::Excluded(after), Bound::Unbounded)) {
+        if *ticket <= before {
+            return Some(key);
+        }
+    }
+    None
+}
+
+impl OpenKeys {
+    /// No key, as of a node that has no rows yet. It takes no memory.
+    pub fn new(alloc: Global) -> OpenKeys
+        ensures { result ≡ record { since = []; whole = true } }
+    {
+        OpenKeys {
+            since: BTreeMap::new(alloc),
+            whole: true,
+        }
+    }
+
+    // The key is open: it keeps its ticket, or gets this one.
+    fn keep(&mut self, key: &Key, ticket: u64) -> Result<(), Memory>
+        ensures kept { OnOk result (IsKept key.now ticket self.old self.new × AreOthersSame key.now self.old self.new) }
+        ensures err { OnErr result (self.new ≡ self.old) }
+        ensures absent { OnErr result (since_of key.now self.old ≡ None) }
+    {
+        if self.since.contains_key(key) {
+            return Ok(());
+        }
+        let key = key.share()?;
+        self.since.insert(key, ticket)?;
+        Ok(())
+    }
+
+    // The same, but where memory is wanting the key is missing.
+    fn keep_or_miss(&mut self, key: &Key, ticket: u64)
+        ensures here { IsKept key.now ticket self.old self.new ⊎ IsMissed key.now self.old self.new }
+        ensures others { AreOthersSame key.now self.old self.new }
+    {
+        if let Err(Memory) = self.keep(key, ticket) {
+            self.whole = false;
+        }
+    }
+
+    // The key is open no longer.
+    fn let_go(&mut self, key: &Key)
+        ensures here { IsLetGo key.now self.old self.new }
+        ensures others { AreOthersSame key.now self.old self.new }
+    {
+        self.since.remove(key);
+    }
+
+    // The key's row was found open, or was not, after the step of this ticket.
+    fn note(&mut self, key: &Key, found_open: bool, ticket: u64)
+        ensures { IsNoted key.now found_open ticket self.old self.new }
+    {
+        if found_open {
+            self.keep_or_miss(key, ticket);
+        } else {
+            self.let_go(key);
+        }
+    }
+
+    /// A step of this ticket made the node `part`, and changed the rows of these keys. It looks at these rows alone. Where memory is wanting, keys are missing
+    /// from then on.
+    pub fn follow(&mut self, changed: &[Former], part: &Node, ticket: u64)
+        ensures { AreNoted part.now.rows ticket (map (λ f. f.key) changed.now) self.old self.new }
+    {
+        for former in changed {
+            let found_open = is_open(part, &former.key);
+            self.note(&former.key, found_open, ticket);
+        }
+    }
+
+    /// The least key behind this one, or of all, that is open since a step of a ticket up to `before`. It looks at no row.
+    pub fn next_due(&self, after: Option<&Key>, before: u64) -> Option<&Key>
+        ensures { option_copied result ≡ next_due (option_copied after.entry) before self.now }
+    {
+        match after {
+            Some(after) => due_behind(&self.since, after, before),
+            None => first_due(&self.since, before),
+        }
+    }
+
+    /// Whether no key is missing.
+    pub fn is_whole(&self) -> bool
+        ensures { result ≡ self.now.whole }
+    {
+        self.whole
+    }
+}

@@ -1,0 +1,3 @@
+pub mod Sends
+pub mod Overseer
+pub mod Turns

@@ -1,0 +1,17 @@
+//! What lets a loop go on.
+
+ghost use Rattle.std.specs.Prelude.{◌≡◌, Bool, not};
+
+/// Asked by a loop before each turn, and before it puts a parcel.
+pub trait Gate {
+    /// Whether the last `pass` was answered false.
+    ghost closed: { Self → Bool };
+
+    /// Whether the turn of this number, counted from 0, may be made. False closes the loop.
+    fn pass(&mut self, turn: u64) -> bool
+        ensures { result ≡ not (closed self.new) };
+
+    /// Whether a parcel is put. Where it is not, it is lost.
+    fn keeps(&mut self) -> bool
+        ensures { closed self.new ≡ closed self.old };
+}

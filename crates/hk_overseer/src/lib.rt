@@ -1,0 +1,19 @@
+//! The managers' side of a program: a loop that gives managers what comes for them, and the letters on their way.
+//!
+//! A program has for each manager number one [`ManagerPost`]: eight managers, one for each shard number, with the inlet from which their letters come and the
+//! outlets by which theirs go. [`oversee`] makes its turns, each asked of a [`Gate`] before: the managers' clocks rise to the reading of the clock, one letter at
+//! most is taken by the manager of its shard number, and what that sends goes on for the same shard number. What a turn may do is a definition,
+//! `specs/Turns.antt`. A letter for which there is no room is lost, as is one that comes while memory is wanting.
+//!
+//! The caller owes what `hk_manager` asks of whoever makes the steps, and that a post's outlets lead to whom they are named for.
+#![tactic(auto)]
+
+mod gate;
+mod outlets;
+mod post;
+mod turns;
+
+pub use gate::Gate;
+pub use outlets::{Outlets, send, send_all};
+pub use post::ManagerPost;
+pub use turns::oversee;
