@@ -1,0 +1,11 @@
+pub mod Entries
+pub mod Leaves
+pub mod Asides
+pub mod Between
+pub mod Keep
+pub mod Serving
+pub mod Shown
+pub mod Alone
+pub mod Placing
+pub mod Puts
+pub mod Sameness

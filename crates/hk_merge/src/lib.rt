@@ -1,0 +1,19 @@
+//! The journals of all nodes as one list, with the notes of local reads in their places.
+//!
+//! Threads make the steps of each node under a lock, and draw a ticket for each; a local read takes no lock, and notes the ticket of what it saw. Here all that is laid into one
+//! order: entries by their tickets, and each note where a read under the lock would have been answered the same. That this place serves is a law, [`notes_are_kept`].
+//! The caller owes that the tickets of each journal rise.
+#![tactic(auto)]
+
+mod laws;
+mod note;
+mod same;
+mod slot;
+
+pub use laws::{
+    kept_is_shown, merge_is_merged, merged_is_single, notes_are_kept, notes_stand_between,
+    reads_leave, reads_stand, sameness_is_equality, serving_stays,
+};
+pub use note::{Journals, Note, Notes};
+pub use same::{same_answer, same_letter, same_letters, same_replies};
+pub use slot::{Place, Slot, Slots, merge};
