@@ -1,4 +1,5 @@
--- The places in a journal of the entries that changed something, by which a checkpoint passes over the others.
+-- The places in a journal of the entries that changed something, by which a checkpoint passes over the others. It is private: no
+-- contract of a public call cites it.
 use Rattle.std.specs.Prelude.{◌≡◌, ◌⊎◌, ℕ, ◌<◌, List, [], ◌∷◌, ◌++◌, length, Option, Some, None, slice_get}
 use Rattle.std.specs.List.{AllByRecursion}
 use Rattle.hk_node.specs.Node.{NodeState}

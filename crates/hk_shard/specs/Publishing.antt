@@ -1,4 +1,4 @@
--- The rows that a step changed, as they are published one after the other.
+-- The rows that a step changed, as they are published one after the other. It is private: no contract of a public call cites it.
 use Rattle.std.specs.Prelude.{⊤, ℕ, List, [], ◌∷◌, map, Option}
 use Rattle.hk_base.specs.Range.{IsWithin}
 use Rattle.hk_base.specs.declared.call.CallNo.{CallNo}

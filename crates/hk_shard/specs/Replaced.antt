@@ -1,4 +1,4 @@
--- What steps replaced, by which they are undone.
+-- What steps replaced, by which they are undone. It is private: no contract of a public call cites it.
 use Rattle.std.specs.Prelude.{◌≡◌, List, [], ◌∷◌, map}
 use Rattle.std.specs.Option.{IsSome}
 use Rattle.std.specs.List.{AllByRecursion}

@@ -17,5 +17,5 @@ mod shard;
 mod show;
 mod step;
 
-pub use laws::{cells_show_the_part, leases_never_fall};
+pub use laws::{cells_show_the_part, leases_never_fall, local_reads_are_reads};
 pub use shard::{SHARDS, Shard, shard_of};

@@ -1,13 +1,15 @@
 -- What is published of a row, and what a cell shows of that.
-use Rattle.std.specs.Prelude.{◌≡◌, ⊤, ◌⊎◌, ℕ, ◌<◌, ◌/◌, ◌%◌, List, [], ◌∷◌, length, sum, Option, Some, None, nat_lt, if◌then◌else◌}
+use Rattle.std.specs.Prelude.{◌≡◌, ⊤, ◌⊎◌, ℕ, ◌<◌, ◌/◌, ◌%◌, Bool, true, false, List, [], ◌∷◌, length, sum, Option, Some, None, nat_lt, if◌then◌else◌}
 use Rattle.std.specs.Ordering.{nat_cmp}
 use Rattle.std.specs.declared.cmp.Ordering.TheVariants.{Less}
 use Rattle.std.specs.Cmp.Lexicographic.{slice_cmp}
+use Rattle.std.specs.Str.{bytes_eq}
 use Rattle.hk_base.specs.declared.call.CallNo.{CallNo}
 use Rattle.hk_base.specs.declared.call.Content.{Content}
 use Rattle.hk_key.specs.declared.row.Row.{Row}
 use Rattle.hk_snap.specs.declared.rule.Publication.{Publication}
 use Rattle.hk_snap.specs.declared.snapshot.Snapshot.{Snapshot}
+use Rattle.hk_snap.specs.declared.snapshot.Glance.{Glance}
 use Rattle.hk_snap.specs.declared.snapshot.Shape.{Shape}
 use Rattle.hk_snap.specs.declared.snapshot.Shape.TheVariants.{Small, Large, Missing}
 use Rattle.hk_snap.specs.declared.snapshot.TheConstants.{MAX_SMALL_LEN}
@@ -33,6 +35,24 @@ abbrev pub last_shown : List Publication → Option Snapshot
 last_shown [] = None
 last_shown (p ∷ []) = Some (snapshot_of p)
 last_shown (p ∷ q ∷ ps) = last_shown (q ∷ ps)
+
+abbrev pub is_large : Shape → Bool
+is_large Large = true
+is_large shape = false
+
+-- what is seen of a key without its content, where its row is shown
+abbrev pub glance_of : Option Snapshot → List ℕ → Option Glance
+glance_of None key = None
+glance_of (Some s) key = if bytes_eq s.key key then Some (record { state = s.state; stamp = s.stamp; is_large = is_large s.shape }) else None
+
+abbrev pub small_content : Shape → Option Content
+small_content (Small content) = Some content
+small_content shape = None
+
+-- the content that is shown, if one is
+abbrev pub shown_content : Option Snapshot → Option Content
+shown_content None = None
+shown_content (Some s) = small_content s.shape
 
 -- A later one has a greater ticket. One step may publish several rows, in the order of their keys.
 abbrev pub IsBefore : Publication → Publication → Type 0

@@ -3,16 +3,16 @@
 ghost use Rattle.std.specs.Prelude.{◌≡◌, ℕ, ◌+◌, ◌*◌, ◌<◌, ◌≤◌, List, [], length, sum, map, take, drop, Option, Some, None, IfOk, OnErr};
 ghost use Rattle.std.specs.List.{AllByRecursion};
 ghost use Rattle.hk_base.specs.Range.{IsWithin};
-ghost use Rattle.hk_snap.specs.Snapshots.{cell_of, published, last_shown, IsNext, IsRising};
+ghost use Rattle.hk_snap.specs.Snapshots.{cell_of, published, last_shown, glance_of, shown_content, IsNext, IsRising};
 ghost use Rattle.hk_snap.specs.Locals.{local_of};
 ghost use Rattle.hk_snap.specs.Ends.{names, at, seen_at, with_publication, looked, Loads, another, joined_ends, writing_end};
 
 use crate::ends::{CellReader, CellWriter};
 use crate::local::{Local, local_of};
 use crate::rule::Words;
-use crate::snapshot::Snapshot;
-use crate::words::{no_words, shown};
-use hk_base::{CallNo, Key, Memory};
+use crate::snapshot::{Glance, Snapshot};
+use crate::words::{glance, no_words, shown, shown_content};
+use hk_base::{CallNo, Content, Key, Memory};
 use hk_key::Row;
 use std::alloc::Global;
 use std::marker::Model;
@@ -117,6 +117,7 @@ impl SnapReader {
     pub fn load<R: Wait>(&mut self, rt: &R, cell: u8)
         requires { cell < 32 }
         ensures loaded { Loads self.old cell self.new }
+        ensures shown { self.new.shown ≡ last_shown (seen_at self.new.ends cell) }
         ensures rising { IsRising (seen_at self.new.ends cell) }
     {
         self.ends[usize::from(cell)].load(rt, &mut self.room);
@@ -128,6 +129,20 @@ impl SnapReader {
         ensures { IfOk result (λ shown. shown ≡ self.now.shown) }
     {
         shown(alloc, &self.room)
+    }
+
+    /// What the last load found of the key, beside its content. None where it found another key, or none. It takes no memory.
+    pub fn glance(&self, key: &Key) -> Option<Glance>
+        ensures { result ≡ glance_of self.now.shown key.now }
+    {
+        glance(&self.room, key.bytes())
+    }
+
+    /// The content that the last load found. None where it found none, or one with more than 1,000 bytes of data.
+    pub fn content(&self, alloc: Global) -> Result<Option<Content>, Memory>
+        ensures { IfOk result (λ content. content ≡ shown_content self.now.shown) }
+    {
+        shown_content(alloc, &self.room)
     }
 
     // What a read of the key is told from what the last load found.

@@ -29,4 +29,4 @@ pub use cell_set::{SnapReader, SnapWriter, cell_of, cells};
 pub use lease::{LeaseCell, LeaseKeeper, lease_cell};
 pub use local::{Local, read_local};
 pub use rule::Publication;
-pub use snapshot::{MAX_SMALL_LEN, Shape, Snapshot};
+pub use snapshot::{Glance, MAX_SMALL_LEN, Shape, Snapshot};

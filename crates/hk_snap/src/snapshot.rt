@@ -1,8 +1,5 @@
 //! What a cell shows of a row.
 
-ghost use Rattle.std.specs.Prelude.{◌≡◌};
-ghost use Rattle.hk_snap.specs.Snapshots.{small_data};
-
 use hk_base::{Content, Key, Stamp, State};
 
 /// The greatest length of data that a cell shows, in bytes.
@@ -28,4 +25,13 @@ pub struct Snapshot {
     /// The number of the step that changed the row. In one cell tickets never fall.
     pub ticket: u64,
     pub shape: Shape,
+}
+
+/// What a cell shows of a row beside its key and its content.
+#[derive(Clone, Copy, Debug, PartialEq, Eq)]
+pub struct Glance {
+    pub state: State,
+    pub stamp: Stamp,
+    /// The row holds more than 1,000 bytes of data, which are not shown.
+    pub is_large: bool,
 }

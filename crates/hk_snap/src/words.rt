@@ -5,13 +5,13 @@ ghost use Rattle.std.specs.Str.{bytes_eq};
 ghost use Rattle.hk_base.specs.declared.call.CallNo.{CallNo};
 ghost use Rattle.hk_snap.specs.Packed.{packed, AreBytes};
 ghost use Rattle.hk_base.specs.Range.{IsWithin};
-ghost use Rattle.hk_snap.specs.Snapshots.{snapshot_of, published, shape_of};
+ghost use Rattle.hk_snap.specs.Snapshots.{snapshot_of, published, shape_of, is_large, glance_of, shown_content};
 ghost use Rattle.hk_snap.specs.Layout.{no_words, words_of, state_number, state_numbered, shape_number, shape_numbered, flags_in, data_in, key_in, small_in, shown_in, AreWords};
 ghost use Rattle.hk_snap.specs.Rule.{IsInRange};
 
 use crate::pack::{pack, unpack};
 use crate::rule::Words;
-use crate::snapshot::{MAX_SMALL_LEN, Shape, Snapshot};
+use crate::snapshot::{Glance, MAX_SMALL_LEN, Shape, Snapshot};
 use hk_base::{Content, Data, Key, Memory, Stamp, State};
 use hk_key::Row;
 use std::alloc::Global;
@@ -212,4 +212,45 @@ pub(crate) fn shown(alloc: Global, words: &Words) -> Result<Option<Snapshot>, Me
         ticket: words[4],
         shape,
     }))
+}
+
+fn is_large(words: &Words) -> bool
+    ensures { result ≡ is_large (shape_numbered (slice_index words.now 0) (slice_index words.now 5) (small_in words.now)) }
+{
+    if words[0] == 1 {
+        return false;
+    }
+    words[0] == 2
+}
+
+// What the words show of the key beside its content.
+#[tactic(auto, unfolding(crate::specs::Layout::shown_in))]
+pub(crate) fn glance(words: &Words, key: &[u8]) -> Option<Glance>
+    requires { AreWords words.now }
+    ensures { result ≡ glance_of (shown_in words.now) key.now }
+{
+    if words[0] == 0 {
+        return None;
+    }
+    if !shows_key(words, key) {
+        return None;
+    }
+    Some(Glance {
+        state: state_in(words),
+        stamp: stamp_in(words),
+        is_large: is_large(words),
+    })
+}
+
+// The content that the words show, if they show one.
+#[tactic(auto, unfolding(crate::specs::Layout::shown_in))]
+pub(crate) fn shown_content(alloc: Global, words: &Words) -> Result<Option<Content>, Memory>
+    requires { AreWords words.now }
+    ensures { IfOk result (λ content. content ≡ shown_content (shown_in words.now)) }
+{
+    if words[0] == 1 {
+        let content = content_in(alloc, words)?;
+        return Ok(Some(content));
+    }
+    Ok(None)
 }

@@ -1,0 +1,20 @@
+use Rattle.std.proofs.Common.{rules, ◌≡◌, IsTrue, true, ◌∙◌}
+use Rattle.hk_worker.proofs.Reading.{met_names, met_inside}
+use Rattle.hk_worker.proofs.locked.LockedShard.meet.Goals as goal
+
+pub invariant_of-reader-2 : goal.invariant_of-reader-2
+invariant_of-reader-2 g c = record {
+  cells = met_names c.reader.inside.cells c.meet.new.reader c.cell_of.result _ c.in_ok-meet.ensures.met ∙ c.reader.invariant.cells;
+  lease = c.reader.invariant.lease;
+  skew = c.reader.invariant.skew;
+}
+
+pub returns-clause-met : goal.returns-clause-met
+returns-clause-met g c =
+    let is : IsTrue c.is_read_by.result = search rules in
+    let same = c.is_read_by.ensures is in
+    met_inside g.P.Places.places
+    (record { node = c.self.inside.node; number = c.self.inside.number; skew = c.self.inside.skew; shard = c.self.inside.shard; asks = c.self.inside.asks }) c.args.self.now
+    (record { node = c.reader.inside.node; number = c.reader.inside.number; skew = c.reader.inside.skew; cells = c.reader.inside.cells; lease = c.reader.inside.lease }) c.args.reader.now
+    c.args.key.now c.cell_of.result c.meet.new.reader c.self.view_is c.reader.view_is c.self.invariant c.reader.invariant same.0 same.1
+    c.cell_of.ensures.cell c.cell_of.ensures.below c.keeps.ensures.cells c.in_ok-meet.ensures.met c.in_ok-meet.ensures.grown

@@ -1,0 +1,46 @@
+-- What contracts see of a shard under its lock and of a reader of it, and what each keeps.
+use Rattle.std.specs.Prelude.{◌≡◌, ℕ, List}
+use Rattle.hk_base.specs.declared.stamp.NodeId.{NodeId}
+use Rattle.hk_base.specs.declared.call.CallNo.{CallNo}
+use Rattle.hk_snap.specs.Snapshots.{cell_of}
+use Rattle.hk_snap.specs.Ends.{End, Reader, names, seen_at}
+use Rattle.hk_snap.specs.Leases.{Lease}
+use Rattle.hk_shard.specs.Shard.{ShardState}
+use Rattle.hk_told.specs.declared.ask.Ask.{Ask}
+use Rattle.hk_told.specs.Held.{Lists, IsHeld}
+use Rattle.hk_told.specs.Kept.{asks_in}
+use Rattle.hk_worker.specs.Places.{NodeNames, node_names, shard_names}
+
+-- the list of each key: all that was published in its cell
+abbrev pub lists_in : List End → Lists
+lists_in ends key = seen_at ends (cell_of key)
+
+-- a shard under its lock: which one of which node, its node's skew, and the asks of updates that wait
+pub record LockedState : Type 0 where
+  pub node : NodeId
+  pub number : ℕ
+  pub skew : ℕ
+  pub shard : ShardState
+  pub asks : List (CallNo × Ask)
+
+-- Its cells and its skew are those that the list of names has for it, and its cells' lists show of each ask what it was told.
+pub record IsLocked (places : List NodeNames) (s : LockedState) : Type 0 where
+  pub cells : names s.shard.ends ≡ (shard_names places s.node s.number).cells
+  pub lease : s.shard.lease.name ≡ (shard_names places s.node s.number).lease
+  pub skew : s.skew ≡ (node_names places s.node).skew
+  pub part : s.shard.part.skew ≡ s.skew
+  pub held : IsHeld s.shard.part.rows (lists_in s.shard.ends) s.shard.last (asks_in s.asks)
+
+-- a reader of a shard: which one of which node, its node's skew, and what was seen of its cells and its lease
+pub record ReaderState : Type 0 where
+  pub node : NodeId
+  pub number : ℕ
+  pub skew : ℕ
+  pub cells : Reader
+  pub lease : Lease
+
+-- its cells and its skew are those that the list of names has for the shard
+pub record IsReader (places : List NodeNames) (r : ReaderState) : Type 0 where
+  pub cells : names r.cells.ends ≡ (shard_names places r.node r.number).cells
+  pub lease : r.lease.name ≡ (shard_names places r.node r.number).lease
+  pub skew : r.skew ≡ (node_names places r.node).skew
