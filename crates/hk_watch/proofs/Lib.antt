@@ -1,0 +1,3 @@
+pub mod Running
+pub mod Risen
+pub mod Rises
