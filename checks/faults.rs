@@ -1,5 +1,6 @@
 // Makes one call of the C library fail, in a program that is started with this library before it: the environment names a kind of
-// call, `ALLOCATE`, `READ` or `WRITE`, and the number of the call that fails, counted from 1. With `SHORT` each write takes one byte.
+// call, `ALLOCATE`, `READ` or `WRITE`, and the number of the call that fails, counted from 1. With `SHORT` 1 each write takes one byte,
+// with 2 each read gives one, with 3 both.
 // At the end it tells on standard error how many calls of each kind were made.
 use std::ffi::{c_char, c_int, c_void};
 use std::sync::atomic::{AtomicU64, Ordering};
@@ -87,7 +88,11 @@ unsafe fn faulty() -> isize {
 
 #[unsafe(no_mangle)]
 pub unsafe extern "C" fn read(file: c_int, room: *mut c_void, size: usize) -> isize {
-    if file == 0 && READS.fail() { unsafe { faulty() } } else { unsafe { __read(file, room, size) } }
+    if file == 0 && READS.fail() {
+        return unsafe { faulty() };
+    }
+    let size = if file == 0 && SHORT.load(Ordering::Relaxed) & 2 != 0 { size.min(1) } else { size };
+    unsafe { __read(file, room, size) }
 }
 
 #[unsafe(no_mangle)]
@@ -95,7 +100,7 @@ pub unsafe extern "C" fn write(file: c_int, bytes: *const c_void, size: usize) -
     if file == 1 && WRITES.fail() {
         return unsafe { faulty() };
     }
-    let size = if file == 1 && SHORT.load(Ordering::Relaxed) == 1 { size.min(1) } else { size };
+    let size = if file == 1 && SHORT.load(Ordering::Relaxed) & 1 != 0 { size.min(1) } else { size };
     unsafe { __write(file, bytes, size) }
 }
 

@@ -23,7 +23,7 @@ use Rattle.hk_request.specs.Commands.{command_of, name_of}
 use Rattle.hk_request.specs.Heads.{word_of, is_cas, HasItsTagIfStore}
 use Rattle.hk_request.specs.Fields.{key_of, number_at, expiry_of, size_of, tag_of, noreply_of}
 use Rattle.hk_request.specs.Reading.{store_of, untagged_of, cas_of, step_of, change_of, delete_of, deletion_of, keys_of, get_of, alone_of, asked_of, asked_by, head_of_words, head_of, with_skip, skip_of, ReadsHead, FailsHead}
-use Rattle.hk_request.specs.Grammar.{IsNumber, small, large, IsNoreply, IsChange, IsDeletion, IsTagged, IsUpdate, IsWhole, IsHead, IsReadAs}
+use Rattle.hk_request.specs.Grammar.{IsNumber, small, large, IsNoreply, IsChange, IsTagged, IsUpdate, IsWhole, IsHead, IsReadAs}
 use Rattle.hk_request.proofs.Single.{bind_ok, text_same, key_found, key_read, number_found, number_read, expiry_found, expiry_read, size_found, size_read, noreply_found}
 
 -- what a store is read as

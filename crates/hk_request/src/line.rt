@@ -14,7 +14,7 @@ use crate::fields::{
 };
 use crate::numbers::number;
 use crate::request::{Head, Keys, Request, RequestCause, RequestFault, StoreHead, Verb};
-use crate::words::split;
+use crate::words::{Words, split};
 use hk_base::{Key, Op};
 use std::alloc::Global;
 
@@ -38,12 +38,13 @@ fn read_line(alloc: Global, line: &[u8]) -> Result<Head, RequestFault>
     ensures exact { ReadsHead result (head_of line.now) }
     ensures within { IsWithin result }
 {
-    let Ok(words) = split(alloc, line) else {
+    let mut words = Words::new(alloc);
+    if split(&mut words, line).is_err() {
         return Err(RequestFault {
             cause: RequestCause::Memory,
             skip: 0,
         });
-    };
+    }
     match read_words(alloc, words.as_slice()) {
         Ok(head) => Ok(head),
         Err(cause) => Err(RequestFault {
@@ -143,14 +144,16 @@ fn read_get(alloc: Global, others: &[&[u8]], tags: bool) -> Result<Head, Request
 fn read_keys(alloc: Global, others: &[&[u8]]) -> Result<Keys, RequestCause>
     ensures { Gives result (keys_of (map (λ w. w.now) others.now)) }
 {
-    let mut keys = Keys::new(alloc);
+    let Ok(mut keys) = Vec::with_capacity(alloc, others.len()) else {
+        return Err(RequestCause::Memory);
+    };
     for word in others {
         let key = read_key(alloc, word)?;
         if keys.push(key).is_err() {
             return Err(RequestCause::Memory);
         }
     }
-    Ok(keys)
+    Ok(Keys::from_vec(keys))
 }
 
 // A store without a tag.
