@@ -40,5 +40,7 @@ pub mod Led
 pub mod Ending
 pub mod Runs
 pub mod Legality
+pub mod Shows
 pub mod Shown
+pub mod ShownViews
 pub mod Managers

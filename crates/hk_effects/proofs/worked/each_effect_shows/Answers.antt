@@ -1,5 +1,6 @@
 use Rattle.std.proofs.Common.{refl}
-use Rattle.hk_effects.proofs.Shown.{val_kept_shows, left_invalid_shows, countered_shows, replayed_shows, pending_installed_shows, left_alone_shows, view_begun_shows, joined_shows, copied_valid_shows, passed_shows}
+use Rattle.hk_effects.proofs.Shown.{val_kept_shows, left_invalid_shows, countered_shows, replayed_shows}
+use Rattle.hk_effects.proofs.ShownViews.{pending_installed_shows, left_alone_shows, view_begun_shows, joined_shows, copied_valid_shows, passed_shows}
 use Rattle.hk_effects.proofs.worked.each_effect_shows.Goals as goal
 
 pub returns-clause-kept : goal.returns-clause-kept

@@ -1,0 +1,17 @@
+//! The tests of what a group is made of: keys and letters, rows, batches, clocks, nodes, worlds and their scripts.
+#![tactic(auto)]
+
+#[cfg(test)]
+mod base;
+#[cfg(test)]
+mod clocks;
+#[cfg(test)]
+mod copy;
+#[cfg(test)]
+mod key;
+#[cfg(test)]
+mod node;
+#[cfg(test)]
+mod script;
+#[cfg(test)]
+mod world;

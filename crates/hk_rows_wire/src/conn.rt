@@ -1,0 +1,389 @@
+//! What a client sends, what a desk tells, and what is written: whole, and in pieces of one to eight bytes.
+
+ghost use Rattle.std.specs.Prelude.{◌≡◌, ◌≤◌, refl, Some, None};
+
+use hk_base::{Answer, Content, Data, Memory, Stamp};
+use hk_conn::{ConnEnd, serve_connection};
+use hk_outside::{
+    Connection, DeskReply, Failed, FakeDesk, MemoryConnection, MemorySink, MemorySource, Sink,
+    Source,
+};
+use std::alloc::Global;
+use std::collections::VecDeque;
+use std::process::Abort;
+
+// A connection in memory, whose bytes come in pieces of at most so many.
+#[derive(Drop)]
+struct Pieced {
+    conn: MemoryConnection,
+    most: usize,
+}
+
+impl Source for Pieced {
+    ghost left = { λ p. None };
+
+    ghost faults = { λ p. p.conn.source.faults };
+
+    ghost beside = { λ p. (Some p.conn.sink.sink.bytes.items, p.conn.sink.sink.faults) };
+
+    fn read(&mut self, room: &mut [u8]) -> Result<usize, Failed> {
+        let count = room.len().min(self.most);
+        self.conn.source.read(&mut room[..count])
+    }
+}
+
+impl Sink for Pieced {
+    ghost held = { λ p. Some p.conn.sink.sink.bytes.items };
+
+    ghost faults = { λ p. p.conn.sink.sink.faults };
+
+    ghost beside = { λ p. (None, p.conn.source.faults) };
+
+    fn write(&mut self, piece: &[u8]) -> Result<usize, Failed> {
+        self.conn.sink.write(piece)
+    }
+}
+
+impl Connection for Pieced {
+    ghost read_keeps = { λ p. refl };
+
+    ghost write_keeps = { λ p. refl };
+
+    ghost one_record = { λ p. refl };
+}
+
+// What a desk tells next.
+#[derive(Clone, Copy)]
+enum Tell {
+    Found(&'static [u8]),
+    Missing,
+    Stored,
+    NotStored,
+    Deleted,
+    Number(u64),
+    NotFound,
+    Aborted,
+    Unknown,
+    Spent,
+}
+
+fn told(alloc: Global, tell: Tell) -> Result<DeskReply, Memory> {
+    let answer = match tell {
+        Tell::Found(text) => {
+            let Ok(bytes) = Data::read(alloc, text) else {
+                return Err(Memory);
+            };
+            let content = Content { flags: 7, bytes };
+            Answer::Found {
+                content,
+                tag: 131_072,
+            }
+        }
+        Tell::Missing => Answer::Missing,
+        Tell::Stored => Answer::Stored,
+        Tell::NotStored => Answer::NotStored,
+        Tell::Deleted => Answer::Deleted,
+        Tell::Number(n) => Answer::Number(n),
+        Tell::NotFound => Answer::NotFound,
+        Tell::Aborted => Answer::Aborted(Stamp {
+            version: 3,
+            node: 1,
+        }),
+        Tell::Unknown => return Ok(DeskReply::Unknown { turns: 100_000 }),
+        Tell::Spent => return Ok(DeskReply::Spent {
+            asks: 4_294_967_295,
+        }),
+    };
+    Ok(DeskReply::Told(answer))
+}
+
+fn desk_of(rt: &impl Abort, alloc: Global, tells: &[Tell]) -> FakeDesk {
+    let mut replies = VecDeque::new(alloc);
+    for tell in tells {
+        let reply = told(alloc, *tell).expect(rt, "room");
+        replies.push_back(reply).expect(rt, "room");
+    }
+    FakeDesk::new(alloc, replies, 64).expect(rt, "room")
+}
+
+// How a connection ended, what it holds then, and how often the desk was asked.
+#[derive(Drop)]
+struct Served {
+    end: ConnEnd,
+    conn: Pieced,
+    asks: usize,
+}
+
+impl Served {
+    // What was written to the client.
+    fn written(&self) -> &[u8] {
+        self.conn.conn.sink.sink.bytes.as_slice()
+    }
+}
+
+// Serves a connection over a desk that tells these, and is busy then.
+fn serve(rt: &impl Abort, alloc: Global, sent: &[u8], most: usize, tells: &[Tell]) -> Served {
+    let sent = Vec::from_slice(alloc, sent).expect(rt, "room");
+    let mut conn = Pieced {
+        conn: MemoryConnection {
+            source: MemorySource::new(sent, Vec::new(alloc)),
+            sink: MemorySink::new(alloc, Vec::new(alloc)),
+        },
+        most,
+    };
+    let mut desk = desk_of(rt, alloc, tells);
+    let end = serve_connection(alloc, &mut conn, &mut desk, 3);
+    let asks = desk.asked.len();
+    Served { end, conn, asks }
+}
+
+// What a client sends, what the desk tells, and what must come of it.
+struct Exchange<'a> {
+    name: &'a str,
+    sent: &'a [u8],
+    tells: &'a [Tell],
+    end: ConnEnd,
+    written: &'a [u8],
+    asks: usize,
+}
+
+// The row holds whole and in pieces.
+fn check(rt: &impl Abort, alloc: Global, row: &Exchange) {
+    let name = row.name;
+    for most in [1, 2, 3, 4, 5, 6, 7, 8, 16_384] {
+        let served = serve(rt, alloc, row.sent, most, row.tells);
+        assert_eq!(rt;
+            served.written(),
+            row.written,
+            "{name}, {most} bytes at a time"
+        );
+        assert_eq!(rt; served.end, row.end, "{name}, {most} bytes at a time");
+        assert_eq!(rt; served.asks, row.asks, "{name}, {most} bytes at a time");
+    }
+}
+
+#[test]
+fn requests_are_answered_in_their_order(rt: HostRuntime) {
+    let alloc = rt.alloc();
+    check(
+        &rt,
+        alloc,
+        &Exchange {
+            name: "values and their tags",
+            sent: b"set k 7 0 5\r\nhello\r\nget k none\r\ngets k\r\nquit\r\nversion\r\n",
+            tells: &[
+                Tell::Stored,
+                Tell::Found(b"hello"),
+                Tell::Missing,
+                Tell::Found(b"hello"),
+            ],
+            end: ConnEnd::Quit,
+            written: b"STORED\r\nVALUE k 7 5\r\nhello\r\nEND\r\nVALUE k 7 5 131072\r\nhello\r\nEND\r\n",
+            asks: 4,
+        },
+    );
+    check(
+        &rt,
+        alloc,
+        &Exchange {
+            name: "usual traffic",
+            sent: b"set visits 7 0 2\r\n41\r\nincr visits 1\r\ndecr visits 50\r\nincr nokey 1\r\nset quiet 7 0 1 noreply\r\nx\r\nget visits quiet\r\nversion\r\n",
+            tells: &[
+                Tell::Stored,
+                Tell::Number(42),
+                Tell::Number(0),
+                Tell::NotFound,
+                Tell::Stored,
+                Tell::Found(b"0"),
+                Tell::Found(b"x"),
+            ],
+            end: ConnEnd::End,
+            written: b"STORED\r\n42\r\n0\r\nNOT_FOUND\r\nVALUE visits 7 1\r\n0\r\nVALUE quiet 7 1\r\nx\r\nEND\r\nVERSION hermes-1\r\n",
+            asks: 7,
+        },
+    );
+}
+
+#[test]
+fn what_is_there_is_added_replaced_and_deleted(rt: HostRuntime) {
+    check(
+        &rt,
+        rt.alloc(),
+        &Exchange {
+            name: "what is there",
+            sent: b"add k 0 0 1\r\na\r\nadd k 0 0 1\r\nb\r\ndelete k\r\ndelete k\r\nreplace k 0 0 1\r\nc\r\nget k\r\ndelete k 0\r\n",
+            tells: &[
+                Tell::Stored,
+                Tell::NotStored,
+                Tell::Deleted,
+                Tell::NotFound,
+                Tell::NotStored,
+                Tell::Missing,
+            ],
+            end: ConnEnd::End,
+            written: b"STORED\r\nNOT_STORED\r\nDELETED\r\nNOT_FOUND\r\nNOT_STORED\r\nEND\r\nERROR\r\n",
+            asks: 6,
+        },
+    );
+}
+
+#[test]
+fn refused_blocks_are_no_commands(rt: HostRuntime) {
+    let alloc = rt.alloc();
+    check(
+        &rt,
+        alloc,
+        &Exchange {
+            name: "a refused block",
+            sent: b"set k 0 60 4\r\nquit\r\nset k 0 0 2\r\nabcd",
+            tells: &[],
+            end: ConnEnd::End,
+            written: b"SERVER_ERROR expiry not kept\r\nCLIENT_ERROR bad data chunk\r\n",
+            asks: 0,
+        },
+    );
+    check(
+        &rt,
+        alloc,
+        &Exchange {
+            name: "lines that are refused",
+            sent: b"append k 0 0 3\r\nfoo\r\nget\r\nincr k +5\r\n",
+            tells: &[],
+            end: ConnEnd::End,
+            written: b"ERROR\r\nERROR\r\nCLIENT_ERROR bad number\r\n",
+            asks: 0,
+        },
+    );
+}
+
+#[test]
+fn what_a_desk_does_not_tell_is_told(rt: HostRuntime) {
+    let alloc = rt.alloc();
+    check(
+        &rt,
+        alloc,
+        &Exchange {
+            name: "a desk that is busy",
+            sent: b"get k\r\n",
+            tells: &[],
+            end: ConnEnd::End,
+            written: b"SERVER_ERROR busy\r\n",
+            asks: 3,
+        },
+    );
+    check(
+        &rt,
+        alloc,
+        &Exchange {
+            name: "a desk that is busy at the second key",
+            sent: b"get a b\r\n",
+            tells: &[Tell::Found(b"1")],
+            end: ConnEnd::End,
+            written: b"SERVER_ERROR busy\r\n",
+            asks: 4,
+        },
+    );
+    check(
+        &rt,
+        alloc,
+        &Exchange {
+            name: "an aborted increment",
+            sent: b"incr k 1\r\n",
+            tells: &[Tell::Aborted],
+            end: ConnEnd::End,
+            written: b"SERVER_ERROR aborted\r\n",
+            asks: 1,
+        },
+    );
+    check(
+        &rt,
+        alloc,
+        &Exchange {
+            name: "an increment whose outcome is unknown",
+            sent: b"incr k 1\r\n",
+            tells: &[Tell::Unknown],
+            end: ConnEnd::End,
+            written: b"SERVER_ERROR outcome unknown\r\n",
+            asks: 1,
+        },
+    );
+    check(
+        &rt,
+        alloc,
+        &Exchange {
+            name: "a desk that is spent",
+            sent: b"get k\r\n",
+            tells: &[Tell::Spent],
+            end: ConnEnd::End,
+            written: b"SERVER_ERROR calls spent\r\n",
+            asks: 1,
+        },
+    );
+    check(
+        &rt,
+        alloc,
+        &Exchange {
+            name: "an increment with no reply",
+            sent: b"incr k 1 noreply\r\n",
+            tells: &[],
+            end: ConnEnd::End,
+            written: b"",
+            asks: 3,
+        },
+    );
+}
+
+// Serves a connection in memory of which these reads and writes fail, so that nothing is written. How it ended.
+fn serve_with_faults(
+    rt: &impl Abort,
+    alloc: Global,
+    sent: &[u8],
+    reads: &[u64],
+    writes: &[u64],
+) -> ConnEnd {
+    let sent = Vec::from_slice(alloc, sent).expect(rt, "room");
+    let reads = Vec::from_slice(alloc, reads).expect(rt, "room");
+    let writes = Vec::from_slice(alloc, writes).expect(rt, "room");
+    let mut conn = MemoryConnection {
+        source: MemorySource::new(sent, reads),
+        sink: MemorySink::new(alloc, writes),
+    };
+    let mut desk = desk_of(rt, alloc, &[]);
+    let end = serve_connection(alloc, &mut conn, &mut desk, 3);
+    assert!(rt; conn.sink.sink.bytes.is_empty());
+    end
+}
+
+#[test]
+fn faults_end_a_connection(rt: HostRuntime) {
+    let alloc = rt.alloc();
+    let end = serve_with_faults(&rt, alloc, b"set k 7 0 5\r\nhe", &[1], &[]);
+    assert_eq!(rt; end, ConnEnd::ReadFault);
+    let end = serve_with_faults(&rt, alloc, b"set k 7 0 5\r\nhe", &[], &[]);
+    assert_eq!(rt; end, ConnEnd::End);
+    let end = serve_with_faults(&rt, alloc, b"version\r\nversion\r\n", &[], &[0]);
+    assert_eq!(rt; end, ConnEnd::WriteFault);
+}
+
+fn line_of(rt: &impl Abort, alloc: Global, length: usize, end: &[u8]) -> Vec<u8> {
+    let mut line = Vec::new(alloc);
+    line.resize(length, b'a').expect(rt, "room");
+    line.extend_from_slice(end).expect(rt, "room");
+    line
+}
+
+#[test]
+fn a_line_has_65536_bytes_at_most(rt: HostRuntime) {
+    let alloc = rt.alloc();
+    let long = line_of(&rt, alloc, 65_538, b"");
+    let served = serve(&rt, alloc, long.as_slice(), 1_000, &[]);
+    assert_eq!(rt; served.end, ConnEnd::TooLong);
+    assert_eq!(rt;
+        served.written(),
+        b"CLIENT_ERROR line too long\r\n".as_slice()
+    );
+    let fits = line_of(&rt, alloc, 65_536, b"\r\n");
+    let served = serve(&rt, alloc, fits.as_slice(), 1_000, &[]);
+    assert_eq!(rt; served.end, ConnEnd::End);
+    assert_eq!(rt; served.written(), b"ERROR\r\n".as_slice());
+}

@@ -1,0 +1,17 @@
+//! The tests of what carries bytes: the outside, requests, frames, links, connections and the server of one node.
+#![tactic(auto)]
+
+#[cfg(test)]
+mod callback;
+#[cfg(test)]
+mod conn;
+#[cfg(test)]
+mod frame;
+#[cfg(test)]
+mod link;
+#[cfg(test)]
+mod outside;
+#[cfg(test)]
+mod request;
+#[cfg(test)]
+mod serve;
