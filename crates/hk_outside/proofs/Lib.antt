@@ -1,3 +1,4 @@
 pub mod Suited
 pub mod Records
 pub mod Streams
+pub mod Firsts

@@ -3,3 +3,4 @@ pub mod Counts
 pub mod Desk
 pub mod Records
 pub mod Status
+pub mod First

@@ -4,12 +4,16 @@ ghost use Rattle.std.specs.Prelude.{◌≡◌, ◌↔◌, ℕ, Option, Some, len
 ghost use Rattle.hk_outside.specs.Causes.{HasCause};
 ghost use Rattle.hk_outside.specs.Counts.{Accepts};
 
+use crate::dial::{Dial, NoDialer};
 use crate::stream::{Connection, Failed};
 use std::collections::VecDeque;
 
 /// What connections come through.
 pub trait Doors {
     type Conn: Connection + Send + Drop + 'static;
+
+    /// What connects to others.
+    type Dialer: Dial + Send + Drop + 'static;
 
     /// How many connections are left, where the doors tell it.
     ghost left: { Self → Option ℕ };
@@ -26,9 +30,12 @@ pub trait Doors {
     fn accept(&mut self) -> Result<Option<Self::Conn>, Failed>
         ensures left { Accepts (left self.old) (left self.new) result }
         ensures cause { HasCause (faults self.old) (faults self.new) result };
+
+    /// A new dialer.
+    fn dialer(&self) -> Self::Dialer;
 }
 
-/// Doors over a list of connections, which come in its order.
+/// Doors over a list of connections, which come in its order. Their dialers reach nobody.
 #[derive(Drop)]
 pub struct MemoryDoors<C: Drop> {
     pub conns: VecDeque<C>,
@@ -52,6 +59,8 @@ impl<C: Drop> MemoryDoors<C> {
 impl<C: Connection + Send + Drop + 'static> Doors for MemoryDoors<C> {
     type Conn = C;
 
+    type Dialer = NoDialer<C>;
+
     ghost left = { λ doors. Some (length doors.conns.items) };
 
     ghost faults = { λ doors. doors.faults };
@@ -70,5 +79,9 @@ impl<C: Connection + Send + Drop + 'static> Doors for MemoryDoors<C> {
 
     fn accept(&mut self) -> Result<Option<C>, Failed> {
         Ok(self.conns.pop_front())
+    }
+
+    fn dialer(&self) -> NoDialer<C> {
+        NoDialer::new()
     }
 }

@@ -12,8 +12,10 @@
 
 mod clock;
 mod desk;
+mod dial;
 mod doors;
 mod memory;
+mod primed;
 mod record;
 mod standard;
 mod status;
@@ -23,11 +25,13 @@ mod threads;
 
 pub use clock::{Clock, HandClock, SteadyClock};
 pub use desk::{Asked, Desk, DeskReply, FakeDesk, act_suits, answers, suits};
+pub use dial::{Dial, MemoryDialer, NoDialer};
 pub use doors::{Doors, MemoryDoors};
 pub use memory::{MemoryConnection, MemorySink, MemorySource, SureSink, SureSource};
+pub use primed::Primed;
 pub use record::Record;
 pub use standard::{ReaderSource, WriterSink};
 pub use status::Status;
 pub use stream::{Connection, Failed, Sink, Source, write_all};
-pub use tcp::{TcpConnection, TcpDoors};
+pub use tcp::{TcpConnection, TcpDialer, TcpDoors};
 pub use threads::{Job, NoSpawner, Refusal, Spawner, ThreadSpawner};

@@ -1,9 +1,10 @@
-//! Connections over TCP on 127.0.0.1.
+//! Connections over TCP on 127.0.0.1, that come and that are dialled.
 
 ghost use Rattle.std.specs.Prelude.{◌≡◌, None, Some, [], refl, IfOk, IfSome};
 ghost use Rattle.std.specs.List.{concat};
 ghost use Rattle.hk_outside.specs.Causes.{HasCause};
 
+use crate::dial::Dial;
 use crate::doors::Doors;
 use crate::record::Record;
 use crate::stream::{Connection, Failed, Sink, Source};
@@ -18,6 +19,25 @@ pub struct TcpConnection {
     write_faults: u64,
     given: Record,
     taken: Record,
+}
+
+impl TcpConnection {
+    // A connection that has recorded nothing, and has no faults.
+    fn new(stream: TcpStream) -> TcpConnection
+        ensures given { result.given.pieces ≡ [] }
+        ensures taken { result.taken.pieces ≡ [] }
+        ensures faults { (result.read_faults ≡ 0) × (result.write_faults ≡ 0) }
+    {
+        // what is written leaves at once; where that can't be had, the connection is slower
+        let _ = stream.set_nodelay(true);
+        TcpConnection {
+            stream,
+            read_faults: 0,
+            write_faults: 0,
+            given: Record::new(),
+            taken: Record::new(),
+        }
+    }
 }
 
 impl Source for TcpConnection {
@@ -81,13 +101,13 @@ impl Connection for TcpConnection {
 /// Doors on a port of 127.0.0.1. Before a port is open no connection comes. That it was opened is written on standard error, for
 /// the person who started the program.
 #[derive(Drop)]
-pub struct TcpDoors<R: Net<Listener = TcpListener, Stream = TcpStream> + Eprint + Drop> {
+pub struct TcpDoors<R: Net<Listener = TcpListener, Stream = TcpStream> + Eprint + Copy> {
     rt: R,
     listener: Option<TcpListener>,
     faults: u64,
 }
 
-impl<R: Net<Listener = TcpListener, Stream = TcpStream> + Eprint + Drop> TcpDoors<R> {
+impl<R: Net<Listener = TcpListener, Stream = TcpStream> + Eprint + Copy> TcpDoors<R> {
     pub fn new(rt: R) -> TcpDoors<R> {
         TcpDoors {
             rt,
@@ -97,8 +117,11 @@ impl<R: Net<Listener = TcpListener, Stream = TcpStream> + Eprint + Drop> TcpDoor
     }
 }
 
-impl<R: Net<Listener = TcpListener, Stream = TcpStream> + Eprint + Drop> Doors for TcpDoors<R> {
+impl<R: Net<Listener = TcpListener, Stream = TcpStream> + Eprint + Copy + Send + 'static> Doors
+    for TcpDoors<R> {
     type Conn = TcpConnection;
+
+    type Dialer = TcpDialer<R>;
 
     ghost left = { λ d. None };
 
@@ -132,17 +155,50 @@ impl<R: Net<Listener = TcpListener, Stream = TcpStream> + Eprint + Drop> Doors f
             return Ok(None);
         };
         match listener.accept() {
-            Ok((stream, _)) => {
-                // a reply leaves at once; where that can't be had, the connection is slower
-                let _ = stream.set_nodelay(true);
-                Ok(Some(TcpConnection {
-                    stream,
-                    read_faults: 0,
-                    write_faults: 0,
-                    given: Record::new(),
-                    taken: Record::new(),
-                }))
+            Ok((stream, _)) => Ok(Some(TcpConnection::new(stream))),
+            Err(_) => {
+                self.faults = self.faults.saturating_add(1);
+                Err(Failed)
             }
+        }
+    }
+
+    fn dialer(&self) -> TcpDialer<R> {
+        TcpDialer::new(self.rt)
+    }
+}
+
+/// Dials the ports of 127.0.0.1.
+#[derive(Drop)]
+pub struct TcpDialer<R: Net<Listener = TcpListener, Stream = TcpStream> + Copy> {
+    rt: R,
+    faults: u64,
+}
+
+impl<R: Net<Listener = TcpListener, Stream = TcpStream> + Copy> TcpDialer<R> {
+    pub fn new(rt: R) -> TcpDialer<R> {
+        TcpDialer { rt, faults: 0 }
+    }
+}
+
+impl<R: Net<Listener = TcpListener, Stream = TcpStream> + Copy> Dial for TcpDialer<R> {
+    type Conn = TcpConnection;
+
+    ghost faults = { λ d. d.faults };
+
+    fn dial(&mut self, port: u16) -> Result<TcpConnection, Failed>
+        ensures cause { HasCause self.old.faults self.new.faults result }
+        ensures fresh { IfOk result (λ c. (c.read_faults ≡ 0) × (c.write_faults ≡ 0)) }
+
+        // A new connection has recorded nothing.
+        ensures given { IfOk result (λ c. c.given.pieces ≡ []) }
+        ensures taken { IfOk result (λ c. c.taken.pieces ≡ []) }
+    {
+        match self
+            .rt
+            .connect(SocketAddr::from((Ipv4Addr::new(127, 0, 0, 1), port)))
+        {
+            Ok(stream) => Ok(TcpConnection::new(stream)),
             Err(_) => {
                 self.faults = self.faults.saturating_add(1);
                 Err(Failed)

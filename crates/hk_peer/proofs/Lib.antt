@@ -1,0 +1,6 @@
+pub mod Waiting
+pub mod Framing
+pub mod Keeping
+pub mod Counting
+pub mod Gathered
+pub mod Putting

@@ -1,0 +1,45 @@
+-- The parcels whose frames some bytes are.
+use Rattle.std.specs.Prelude.{◌≡◌, ℕ, List, [], ◌∷◌, ◌++◌, Bool, false, ◌==◌, filter}
+use Rattle.hk_base.specs.declared.stamp.NodeId.{NodeId}
+use Rattle.hk_base.specs.declared.letter.Actor.{Actor}
+use Rattle.hk_base.specs.declared.letter.Actor.TheVariants.{Node, Manager}
+use Rattle.hk_frame.specs.Frames.{frame}
+use Rattle.hk_frame.specs.Sendable.{IsSendable}
+use Rattle.hk_link.specs.declared.parcel.Parcel.{Parcel}
+use Rattle.hk_link.specs.declared.rule.Known.{Known}
+use Rattle.hk_link.specs.Ends.{IsPut}
+
+abbrev pub frame_of : Parcel → List ℕ
+frame_of p = frame p.shard p.letter
+
+-- its letter has a frame
+abbrev pub HasFrame : Parcel → Type 0
+HasFrame p = IsSendable p.shard p.letter
+
+-- the bytes are the frames of these parcels, one behind the other, and then the rest
+abbrev pub AreFrames : List ℕ → List Parcel → List ℕ → Type 0
+AreFrames bytes [] rest = bytes ≡ rest
+AreFrames bytes (p ∷ parcels) rest = (behind : List ℕ) × HasFrame p × (bytes ≡ frame_of p ++ behind) × AreFrames behind parcels rest
+
+-- no frame begins the bytes
+abbrev pub NoFrame : List ℕ → Type 0
+NoFrame bytes = (p : Parcel) (behind : List ℕ) → HasFrame p → bytes ≡ frame_of p ++ behind → ⊥
+
+-- whether a letter is to this node
+abbrev pub is_node : NodeId → Actor → Bool
+is_node me (Node node) = node.0 == me.0
+is_node me (Manager manager) = false
+
+abbrev pub is_to : NodeId → Parcel → Bool
+is_to me p = is_node me p.letter.to
+
+-- these parcels were put, in this order, and this end of the link put nothing else
+abbrev pub ArePut : Known → List Parcel → Known → Type 0
+ArePut before [] after = after ≡ before
+ArePut before (p ∷ parcels) after = (between : Known) × IsPut before p between × ArePut between parcels after
+
+-- some bytes were cut into parcels, up to this rest, and those to this node were put
+pub record Passes (me : NodeId) (bytes rest : List ℕ) (before after : Known) : Type 0 where
+  pub parcels : List Parcel
+  pub frames : AreFrames bytes parcels rest
+  pub put : ArePut before (filter (λ p. is_to me p) parcels) after
