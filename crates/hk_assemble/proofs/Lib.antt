@@ -1,0 +1,8 @@
+mod Finding
+mod Known
+mod Following
+mod Coursing
+mod Least
+mod Turns
+mod Assembling
+mod Tickets

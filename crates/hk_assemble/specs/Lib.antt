@@ -1,0 +1,10 @@
+pub mod Marks
+pub mod SentLetters
+pub mod Known
+pub mod Course
+pub mod Assembled
+pub mod Taking
+pub mod Stepping
+pub mod Courses
+pub mod Checking
+pub mod Rising

@@ -1,0 +1,5 @@
+//! The tests of storms: journals and notes as one run.
+#![tactic(auto)]
+
+#[cfg(test)]
+mod assemble;
