@@ -1,3 +1,2 @@
-pub mod Locked
-pub mod Places
-pub mod Steps
+pub mod Asking
+pub mod Founding

@@ -1,20 +1,19 @@
-//! The shards of a node under their locks.
+//! The shards of a node under their locks, and asks of operations at them.
 //!
-//! A node has eight shards ([`Eight`]), each under a lock of its own. What stands under the lock is a [`LockedShard`]: the shard, the asks of updates that wait,
-//! and the completions of their calls. A [`ShardReader`] reads what a shard shows; under the lock it can be brought to what the shard shows now, and an ask can be
-//! looked at: what it was told is shown by what the reader has seen of its key's cell. The numbers of the steps of all shards come from one [`Tickets`].
+//! A node has eight shards, each under a lock of its own ([`Shards`]); the numbers of the steps of all shards come from one [`Tickets`]. [`ask`] asks an
+//! operation: it makes the call under the shard's lock, sends the letters, and where the update has to wait for other nodes it looks again until the answer was
+//! delivered. What it tells is shown by what the caller's reader of the shard has seen of the key's cell (`specs/Asking.antt`).
 //!
-//! The caller names the cells of the shards of all its nodes once ([`Places`]), and makes each [`LockedShard`] of the shard that has these cells.
+//! The caller founds the shards of all its nodes, names their cells once (`Places` of `hk_locked`), gives each call another number, and ticks the shards to its
+//! clock.
 #![tactic(auto)]
 
+mod asking;
 mod eight;
-mod locked;
-mod places;
-mod reader;
+mod shards;
 mod tickets;
 
+pub use asking::{TURNS, ask};
 pub use eight::Eight;
-pub use locked::LockedShard;
-pub use places::Places;
-pub use reader::ShardReader;
+pub use shards::{Founded, Shards};
 pub use tickets::Tickets;

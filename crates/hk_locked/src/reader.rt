@@ -2,7 +2,7 @@
 
 ghost use Rattle.std.specs.Prelude.{◌≡◌};
 ghost use Rattle.hk_snap.specs.Ends.{names};
-ghost use Rattle.hk_worker.specs.Places.{shard_names, node_names};
+ghost use Rattle.hk_locked.specs.Places.{shard_names, node_names};
 
 use crate::places::Places;
 use hk_base::NodeId;
@@ -23,7 +23,7 @@ pub struct ShardReader<P: Places> {
 
 impl<P: Places> Model for ShardReader<P> {
     ghost use Rattle.std.specs.Prelude.{◌≡◌};
-    ghost use Rattle.hk_worker.specs.Locked.{ReaderState, IsReader};
+    ghost use Rattle.hk_locked.specs.Locked.{ReaderState, IsReader};
 
     ghost Value = { ReaderState };
 
@@ -34,7 +34,7 @@ impl<P: Places> Model for ShardReader<P> {
 
 impl<P: Places> ShardReader<P> {
     /// A reader of the shard of this number of this node.
-    pub fn new(
+    pub(crate) fn new(
         node: NodeId,
         number: u8,
         skew: u64,
@@ -54,5 +54,25 @@ impl<P: Places> ShardReader<P> {
             lease,
             of: PhantomData,
         }
+    }
+
+    /// Its shard's node.
+    pub fn node(&self) -> NodeId
+        ensures { result ≡ self.now.node }
+    {
+        self.node
+    }
+
+    /// The number of its shard.
+    pub fn number(&self) -> u8
+        ensures { result ≡ self.now.number }
+    {
+        self.number
+    }
+
+    /// What reads the cells, and what looks at the lease cell.
+    pub fn into_cells(self) -> (SnapReader, LeaseCell) {
+        let ShardReader { cells, lease, .. } = self;
+        (cells, lease)
     }
 }

@@ -1,6 +1,6 @@
 use Rattle.std.proofs.Common.{rules, ◌≡◌, IsTrue, true, ◌∙◌}
-use Rattle.hk_worker.proofs.Reading.{met_names, met_inside}
-use Rattle.hk_worker.proofs.locked.LockedShard.meet.Goals as goal
+use Rattle.hk_locked.proofs.Reading.{met_names, met_inside}
+use Rattle.hk_locked.proofs.locked.LockedShard.meet.Goals as goal
 
 pub invariant_of-reader-2 : goal.invariant_of-reader-2
 invariant_of-reader-2 g c = record {

@@ -1,9 +1,9 @@
 use Rattle.std.proofs.Common.{rules, ◌≡◌, true, IsTrue, sym, ◌∙◌, subst}
-use Rattle.hk_worker.specs.Locked.{LockedState}
-use Rattle.hk_worker.specs.Steps.{Meets}
-use Rattle.hk_worker.proofs.Keeping.{dropped_locked}
-use Rattle.hk_worker.proofs.Reading.{looks_for}
-use Rattle.hk_worker.proofs.locked.LockedShard.look.Goals as goal
+use Rattle.hk_locked.specs.Locked.{LockedState}
+use Rattle.hk_locked.specs.Steps.{Meets}
+use Rattle.hk_locked.proofs.Keeping.{dropped_locked}
+use Rattle.hk_locked.proofs.Reading.{looks_for}
+use Rattle.hk_locked.proofs.locked.LockedShard.look.Goals as goal
 
 pub invariant_of-self : goal.invariant_of-self
 invariant_of-self g c = dropped_locked _ c.self.inside.node c.self.inside.number c.self.inside.skew c.self.inside.shard c.self.inside.asks c.look.new.self c.look.ensures.fewer c.self.invariant

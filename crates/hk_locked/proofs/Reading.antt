@@ -24,9 +24,9 @@ use Rattle.hk_told.specs.Held.{Asks, IsHeld}
 use Rattle.hk_told.specs.Kept.{asks_in, LooksAs}
 use Rattle.hk_told.specs.Shown.{BeginsIn, Starts, Looks, LooksAt, LooksOn}
 use Rattle.hk_told.proofs.Telling.{asks_are_shown, looks_are_joined, at_once_is_shown, after_looks_is_shown, unknown_is_shown}
-use Rattle.hk_worker.specs.Places.{NodeNames, node_names, shard_names}
-use Rattle.hk_worker.specs.Locked.{lists_in, LockedState, IsLocked, ReaderState, IsReader}
-use Rattle.hk_worker.specs.Steps.{end_at, IsSameBut, IsLaterLease, IsGrown, Meets, MeetsLease, Begins, replies_with, StartsAt, LooksOnce, LooksFor}
+use Rattle.hk_locked.specs.Places.{NodeNames, node_names, shard_names}
+use Rattle.hk_locked.specs.Locked.{lists_in, LockedState, IsLocked, ReaderState, IsReader}
+use Rattle.hk_locked.specs.Steps.{end_at, IsSameBut, IsLaterLease, IsGrown, Meets, MeetsLease, Begins, replies_with, StartsAt, LooksOnce, LooksFor}
 
 -- ---- the reader stays the same one
 pub same_itself : (key : List ℕ) (r : ReaderState) → IsSameBut key r r

@@ -1,5 +1,6 @@
 -- What a reader has seen after the calls that are made with it under a shard's lock.
 use Rattle.std.specs.Prelude.{◌≡◌, ◌≢◌, ◌⊎◌, ⊤, ℕ, ◌+◌, ◌≤◌, List, [], ◌∷◌, Option, Some, None}
+use Rattle.atomic_table.specs.Seated.{TableId}
 use mathlib.Core.List.{IsPrefix}
 use Rattle.hk_base.specs.declared.call.CallNo.{CallNo}
 use Rattle.hk_base.specs.declared.call.Op.{Op}
@@ -7,7 +8,7 @@ use Rattle.hk_base.specs.declared.call.Answer.{Answer}
 use Rattle.hk_base.specs.declared.call.Reply.{Reply}
 use Rattle.hk_node.specs.Calls.{lease_end}
 use Rattle.hk_snap.specs.Snapshots.{cell_of}
-use Rattle.hk_snap.specs.Ends.{End, at}
+use Rattle.hk_snap.specs.Ends.{End, at, seen_at}
 use Rattle.hk_snap.specs.Leases.{Lease, Looks as LooksAtLease}
 use Rattle.hk_node.specs.declared.event.NodeEvent.TheVariants.{Call}
 use Rattle.hk_node.specs.Stepped.{replies_of}
@@ -18,7 +19,7 @@ use Rattle.hk_told.specs.declared.asks.Look.TheVariants.{Gone, Waits, Told}
 use Rattle.hk_told.specs.declared.ask.Ask.{Ask}
 use Rattle.hk_told.specs.Held.{Asks, IsNewAsk, IsWith}
 use Rattle.hk_told.specs.Shown.{BeginsIn, Starts, Looks}
-use Rattle.hk_worker.specs.Locked.{LockedState, ReaderState, lists_in}
+use Rattle.hk_locked.specs.Locked.{LockedState, ReaderState, lists_in}
 
 -- what the reader has seen of the key's cell
 abbrev pub end_at : List ℕ → ReaderState → End

@@ -9,7 +9,7 @@ use Rattle.hk_shard.specs.Shard.{ShardState}
 use Rattle.hk_told.specs.declared.ask.Ask.{Ask}
 use Rattle.hk_told.specs.Held.{Lists, IsHeld}
 use Rattle.hk_told.specs.Kept.{asks_in}
-use Rattle.hk_worker.specs.Places.{NodeNames, node_names, shard_names}
+use Rattle.hk_locked.specs.Places.{NodeNames, node_names, shard_names}
 
 -- the list of each key: all that was published in its cell
 abbrev pub lists_in : List End → Lists

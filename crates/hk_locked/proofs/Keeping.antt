@@ -42,10 +42,10 @@ use Rattle.hk_told.proofs.Steps.{calls_answer_or_start}
 use Rattle.hk_told.specs.Steps.{AtOnce, Starts as StartsAtNode}
 use Rattle.hk_node.specs.Calls.{answers}
 use Rattle.hk_told.proofs.Telling.{calls_begin_in_lists}
-use Rattle.hk_worker.specs.Places.{NodeNames, node_names, shard_names}
+use Rattle.hk_locked.specs.Places.{NodeNames, node_names, shard_names}
 use Rattle.hk_told.specs.Shown.{BeginsIn}
-use Rattle.hk_worker.specs.Locked.{lists_in, LockedState, IsLocked}
-use Rattle.hk_worker.specs.Steps.{AreOneOrNone, HasCalled, Begins, replies_with}
+use Rattle.hk_locked.specs.Locked.{lists_in, LockedState, IsLocked}
+use Rattle.hk_locked.specs.Steps.{AreOneOrNone, HasCalled, Begins, replies_with}
 
 -- ---- a shard's lists show its rows
 same_last : (key : List ℕ) (list : List Publication) (row : Option Row) → last_row key list row ≡ last_shown_row key list row

@@ -6,7 +6,7 @@ use std::marker::Brand;
 /// calls what is generic in the list, once.
 pub trait Places {
     ghost use Rattle.std.specs.Prelude.{List};
-    ghost use Rattle.hk_worker.specs.Places.{NodeNames};
+    ghost use Rattle.hk_locked.specs.Places.{NodeNames};
 
     /// Of each node, node 0 first.
     ghost places: { List NodeNames };

@@ -1,5 +1,5 @@
-use Rattle.hk_worker.proofs.Keeping.{dropped_locked}
-use Rattle.hk_worker.proofs.locked.LockedShard.give_up.Goals as goal
+use Rattle.hk_locked.proofs.Keeping.{dropped_locked}
+use Rattle.hk_locked.proofs.locked.LockedShard.give_up.Goals as goal
 
 pub invariant_of-self : goal.invariant_of-self
 invariant_of-self g c = dropped_locked _ c.self.inside.node c.self.inside.number c.self.inside.skew c.self.inside.shard c.self.inside.asks c.give_up.new.self c.give_up.ensures c.self.invariant

@@ -1,0 +1,17 @@
+//! A shard of a node under its lock.
+//!
+//! What stands under the lock is a [`LockedShard`]: the shard, the asks of updates that wait, and the completions of their calls. A [`ShardReader`] reads what a
+//! shard shows. Under the lock it is brought to what the shard shows now, before and after a call's step ([`LockedShard::start`]), and an ask can be looked at
+//! ([`LockedShard::look`]): what it was told is shown by what the reader has seen of its key's cell. So what passes the lock is of the reader alone.
+//!
+//! The caller names the cells of the shards of all its nodes once ([`Places`]), makes each [`LockedShard`] of the shard that has these cells, and draws the
+//! tickets of steps above the last one.
+#![tactic(auto)]
+
+mod locked;
+mod places;
+mod reader;
+
+pub use locked::{Given, LockedShard, Started};
+pub use places::Places;
+pub use reader::ShardReader;

@@ -1,0 +1,418 @@
+//! A shard under its lock.
+
+ghost use Rattle.std.specs.Prelude.{◌≡◌, ◌<◌, ◌∷◌, [], true, None, Some, IsTrue, IfOk, OnOk, OnErr, MatchOption};
+ghost use Rattle.std.specs.List.{AllByRecursion};
+ghost use Rattle.hk_base.specs.Range.{IsLetter};
+ghost use Rattle.hk_node.specs.Sound.{IsEvent};
+ghost use Rattle.hk_node.specs.Laws.{IsNoCall};
+ghost use Rattle.hk_shard.specs.Shard.{IsShard, IsApplied};
+ghost use Rattle.hk_snap.specs.Ends.{names};
+ghost use Rattle.hk_told.specs.Held.{Delivers, IsNewAsk, IsWith};
+ghost use Rattle.hk_told.specs.Kept.{asks_in, AreOthersSame};
+ghost use Rattle.hk_base.specs.declared.call.Op.TheVariants.{Read};
+ghost use Rattle.hk_base.specs.declared.call.CallNo.{CallNo};
+ghost use Rattle.hk_node.specs.declared.event.NodeEvent.TheVariants.{Call};
+ghost use Rattle.hk_node.specs.Stepped.{replies_of};
+ghost use Rattle.hk_node.specs.Steps.{node_step};
+ghost use Rattle.hk_locked.specs.Places.{shard_names, node_names};
+ghost use Rattle.hk_locked.specs.Steps.{IsGrown, Meets, MeetsLease, Begins, StartsAt, LooksFor, HasCalled, AreOneOrNone, replies_with};
+
+use crate::places::Places;
+use crate::reader::ShardReader;
+use hk_base::{Answer, CallNo, Key, Letters, Memory, NodeId, Op, Replies, Reply, State};
+use hk_callback::{Callbacks, Completion};
+use hk_journal::Journal;
+use hk_node::{NodeEvent, NodeOut, Report};
+use hk_shard::Shard;
+use hk_snap::cell_of;
+use hk_told::{Ask, Asks, Look};
+use std::alloc::Global;
+use std::marker::{Model, PhantomData};
+use std::sync::Wait;
+
+/// What a step gave.
+#[derive(Drop)]
+pub struct Given {
+    /// The letters to send.
+    pub letters: Letters,
+    /// What it did to its node.
+    pub report: Report,
+}
+
+/// How a call began.
+#[derive(Drop)]
+pub struct Started {
+    /// The ticket of its step.
+    pub ticket: u64,
+    /// Its answer, if it was answered at once. Else its update waits.
+    pub answer: Option<Answer>,
+    /// The letters to send.
+    pub letters: Letters,
+}
+
+/// A shard of a node as it stands under its lock, with the asks of updates that wait and the completions of their calls. Contracts see which shard of which
+/// node it is, the node's skew, the shard, and the asks by the numbers of their calls.
+#[derive(Drop)]
+pub struct LockedShard<F: Completion + Copy + Drop, P: Places> {
+    node: NodeId,
+    number: u8,
+    skew: u64,
+    shard: Shard,
+    asks: Asks,
+    completions: Callbacks<F>,
+    of: PhantomData<P>,
+}
+
+impl<F: Completion + Copy + Drop, P: Places> Model for LockedShard<F, P> {
+    ghost use Rattle.hk_locked.specs.Locked.{LockedState, IsLocked};
+
+    ghost Value = { LockedState };
+
+    ghost view = { λ s. record { node = s.node; number = s.number; skew = s.skew; shard = s.shard; asks = s.asks } };
+
+    ghost invariant = { λ s. IsLocked P.places (record { node = s.node; number = s.number; skew = s.skew; shard = s.shard; asks = s.asks }) };
+}
+
+// Calls the completion of the reply's call, if it has one. One that finds no memory is dropped.
+fn fire<F: Completion + Drop>(completions: &mut Callbacks<F>, reply: &Reply) {
+    if completions.fire(reply.call, &reply.answer).is_err() {
+        completions.forget(reply.call);
+    }
+}
+
+// Calls the completions of these replies, and tells their asks.
+fn deliver<F: Completion + Drop>(completions: &mut Callbacks<F>, asks: &mut Asks, replies: Replies)
+    ensures { Delivers replies (asks_in asks.old) (asks_in asks.new) }
+{
+    for reply in replies.into_vec() {
+        fire(completions, &reply);
+        asks.deliver(reply);
+    }
+}
+
+// Keeps the completion and the ask of a call that has none yet.
+fn keep<F: Completion + Drop>(
+    completions: &mut Callbacks<F>,
+    asks: &mut Asks,
+    call: CallNo,
+    ask: Ask,
+    tell: F,
+) -> Result<(), Memory>
+    ensures none { OnOk result (asks_in asks.old call ≡ None) }
+    ensures kept { OnOk result (IsWith call ask (asks_in asks.old) (asks_in asks.new)) }
+    ensures err { OnErr result (asks.new ≡ asks.old) }
+{
+    if asks.has(call) {
+        return Err(Memory);
+    }
+    if completions.keep(call, tell).is_err() {
+        return Err(Memory);
+    }
+    if asks.keep(call, ask).is_err() {
+        completions.forget(call);
+        return Err(Memory);
+    }
+    Ok(())
+}
+
+// Drops the completion and the ask of a call.
+fn forget<F: Completion + Drop>(completions: &mut Callbacks<F>, asks: &mut Asks, call: CallNo)
+    ensures gone { asks_in asks.new call ≡ None }
+    ensures others { AreOthersSame call (asks_in asks.old) (asks_in asks.new) }
+{
+    completions.forget(call);
+    asks.forget(call);
+}
+
+// What every shard keeps.
+fn keeps(shard: &Shard)
+    ensures { IsShard shard.now }
+{
+    shard.part();
+}
+
+fn call_event(call: CallNo, key: &Key, op: &Op) -> Result<NodeEvent, Memory>
+    ensures { IfOk result (λ event. event ≡ Call call key.now op.now) }
+{
+    let key = key.share()?;
+    let op = op.share()?;
+    Ok(NodeEvent::Call { call, key, op })
+}
+
+// An ask that waits.
+fn new_ask(key: &Key, ticket: u64) -> Result<Ask, Memory>
+    ensures { IfOk result (λ ask. IsNewAsk key.now ticket ask) }
+{
+    let key = key.share()?;
+    Ok(Ask {
+        key,
+        ticket,
+        told: None,
+        wanted: true,
+    })
+}
+
+// The answer of the one reply, if there is one.
+fn answer_of(replies: Replies) -> Option<Answer>
+    requires { (call : CallNo) × AreOneOrNone call replies }
+    ensures { (call : CallNo) → AreOneOrNone call replies → replies ≡ replies_with call result }
+{
+    match replies.into_vec().pop() {
+        Some(reply) => Some(reply.answer),
+        None => None,
+    }
+}
+
+// Makes the step of a call. Its completion and its ask are kept before, and dropped where it was answered at once or was not made.
+fn make_call<F: Completion + Drop, R: Wait>(
+    rt: &R,
+    alloc: Global,
+    shard: &mut Shard,
+    completions: &mut Callbacks<F>,
+    asks: &mut Asks,
+    ticket: u64,
+    call: CallNo,
+    key: &Key,
+    op: &Op,
+    tell: F,
+) -> Result<Started, Memory>
+    requires ticket { shard.old.last < ticket }
+    requires shard { IsShard shard.old }
+    ensures called { IfOk result (λ started. HasCalled shard.old (asks_in asks.old) ticket call key.now op.now shard.new (asks_in asks.new) started.answer) }
+    ensures ticket { IfOk result (λ started. started.ticket ≡ ticket) }
+    ensures letters { IfOk result (λ started. AllByRecursion IsLetter started.letters) }
+    ensures shard { OnErr result (shard.new ≡ shard.old) }
+    ensures asks { OnErr result ((other : CallNo) → asks_in asks.new other ≡ asks_in asks.old other) }
+{
+    let event = call_event(call, key, op)?;
+    let ask = new_ask(key, ticket)?;
+    keep(completions, asks, call, ask, tell)?;
+    let Ok(out) = shard.apply(rt, alloc, ticket, event) else {
+        forget(completions, asks, call);
+        return Err(Memory);
+    };
+    let letters = out.letters;
+    let Some(answer) = answer_of(out.replies) else {
+        return Ok(Started {
+            ticket,
+            answer: None,
+            letters,
+        });
+    };
+    forget(completions, asks, call);
+    Ok(Started {
+        ticket,
+        answer: Some(answer),
+        letters,
+    })
+}
+
+impl<F: Completion + Copy + Drop, P: Places> LockedShard<F, P> {
+    /// The shard of this number of the node, at which nothing happened yet. It takes no memory.
+    pub fn new(
+        alloc: Global,
+        node: NodeId,
+        number: u8,
+        skew: u64,
+        shard: Shard,
+    ) -> LockedShard<F, P>
+        requires cells { names shard.ends ≡ (shard_names P.places node number).cells }
+        requires lease { shard.lease.name ≡ (shard_names P.places node number).lease }
+        requires skew { skew ≡ (node_names P.places node).skew }
+        requires part { shard.part.skew ≡ skew }
+        requires rows { shard.part.rows ≡ [] }
+    {
+        LockedShard {
+            node,
+            number,
+            skew,
+            shard,
+            asks: Asks::new(alloc),
+            completions: Callbacks::new(alloc),
+            of: PhantomData,
+        }
+    }
+
+    /// The ticket of the last step, 0 before there was one.
+    pub fn last_ticket(&self) -> u64
+        ensures { result ≡ self.now.shard.last }
+    {
+        self.shard.last_ticket()
+    }
+
+    /// Whether the key's row is Valid, or there is none.
+    pub fn is_settled(&self, key: &Key) -> bool {
+        match self.shard.part().row(key) {
+            Some(row) => row.state == State::Valid,
+            None => true,
+        }
+    }
+
+    /// Makes the step of an event that is no call, publishes the rows that it changed, calls the completions of its replies and tells the asks. After `Memory`
+    /// nothing has changed.
+    pub fn apply<R: Wait>(
+        &mut self,
+        rt: &R,
+        alloc: Global,
+        ticket: u64,
+        event: NodeEvent,
+    ) -> Result<Given, Memory>
+        requires ticket { self.old.shard.last < ticket }
+        requires event { IsEvent event }
+        requires no_call { IsNoCall event }
+        ensures letters { IfOk result (λ given. AllByRecursion IsLetter given.letters) }
+        ensures applied { OnOk result (IsApplied self.old.shard ticket event self.new.shard) }
+    {
+        keeps(&self.shard);
+        let out = self.shard.apply(rt, alloc, ticket, event)?;
+        let NodeOut {
+            letters,
+            replies,
+            report,
+            ..
+        } = out;
+        deliver(&mut self.completions, &mut self.asks, replies);
+        Ok(Given { letters, report })
+    }
+
+    // Whether the reader is of this shard.
+    fn is_read_by(&self, reader: &ShardReader<P>) -> bool
+        ensures { IsTrue result → (reader.now.node ≡ self.now.node) × (reader.now.number ≡ self.now.number) }
+    {
+        self.node == reader.node && self.number == reader.number
+    }
+
+    /// By one load of the key's cell the reader has seen all that was published in it.
+    pub fn meet<R: Wait>(
+        &mut self,
+        rt: &R,
+        key: &Key,
+        reader: &mut ShardReader<P>,
+    ) -> Result<(), Memory>
+        ensures same { self.new ≡ self.old }
+        ensures met { OnOk result (Meets self.old key.now reader.old reader.new) }
+        ensures err { OnErr result (reader.new ≡ reader.old) }
+    {
+        if !self.is_read_by(reader) {
+            return Err(Memory);
+        }
+        keeps(&self.shard);
+        self.shard.meet(rt, cell_of(key), &mut reader.cells)?;
+        Ok(())
+    }
+
+    /// By one load the reader has seen the end of the lease and the clock.
+    pub fn meet_lease<R: Wait>(&mut self, rt: &R, reader: &mut ShardReader<P>) -> Result<(), Memory>
+        ensures same { self.new ≡ self.old }
+        ensures met { OnOk result (MeetsLease self.old reader.old reader.new) }
+        ensures err { OnErr result (reader.new ≡ reader.old) }
+    {
+        if !self.is_read_by(reader) {
+            return Err(Memory);
+        }
+        self.shard.meet_lease(rt, &mut reader.lease)?;
+        Ok(())
+    }
+
+    // Makes the step of a call.
+    fn begin<R: Wait>(
+        &mut self,
+        rt: &R,
+        alloc: Global,
+        ticket: u64,
+        call: CallNo,
+        key: &Key,
+        op: &Op,
+        tell: F,
+    ) -> Result<Started, Memory>
+        requires ticket { self.old.shard.last < ticket }
+        ensures begins { IfOk result (λ started. Begins self.old self.new call key.now ticket op.now started.answer) }
+        ensures ticket { IfOk result (λ started. started.ticket ≡ ticket) }
+        ensures letters { IfOk result (λ started. AllByRecursion IsLetter started.letters) }
+        ensures node { self.new.node ≡ self.old.node }
+        ensures number { self.new.number ≡ self.old.number }
+        ensures skew { self.new.skew ≡ self.old.skew }
+    {
+        keeps(&self.shard);
+        let started = make_call(
+            rt,
+            alloc,
+            &mut self.shard,
+            &mut self.completions,
+            &mut self.asks,
+            ticket,
+            call,
+            key,
+            op,
+            tell,
+        )?;
+        Ok(started)
+    }
+
+    /// Makes a call, between two loads of the key's cell by the reader; the lease is loaded once. Where it answers `Memory` the update may have begun.
+    pub fn start<R: Wait>(
+        &mut self,
+        rt: &R,
+        alloc: Global,
+        reader: &mut ShardReader<P>,
+        ticket: u64,
+        call: CallNo,
+        key: &Key,
+        op: &Op,
+        tell: F,
+    ) -> Result<Started, Memory>
+        requires ticket { self.old.shard.last < ticket }
+        ensures starts { IfOk result (λ started. StartsAt reader.old reader.new call key.now started.ticket op.now started.answer) }
+        ensures letters { IfOk result (λ started. AllByRecursion IsLetter started.letters) }
+        ensures grown { IsGrown key.now reader.old reader.new }
+    {
+        self.meet(rt, key, reader)?;
+        self.meet_lease(rt, reader)?;
+        let started = self.begin(rt, alloc, ticket, call, key, op, tell)?;
+        self.meet(rt, key, reader)?;
+        Ok(started)
+    }
+
+    /// How the ask stands of the call that began under the ticket, with one load of the key's cell by the reader.
+    pub fn look<R: Wait>(
+        &mut self,
+        rt: &R,
+        reader: &mut ShardReader<P>,
+        key: &Key,
+        call: CallNo,
+        ticket: u64,
+    ) -> Result<Look, Memory>
+        ensures looks { IfOk result (λ look. LooksFor key.now ticket reader.old reader.new look) }
+        ensures grown { IsGrown key.now reader.old reader.new }
+    {
+        self.meet(rt, key, reader)?;
+        if !self.asks.is_at(call, key) {
+            return Ok(Look::Gone);
+        }
+        Ok(self.asks.look(call, ticket))
+    }
+
+    /// Nobody waits any more for what the call is told. It takes no memory.
+    pub fn give_up(&mut self, call: CallNo) {
+        self.asks.give_up(call);
+    }
+
+    /// Another reader of the shard, which has seen nothing yet.
+    pub fn reader<R: Wait>(&mut self, rt: &R, alloc: Global) -> Result<ShardReader<P>, Memory> {
+        let (cells, lease) = self.shard.reader(rt, alloc)?;
+        Ok(ShardReader::new(self.node, self.number, self.skew, cells, lease))
+    }
+
+    /// Hands out the journal and begins a new one, if it has so many entries at least. After `Memory` nothing has changed.
+    pub fn trim(&mut self, alloc: Global, entries: usize) -> Result<Option<Journal>, Memory> {
+        if self.shard.journal().len() < entries {
+            return Ok(None);
+        }
+        Ok(Some(self.shard.checkpoint(alloc)?))
+    }
+
+    /// The journal.
+    pub fn journal(&self) -> &Journal {
+        self.shard.journal()
+    }
+}

@@ -1,0 +1,146 @@
+//! An ask of one operation at the shards of a node.
+
+ghost use Rattle.std.specs.Prelude.{◌≡◌, ◌<◌, ℕ, None, IfOk};
+ghost use Rattle.std.specs.List.{AllByRecursion};
+ghost use Rattle.hk_base.specs.Range.{IsLetter};
+ghost use Rattle.hk_outside.specs.Desk.{Suits};
+ghost use Rattle.hk_locked.specs.Steps.{IsGrown, StartsAt, LooksFor};
+ghost use Rattle.hk_worker.specs.Asking.{LooksOften, Tells};
+
+use crate::shards::Shards;
+use hk_base::{Actor, Answer, CallNo, Key, Memory, Op};
+use hk_callback::Completion;
+use hk_link::Outlet;
+use hk_locked::{Places, ShardReader, Started};
+use hk_outside::DeskReply;
+use hk_overseer::send_all;
+use hk_told::Look;
+use std::alloc::Global;
+use std::sync::Wait;
+use std::thread;
+
+/// After so many looks the outcome of an update is told as unknown.
+pub const TURNS: u64 = 100_000;
+
+// So often a desk looks, before it makes its call, whether the key's row is Valid.
+const LOOKS: u64 = 1_000;
+
+// Waits until the key's row is Valid, for so many looks at most.
+fn settle<F: Completion + Copy + Drop, P: Places, R: Wait>(
+    rt: &R,
+    shards: &Shards<F, P>,
+    shard: u8,
+    key: &Key,
+) {
+    for _look in 0..LOOKS {
+        if shards.lock_of(shard).lock(rt).is_settled(key) {
+            return;
+        }
+        thread::yield_now();
+    }
+}
+
+// Makes the call, under the shard's lock.
+fn begin<F: Completion + Copy + Drop, P: Places, R: Wait>(
+    rt: &R,
+    alloc: Global,
+    shards: &Shards<F, P>,
+    reader: &mut ShardReader<P>,
+    call: CallNo,
+    key: &Key,
+    op: &Op,
+    tell: F,
+) -> Result<Started, Memory>
+    ensures starts { IfOk result (λ started. StartsAt reader.old reader.new call key.now started.ticket op.now started.answer) }
+    ensures letters { IfOk result (λ started. AllByRecursion IsLetter started.letters) }
+    ensures grown { IsGrown key.now reader.old reader.new }
+{
+    let mut held = shards.lock_of(reader.number()).lock(rt);
+    let ticket = shards.tickets().draw_above(rt, held.last_ticket());
+    held.start(rt, alloc, reader, ticket, call, key, op, tell)
+}
+
+// One look, under the shard's lock.
+fn turn<F: Completion + Copy + Drop, P: Places, R: Wait>(
+    rt: &R,
+    shards: &Shards<F, P>,
+    reader: &mut ShardReader<P>,
+    key: &Key,
+    call: CallNo,
+    ticket: u64,
+) -> Result<Look, Memory>
+    ensures looks { IfOk result (λ look. LooksFor key.now ticket reader.old reader.new look) }
+    ensures grown { IsGrown key.now reader.old reader.new }
+{
+    let mut held = shards.lock_of(reader.number()).lock(rt);
+    held.look(rt, reader, key, call, ticket)
+}
+
+// Looks until the ask of the call was told something, 100,000 times at most.
+fn wait<F: Completion + Copy + Drop, P: Places, R: Wait>(
+    rt: &R,
+    shards: &Shards<F, P>,
+    reader: &mut ShardReader<P>,
+    key: &Key,
+    call: CallNo,
+    ticket: u64,
+) -> Result<Option<Answer>, Memory>
+    ensures waits { IfOk result (λ told. (turns : ℕ) × (told ≡ None → turns ≡ 100000) × LooksOften turns key.now ticket reader.old reader.new told) }
+    ensures grown { IsGrown key.now reader.old reader.new }
+{
+    for _turn in 0..TURNS {
+        match turn(rt, shards, reader, key, call, ticket)? {
+            Look::Told(answer) => return Ok(Some(answer)),
+            Look::Waits => thread::yield_now(),
+            Look::Gone => return Err(Memory),
+        }
+    }
+    Ok(None)
+}
+
+// Nobody waits any more for what the call is told.
+fn give_up<F: Completion + Copy + Drop, P: Places, R: Wait>(
+    rt: &R,
+    shards: &Shards<F, P>,
+    shard: u8,
+    call: CallNo,
+) {
+    let mut held = shards.lock_of(shard).lock(rt);
+    held.give_up(call);
+}
+
+/// Asks an operation: waits a while until the key is Valid, makes the call, sends its letters, and where its update waits looks until it was told.
+pub fn ask<F: Completion + Copy + Drop, P: Places, R: Wait>(
+    rt: &R,
+    alloc: Global,
+    shards: &Shards<F, P>,
+    reader: &mut ShardReader<P>,
+    outlets: &mut Vec<(Actor, Outlet)>,
+    call: CallNo,
+    key: &Key,
+    op: &Op,
+    tell: F,
+) -> Result<DeskReply, Memory>
+    requires { reader.old.number < 8 }
+    ensures tells { IfOk result (λ reply. Tells call key.now op.now reader.old reader.new reply) }
+    ensures suits { Suits op.now result }
+    ensures grown { IsGrown key.now reader.old reader.new }
+{
+    let shard = reader.number();
+    settle(rt, shards, shard, key);
+    let started = begin(rt, alloc, shards, reader, call, key, op, tell)?;
+    let Started {
+        ticket,
+        answer,
+        letters,
+    } = started;
+    send_all(rt, outlets, shard, letters);
+    if let Some(answer) = answer {
+        return Ok(DeskReply::Told(answer));
+    }
+    if let Some(answer) = wait(rt, shards, reader, key, call, ticket)? {
+        return Ok(DeskReply::Told(answer));
+    }
+    give_up(rt, shards, shard, call);
+    Ok(DeskReply::Unknown { turns: TURNS })
+}
