@@ -1,56 +1,12 @@
 //! What a client sends, what a desk tells, and what is written: whole, and in pieces of one to eight bytes.
 
-ghost use Rattle.std.specs.Prelude.{◌≡◌, ◌≤◌, refl, Some, None};
-
+use crate::pieces::{InTurn, Pieced, SIZES, in_pieces};
 use hk_base::{Answer, Content, Data, Memory, Stamp};
 use hk_conn::{ConnEnd, serve_connection};
-use hk_outside::{
-    Connection, DeskReply, Failed, FakeDesk, MemoryConnection, MemorySink, MemorySource, Sink,
-    Source,
-};
+use hk_outside::{DeskReply, FakeDesk};
 use std::alloc::Global;
 use std::collections::VecDeque;
 use std::process::Abort;
-
-// A connection in memory, whose bytes come in pieces of at most so many.
-#[derive(Drop)]
-struct Pieced {
-    conn: MemoryConnection,
-    most: usize,
-}
-
-impl Source for Pieced {
-    ghost left = { λ p. None };
-
-    ghost faults = { λ p. p.conn.source.faults };
-
-    ghost beside = { λ p. (Some p.conn.sink.sink.bytes.items, p.conn.sink.sink.faults) };
-
-    fn read(&mut self, room: &mut [u8]) -> Result<usize, Failed> {
-        let count = room.len().min(self.most);
-        self.conn.source.read(&mut room[..count])
-    }
-}
-
-impl Sink for Pieced {
-    ghost held = { λ p. Some p.conn.sink.sink.bytes.items };
-
-    ghost faults = { λ p. p.conn.sink.sink.faults };
-
-    ghost beside = { λ p. (None, p.conn.source.faults) };
-
-    fn write(&mut self, piece: &[u8]) -> Result<usize, Failed> {
-        self.conn.sink.write(piece)
-    }
-}
-
-impl Connection for Pieced {
-    ghost read_keeps = { λ p. refl };
-
-    ghost write_keeps = { λ p. refl };
-
-    ghost one_record = { λ p. refl };
-}
 
 // What a desk tells next.
 #[derive(Clone, Copy)]
@@ -114,23 +70,9 @@ struct Served {
     asks: usize,
 }
 
-impl Served {
-    // What was written to the client.
-    fn written(&self) -> &[u8] {
-        self.conn.conn.sink.sink.bytes.as_slice()
-    }
-}
-
 // Serves a connection over a desk that tells these, and is busy then.
-fn serve(rt: &impl Abort, alloc: Global, sent: &[u8], most: usize, tells: &[Tell]) -> Served {
-    let sent = Vec::from_slice(alloc, sent).expect(rt, "room");
-    let mut conn = Pieced {
-        conn: MemoryConnection {
-            source: MemorySource::new(sent, Vec::new(alloc)),
-            sink: MemorySink::new(alloc, Vec::new(alloc)),
-        },
-        most,
-    };
+fn serve(rt: &impl Abort, alloc: Global, conn: Pieced, tells: &[Tell]) -> Served {
+    let mut conn = conn;
     let mut desk = desk_of(rt, alloc, tells);
     let end = serve_connection(alloc, &mut conn, &mut desk, 3);
     let asks = desk.asked.len();
@@ -150,10 +92,11 @@ struct Exchange<'a> {
 // The row holds whole and in pieces.
 fn check(rt: &impl Abort, alloc: Global, row: &Exchange) {
     let name = row.name;
-    for most in [1, 2, 3, 4, 5, 6, 7, 8, 16_384] {
-        let served = serve(rt, alloc, row.sent, most, row.tells);
+    for most in SIZES {
+        let conn = in_pieces(rt, alloc, row.sent, most, &[], &[]);
+        let served = serve(rt, alloc, conn, row.tells);
         assert_eq!(rt;
-            served.written(),
+            served.conn.written(),
             row.written,
             "{name}, {most} bytes at a time"
         );
@@ -333,36 +276,68 @@ fn what_a_desk_does_not_tell_is_told(rt: HostRuntime) {
     );
 }
 
-// Serves a connection in memory of which these reads and writes fail, so that nothing is written. How it ended.
-fn serve_with_faults(
-    rt: &impl Abort,
-    alloc: Global,
-    sent: &[u8],
-    reads: &[u64],
-    writes: &[u64],
-) -> ConnEnd {
-    let sent = Vec::from_slice(alloc, sent).expect(rt, "room");
-    let reads = Vec::from_slice(alloc, reads).expect(rt, "room");
-    let writes = Vec::from_slice(alloc, writes).expect(rt, "room");
-    let mut conn = MemoryConnection {
-        source: MemorySource::new(sent, reads),
-        sink: MemorySink::new(alloc, writes),
-    };
-    let mut desk = desk_of(rt, alloc, &[]);
-    let end = serve_connection(alloc, &mut conn, &mut desk, 3);
-    assert!(rt; conn.sink.sink.bytes.is_empty());
-    end
+#[test]
+fn a_connection_ends_where_a_read_fails_or_gives_nothing(rt: HostRuntime) {
+    let alloc = rt.alloc();
+    let sent = b"set k 7 0 5\r\nhe".as_slice();
+    // The sizes of pieces, and the read that comes behind all that is sent.
+    let rows = [
+        (1, 15),
+        (2, 8),
+        (3, 5),
+        (4, 4),
+        (5, 3),
+        (6, 3),
+        (7, 3),
+        (8, 2),
+        (16_384, 1),
+    ];
+    for (most, last) in rows {
+        let conn = in_pieces(&rt, alloc, sent, most, &[last], &[]);
+        let served = serve(&rt, alloc, conn, &[]);
+        assert_eq!(rt; served.end, ConnEnd::ReadFault, "{most} bytes at a time");
+        assert_eq!(rt; served.conn.written(), b"".as_slice());
+        let conn = in_pieces(&rt, alloc, sent, most, &[], &[]);
+        let served = serve(&rt, alloc, conn, &[]);
+        assert_eq!(rt; served.end, ConnEnd::End, "{most} bytes at a time");
+        assert_eq!(rt; served.conn.written(), b"".as_slice());
+    }
 }
 
+// Of two replies the last write fails. Both are one write where both requests come in one piece.
 #[test]
-fn faults_end_a_connection(rt: HostRuntime) {
+fn a_write_that_fails_leaves_a_front_of_the_replies(rt: HostRuntime) {
     let alloc = rt.alloc();
-    let end = serve_with_faults(&rt, alloc, b"set k 7 0 5\r\nhe", &[1], &[]);
-    assert_eq!(rt; end, ConnEnd::ReadFault);
-    let end = serve_with_faults(&rt, alloc, b"set k 7 0 5\r\nhe", &[], &[]);
+    let sent = b"version\r\nversion\r\n".as_slice();
+    for most in SIZES {
+        let (last, front) = if most < sent.len() {
+            (1, b"VERSION hermes-1\r\n".as_slice())
+        } else {
+            (0, b"".as_slice())
+        };
+        let conn = in_pieces(&rt, alloc, sent, most, &[], &[last]);
+        let served = serve(&rt, alloc, conn, &[]);
+        assert_eq!(rt; served.end, ConnEnd::WriteFault, "{most} bytes at a time");
+        assert_eq!(rt; served.conn.written(), front, "{most} bytes at a time");
+    }
+}
+
+// No clause says when replies are written: this shows it.
+#[test]
+fn replies_are_written_before_more_is_read(rt: HostRuntime) {
+    let alloc = rt.alloc();
+    let sent = b"version\r\nversion\r\nversion\r\n".as_slice();
+    let Pieced { conn, .. } = in_pieces(&rt, alloc, sent, 9, &[], &[]);
+    let mut conn = InTurn {
+        conn,
+        reads: 0,
+        is_late: false,
+    };
+    let mut desk = desk_of(&rt, alloc, &[]);
+    let end = serve_connection(alloc, &mut conn, &mut desk, 3);
     assert_eq!(rt; end, ConnEnd::End);
-    let end = serve_with_faults(&rt, alloc, b"version\r\nversion\r\n", &[], &[0]);
-    assert_eq!(rt; end, ConnEnd::WriteFault);
+    assert_eq!(rt; conn.reads, 4);
+    assert!(rt; !conn.is_late);
 }
 
 fn line_of(rt: &impl Abort, alloc: Global, length: usize, end: &[u8]) -> Vec<u8> {
@@ -376,14 +351,18 @@ fn line_of(rt: &impl Abort, alloc: Global, length: usize, end: &[u8]) -> Vec<u8>
 fn a_line_has_65536_bytes_at_most(rt: HostRuntime) {
     let alloc = rt.alloc();
     let long = line_of(&rt, alloc, 65_538, b"");
-    let served = serve(&rt, alloc, long.as_slice(), 1_000, &[]);
-    assert_eq!(rt; served.end, ConnEnd::TooLong);
-    assert_eq!(rt;
-        served.written(),
-        b"CLIENT_ERROR line too long\r\n".as_slice()
-    );
     let fits = line_of(&rt, alloc, 65_536, b"\r\n");
-    let served = serve(&rt, alloc, fits.as_slice(), 1_000, &[]);
-    assert_eq!(rt; served.end, ConnEnd::End);
-    assert_eq!(rt; served.written(), b"ERROR\r\n".as_slice());
+    for most in [8, 1_000, 16_384] {
+        let conn = in_pieces(&rt, alloc, long.as_slice(), most, &[], &[]);
+        let served = serve(&rt, alloc, conn, &[]);
+        assert_eq!(rt; served.end, ConnEnd::TooLong, "{most} bytes at a time");
+        assert_eq!(rt;
+            served.conn.written(),
+            b"CLIENT_ERROR line too long\r\n".as_slice()
+        );
+        let conn = in_pieces(&rt, alloc, fits.as_slice(), most, &[], &[]);
+        let served = serve(&rt, alloc, conn, &[]);
+        assert_eq!(rt; served.end, ConnEnd::End, "{most} bytes at a time");
+        assert_eq!(rt; served.conn.written(), b"ERROR\r\n".as_slice());
+    }
 }

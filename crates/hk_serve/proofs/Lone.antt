@@ -1,11 +1,11 @@
 -- The only member of a view answers at once.
-use Rattle.std.proofs.Common.{◌≡◌, ℕ, List, [], ◌∷◌, map, ◌+◌, ◌==◌, Bool, true, false, Option, Some, None, refl, sym, ap, subst, ◌∙◌, ⊎_elim}
+use Rattle.std.proofs.Common.{◌≡◌, ◌≤◌, ℕ, List, [], ◌∷◌, map, ◌+◌, ◌==◌, Bool, true, false, Option, Some, None, refl, sym, ap, subst, ◌∙◌, ⊎_elim}
 use Rattle.std.proofs.lemmas.Bool.{false≢true}
-use Rattle.std.specs.Prelude.{nat_lt, ◌||◌}
+use Rattle.std.proofs.Math.Nat.{max-eq_left}
+use Rattle.std.specs.Prelude.{nat_lt}
 use Rattle.std.proofs.lemmas.Bool.Decides.{eqb_tells}
 use Rattle.hk_base.specs.declared.stamp.Stamp.{Stamp}
 use Rattle.hk_base.specs.declared.stamp.NodeId.{NodeId}
-use Rattle.hk_base.specs.declared.view.View.{View}
 use Rattle.hk_base.specs.declared.call.CallNo.{CallNo}
 use Rattle.hk_base.specs.declared.call.Content.{Content}
 use Rattle.hk_base.specs.declared.call.State.{State}
@@ -22,14 +22,14 @@ use Rattle.hk_outside.proofs.Suited.{suited}
 use Rattle.hk_key.specs.declared.row.Pending.{Pending}
 use Rattle.hk_key.specs.declared.row.Row.{Row}
 use Rattle.hk_key.specs.Notes.{all_noted}
-use Rattle.hk_key.specs.Table.{Done, begin, completed_at, completed, started_at, unnoted}
+use Rattle.hk_key.specs.Table.{completed_at, started_at}
 use Rattle.hk_node.specs.declared.event.NodeEvent.TheVariants.{Call}
 use Rattle.hk_node.specs.Node.{NodeState, members_in, members_of}
 use Rattle.hk_node.specs.Rows.{row_at}
-use Rattle.hk_node.specs.Stepped.{Stepped, row_step, told_of, replies_of}
+use Rattle.hk_node.specs.Stepped.{Stepped, told_of, replies_of}
 use Rattle.hk_node.specs.Calls.{kind_of, next_stamp, register_in, at_limit, at_turn, at_state, at_lease, lease_end}
 use Rattle.hk_node.specs.Steps.{node_step}
-use Rattle.hk_serve.specs.Asking.{IsLone, IsOneReply, IsTold, LoneAnswersAtOnce, StaysLone, ticked}
+use Rattle.hk_serve.specs.Lone.{IsLone, IsOneReply, IsTold, LoneAnswersAtOnce, StaysLone, ticked, within}
 
 -- it is answered alone, by what suits the operation, and the node and its view stay
 pub record IsAnswered (node : NodeState) (call : CallNo) (key : List ℕ) (op : Op) (stepped : Stepped) : Type 0 where
@@ -38,6 +38,7 @@ pub record IsAnswered (node : NodeState) (call : CallNo) (key : List ℕ) (op : 
   pub suits : answers op answer ≡ true
   pub id : stepped.node.id ≡ node.id
   pub view : stepped.node.view ≡ node.view
+  pub skew : stepped.node.skew ≡ node.skew
 
 -- a number is itself
 same_number : (n : ℕ) → (n == n) ≡ true
@@ -78,28 +79,29 @@ changing_exhausts Delete register s e = refl
 
 module _ (node : NodeState) (lone : IsLone node) (call : CallNo) (key : List ℕ) (op : Op) where
   limit : (s : Option Stamp) (row : Row) → (act op (register_in row) 0).changed ≡ true → IsAnswered node call key op (at_limit s node call key op row)
-  limit None row e = record { answer = Exhausted row.stamp; told = refl; suits = changing_exhausts op (register_in row) row.stamp e; id = refl; view = refl }
+  limit None row e = record { answer = Exhausted row.stamp; told = refl; suits = changing_exhausts op (register_in row) row.stamp e; id = refl; view = refl; skew = refl }
   limit (Some s) row e = record {
     answer = (act op (register_in row) (tag_of s)).answer;
     told = ap (told_of key) (begun_reply _ _ _ (lone_noted node.id (members_of node) lone));
     suits = suited op (register_in row) (tag_of s);
     id = refl;
     view = refl;
+    skew = refl;
   }
 
   turn : (changed : Bool) (row : Row) → (act op (register_in row) 0).changed ≡ changed → IsAnswered node call key op (at_turn changed node call key op row)
-  turn false row e = record { answer = _; told = refl; suits = suited op (register_in row) 0; id = refl; view = refl }
+  turn false row e = record { answer = _; told = refl; suits = suited op (register_in row) 0; id = refl; view = refl; skew = refl }
   turn true row e = limit (next_stamp (kind_of op) row.stamp node.id) row e
 
   state : (s : State) (row : Row) → IsAnswered node call key op (at_state s node call key op row)
   state Valid row = turn (act op (register_in row) 0).changed row refl
-  state Invalid row = record { answer = _; told = refl; suits = refl; id = refl; view = refl }
-  state Writing row = record { answer = _; told = refl; suits = refl; id = refl; view = refl }
-  state Replay row = record { answer = _; told = refl; suits = refl; id = refl; view = refl }
-  state Trans row = record { answer = _; told = refl; suits = refl; id = refl; view = refl }
+  state Invalid row = record { answer = _; told = refl; suits = refl; id = refl; view = refl; skew = refl }
+  state Writing row = record { answer = _; told = refl; suits = refl; id = refl; view = refl; skew = refl }
+  state Replay row = record { answer = _; told = refl; suits = refl; id = refl; view = refl; skew = refl }
+  state Trans row = record { answer = _; told = refl; suits = refl; id = refl; view = refl; skew = refl }
 
   lease : (over : Bool) → IsAnswered node call key op (at_lease over node call key op)
-  lease true = record { answer = _; told = refl; suits = refl; id = refl; view = refl }
+  lease true = record { answer = _; told = refl; suits = refl; id = refl; view = refl; skew = refl }
   lease false = state (row_at key node.rows).state (row_at key node.rows)
 
   pub answered_lone : IsAnswered node call key op (node_step node (Call call key op))
@@ -138,9 +140,20 @@ told_shared node lone call key key' op op' k o replies answer number all one =
     let with_key : replies ≡ replies_of (node_step node (Call call key op)) = subst (λ (x : List ℕ). replies ≡ replies_of (node_step node (Call call x op))) k with_op in
     told_is node lone call key op replies answer number with_key one
 
--- once the clock was set and the call made, the node is still the only member
+-- once the clock was set and the call made, the node is still the only member, and has its skew
+pub ticked_lone : (node set : NodeState) (reading : ℕ) → IsLone node → set ≡ ticked reading node → IsLone set
+ticked_lone node set reading lone clock = subst IsLone (sym clock) lone
+
 pub lone_after : (node set made : NodeState) (reading : ℕ) (call : CallNo) (key : List ℕ) (op : Op) → IsLone node → set ≡ ticked reading node →
     made ≡ (node_step set (Call call key op)).node → IsLone made
 lone_after node set made reading call key op lone clock step =
-    let still : IsLone set = subst IsLone (sym clock) lone in
-    subst IsLone (sym step) (stays_lone set call key op still)
+    subst IsLone (sym step) (stays_lone set call key op (ticked_lone node set reading lone clock))
+
+pub skew_after : (node set made : NodeState) (reading : ℕ) (call : CallNo) (key : List ℕ) (op : Op) → IsLone node → set ≡ ticked reading node →
+    made ≡ (node_step set (Call call key op)).node → made.skew ≡ node.skew
+skew_after node set made reading call key op lone clock step =
+    ap (λ (n : NodeState). n.skew) step ∙ ((answered_lone set (ticked_lone node set reading lone clock) call key op).skew ∙ ap (λ (n : NodeState). n.skew) clock)
+
+-- a clock that reads as much stays
+pub tick_idle : (reading : ℕ) (node : NodeState) → within reading ≤ node.clock → node ≡ ticked reading node
+tick_idle reading node reads = ap (λ (c : ℕ). record node { clock = c }) (sym (max-eq_left reads))

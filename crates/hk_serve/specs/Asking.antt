@@ -1,69 +1,68 @@
--- A desk over a node that is the only member of its group.
-use Rattle.std.specs.Prelude.{◌≡◌, ◌≤◌, ◌<◌, ℕ, ◌+◌, ◌-◌, ◌^◌, List, [], ◌∷◌, min, max, Option, Some, None, IfSome, Result, Ok, Err}
-use Rattle.hk_base.specs.declared.time.TheConstants.{MAX_TIME}
-use Rattle.hk_base.specs.declared.stamp.NodeId.{NodeId}
-use Rattle.hk_base.specs.declared.view.View.{View}
-use Rattle.hk_base.specs.declared.call.CallNo.{CallNo}
+-- What a desk over the shards of a node does with an ask.
+use Rattle.std.specs.Prelude.{◌≡◌, ◌⊎◌, ◌≤◌, ℕ, ◌+◌, ◌*◌, List, map, length, slice_set, slice_index_or, Option, IfSome, Result, Ok, Err}
+use Rattle.std.specs.List.{AllByRecursion}
 use Rattle.hk_base.specs.declared.call.Op.{Op}
+use Rattle.hk_base.specs.declared.call.Op.TheVariants.{Read, Write, Cas, Incr, Decr, Add, Replace, Delete}
 use Rattle.hk_base.specs.declared.call.Answer.{Answer}
-use Rattle.hk_base.specs.declared.call.Reply.{Reply}
 use Rattle.hk_outside.specs.declared.desk.DeskReply.{DeskReply}
 use Rattle.hk_outside.specs.declared.desk.DeskReply.TheVariants.{Told, Unknown, Spent}
-use Rattle.hk_node.specs.declared.event.NodeEvent.TheVariants.{Call}
-use Rattle.hk_node.specs.Made.{founder}
-use Rattle.hk_node.specs.Node.{NodeState, members_of}
-use Rattle.hk_node.specs.Stepped.{Stepped}
-use Rattle.hk_node.specs.Steps.{node_step, ticks}
+use Rattle.hk_node.specs.Node.{NodeState}
+use Rattle.hk_shard.specs.Shard.{shard_of}
+use Rattle.hk_serve.specs.declared.desk_shard.DeskShard.{DeskShard}
+use Rattle.hk_serve.specs.declared.desk_shard.TheConstants.{MAX_CALLS}
+use Rattle.hk_serve.specs.Lone.{IsTold, IsReadOf, lone_founder, ticked, call_step}
 
--- node 0 is the founder of a group that has no other member and no managers; its lease is never over
-abbrev pub lone_founder : ℕ → NodeState
-lone_founder skew = founder (record { 0 = 0 }) (record { epoch = 1; members = record { 0 = 0 } ∷ []; next = 1 }) MAX_TIME skew 0
+-- the node as each shard has it
+abbrev pub nodes_of : List DeskShard → List NodeState
+nodes_of shards = map (λ s. s.shard.part) shards
 
--- the node is the only member of its view
-abbrev pub IsLone : NodeState → Type 0
-IsLone node = members_of node ≡ node.id ∷ []
+abbrev pub node_at : List NodeState → ℕ → NodeState
+node_at nodes shard = slice_index_or nodes shard (lone_founder 0)
 
--- a step tells this answer of this call, and nothing else
-abbrev pub IsTold : List ℕ → CallNo → Answer → Stepped → Type 0
-IsTold key call answer stepped = stepped.told ≡ (key, record { call = call; answer = answer }) ∷ []
+-- There are eight shards. The nth call has the tickets 2n - 1 and 2n.
+pub record AreShards (calls : ℕ) (shards : List DeskShard) : Type 0 where
+  pub eight : length shards ≡ 8
+  pub tickets : AllByRecursion (λ s. s.shard.last ≤ 2 * calls) shards
 
--- the only member of a view answers a call in the step that makes it
-abbrev pub LoneAnswersAtOnce : Type 0
-LoneAnswersAtOnce = (node : NodeState) (call : CallNo) (key : List ℕ) (op : Op) → IsLone node →
-    (answer : Answer) × IsTold key call answer (node_step node (Call call key op))
+-- how many bytes of data an operation brings
+abbrev pub data_in : Op → ℕ
+data_in Read = 0
+data_in (Write content) = length content.bytes
+data_in (Cas tag content) = length content.bytes
+data_in (Incr by) = 0
+data_in (Decr by) = 0
+data_in (Add content) = length content.bytes
+data_in (Replace content) = length content.bytes
+data_in Delete = 0
 
--- and stays the only one
-abbrev pub StaysLone : Type 0
-StaysLone = (node : NodeState) (call : CallNo) (key : List ℕ) (op : Op) → IsLone node → IsLone (node_step node (Call call key op)).node
+-- a read that is told what the node answers to each read of the key, once its clock was set to the reading; nothing is begun
+pub record IsShown (reading : ℕ) (node : NodeState) (calls : ℕ) (key : List ℕ) (op : Op) (answer : Answer) (node' : NodeState) (calls' : ℕ) : Type 0 where
+  pub read : op ≡ Read
+  pub told : IsReadOf (ticked reading node) key answer
+  pub stays : node' ≡ node
+  pub uncounted : calls' ≡ calls
 
-abbrev pub IsOneReply : List Reply → Type 0
-IsOneReply replies = (reply : Reply) × (replies ≡ reply ∷ [])
+-- the next call is told what the node answers to it
+pub record IsCalled (reading : ℕ) (node : NodeState) (calls : ℕ) (key : List ℕ) (op : Op) (answer : Answer) (node' : NodeState) (calls' : ℕ) : Type 0 where
+  pub told : IsTold key (record { 0 = calls' }) answer (call_step reading node calls' key op)
+  pub leaves : node' ≡ (call_step reading node calls' key op).node
+  pub counted : calls' ≡ calls + 1
+  pub limit : calls' ≤ MAX_CALLS
 
--- a reading of a clock as a node takes it: 0 counts as 1, and what is above the limit as the limit
-abbrev pub within : ℕ → ℕ
-within reading = min (max reading 1) MAX_TIME
-
--- the node once its clock was set to the reading, and the step of its next call then
-abbrev pub ticked : ℕ → NodeState → NodeState
-ticked reading node = (ticks node (within reading)).node
-
-abbrev pub call_step : ℕ → NodeState → ℕ → List ℕ → Op → Stepped
-call_step reading node calls key op = node_step (ticked reading node) (Call (record { 0 = calls + 1 }) key op)
-
--- What a desk did with an ask, whose clock read this and that had made so many calls.
+-- What became of an ask at the node of its key's shard, where the clock read this and so many calls were made.
 abbrev pub AsksOnce : {E : Type 0} → ℕ → NodeState → ℕ → List ℕ → Op → NodeState → ℕ → Result DeskReply E → Type 0
--- the answer of the node to the next call is told
 AsksOnce reading node calls key op node' calls' (Ok (Told answer)) =
-    IsTold key (record { 0 = calls + 1 }) answer (call_step reading node calls key op) × (node' ≡ (call_step reading node calls key op).node)
-    × (calls' ≡ calls + 1) × (calls' < 2 ^ 64)
--- all calls were made, as many as there are numbers for: nothing is begun
-AsksOnce reading node calls key op node' calls' (Ok (Spent asks)) = (calls ≡ 2 ^ 64 - 1) × (asks ≡ calls) × (calls' ≡ calls) × (node' ≡ ticked reading node)
+    IsShown reading node calls key op answer node' calls' ⊎ IsCalled reading node calls key op answer node' calls'
+-- all calls were made: nothing is begun
+AsksOnce reading node calls key op node' calls' (Ok (Spent asks)) = (calls ≡ MAX_CALLS) × (asks ≡ calls) × (calls' ≡ calls) × (node' ≡ node)
 AsksOnce reading node calls key op node' calls' (Ok (Unknown turns)) = ⊥
--- no memory was found: the clock alone was set
-AsksOnce reading node calls key op node' calls' (Err e) = (calls' ≡ calls) × (node' ≡ ticked reading node)
+-- no memory was found: the node is as it was, or its clock alone was set, and at most a number is lost
+AsksOnce reading node calls key op node' calls' (Err e) = ((node' ≡ node) ⊎ (node' ≡ ticked reading node)) × ((calls' ≡ calls) ⊎ (calls' ≡ calls + 1))
 
--- The same at some reading, which is the one that the clock tells, where it tells it.
-pub record AsksAt {E : Type 0} (told : Option ℕ) (node : NodeState) (calls : ℕ) (key : List ℕ) (op : Op) (node' : NodeState) (calls' : ℕ) (result : Result DeskReply E) : Type 0 where
+-- The same at some reading, which is the one that the clock tells, where it tells it. The nodes of the other shards are as before.
+pub record AsksAt {E : Type 0} (told : Option ℕ) (nodes : List NodeState) (calls : ℕ) (key : List ℕ) (op : Op) (nodes' : List NodeState) (calls' : ℕ) (result : Result DeskReply E) : Type 0 where
   pub reading : ℕ
   pub read : IfSome told (λ time. reading ≡ time)
-  pub asks : AsksOnce reading node calls key op node' calls' result
+  pub node' : NodeState
+  pub others : nodes' ≡ slice_set nodes (shard_of key) node'
+  pub asks : AsksOnce reading (node_at nodes (shard_of key)) calls key op node' calls' result

@@ -1,2 +1,4 @@
+pub mod Lone
 pub mod Asking
+pub mod Showing
 pub mod Serving

@@ -1,128 +1,151 @@
-//! A desk over one node.
+//! A desk over the shards of one node.
 
-ghost use Rattle.std.specs.Prelude.{◌≡◌, ◌∷◌, ◌≤◌, ◌<◌, ◌+◌, ◌^◌, [], true, None, IfOk, OnOk, OnErr};
+ghost use Rattle.std.specs.Prelude.{◌≡◌, ◌⊎◌, ◌≤◌, ◌<◌, ◌+◌, replicate, slice_set, true, None, IfOk, OnOk, OnErr};
+ghost use Rattle.std.specs.Option.{IfSome};
+ghost use Rattle.std.proofs.Props.{props};
 ghost use Rattle.hk_base.specs.declared.time.TheConstants.{MAX_TIME};
-ghost use Rattle.hk_base.specs.declared.call.CallNo.{CallNo};
+ghost use Rattle.hk_base.specs.declared.call.Op.TheVariants.{Read};
 ghost use Rattle.hk_outside.specs.Desk.{Suits, answers};
-ghost use Rattle.hk_node.specs.declared.event.NodeEvent.TheVariants.{Call};
-ghost use Rattle.hk_node.specs.Steps.{node_step};
-ghost use Rattle.hk_serve.specs.Asking.{AsksAt, IsLone, IsOneReply, IsTold, lone_founder, ticked, within};
+ghost use Rattle.hk_serve.specs.declared.desk_shard.TheConstants.{MAX_CALLS};
+ghost use Rattle.hk_serve.specs.Lone.{IsReadOf, IsTold, call_step, lone_founder, ticked};
+ghost use Rattle.hk_shard.specs.Shard.{shard_of};
+ghost use Rattle.hk_serve.specs.Asking.{AsksAt, AreShards, node_at, nodes_of};
 
-use hk_base::{Answer, CallNo, Key, MAX_TIME, Members, Memory, NodeId, Op, Replies, View};
-use hk_node::{Node, NodeEvent};
+use crate::desk_shard::{DeskShard, MAX_CALLS};
+use hk_base::{Answer, Key, MAX_TIME, Memory, Op};
 use hk_outside::{Clock, Desk, DeskReply};
+use hk_shard::{SHARDS, shard_of};
 use std::alloc::Global;
-use std::sync::Arc;
+use std::sync::{Arc, Wait};
 
-/// A desk over a node that is the only member of its group. Each ask is a call of its own at the node, once the node's
-/// clock was set; the calls are numbered from 1.
+/// A desk over the eight shards of a node, each of which is a group of its own, with this node as its only member. An ask goes to the
+/// shard of its key. A read is told from what the shard shows, if that can be; each other ask is a call of the shard, once its clock
+/// was set. The calls are numbered from 1 over all shards.
 #[derive(Drop)]
-pub struct FounderDesk<C: Clock + Send + Sync + Drop + 'static> {
+pub struct FounderDesk<C: Clock + Send + Sync + Drop + 'static, R: Wait + Copy + Drop> {
+    rt: R,
     alloc: Global,
     clock: Arc<C>,
-    pub node: Node,
-    /// How many calls were made.
+    pub shards: Vec<DeskShard>,
+    /// How many calls were made, with those that found no memory.
     pub calls: u64,
-    ghost lone: { IsLone node },
+    ghost kept: { AreShards calls shards.items } by { Prim.hlevel props },
+    ghost numbers: { calls ≤ MAX_CALLS },
 }
 
-// A reading, as a node takes it.
-fn within(reading: u64) -> u64
-    ensures exact { result ≡ within reading }
-    ensures limit { result ≤ MAX_TIME }
+// The shards of a new node.
+fn new_shards<R: Wait>(rt: &R, alloc: Global, skew: u64) -> Result<Vec<DeskShard>, Memory>
+    requires { skew ≤ MAX_TIME }
+    ensures nodes { IfOk result (λ shards. nodes_of shards.items ≡ replicate 8 (lone_founder skew)) }
+    ensures kept { IfOk result (λ shards. AreShards 0 shards.items) }
 {
-    reading.max(1).min(MAX_TIME)
+    let mut shards = Vec::new(alloc);
+    for _shard in 0..SHARDS {
+        shards.push(DeskShard::new(rt, alloc, skew)?)?;
+    }
+    Ok(shards)
 }
 
-// The view that has one member, node 0.
-fn first_view(alloc: Global) -> Result<View, Memory>
-    ensures { IfOk result (λ view. view ≡ record { epoch = 1; members = record { 0 = 0 } ∷ []; next = 1 }) }
+// Answers a read from what the key's shard shows. None where the operation is no read, or the shard itself has to be asked.
+fn read<R: Wait>(
+    rt: &R,
+    alloc: Global,
+    shards: &mut Vec<DeskShard>,
+    calls: u64,
+    reading: u64,
+    key: &Key,
+    op: &Op,
+) -> Result<Option<Answer>, Memory>
+    requires { AreShards calls shards.old.items }
+    ensures kept { AreShards calls shards.new.items }
+    ensures nodes { nodes_of shards.new.items ≡ nodes_of shards.old.items }
+    ensures read { IfOk result (λ told. IfSome told (λ answer. op.now ≡ Read)) }
+    ensures told { IfOk result (λ told. IfSome told (λ answer. IsReadOf (ticked reading (node_at (nodes_of shards.old.items) (shard_of key.now))) key.now answer)) }
+    ensures suits { IfOk result (λ told. IfSome told (λ answer. answers op.now answer ≡ true)) }
 {
-    let mut members = Members::new(alloc);
-    members.push(NodeId(0))?;
-    Ok(View {
-        epoch: 1,
-        members,
-        next: 1,
-    })
-}
-
-// The answer of the one reply.
-fn answer_of(replies: Replies) -> Answer
-    requires { IsOneReply replies }
-    ensures { (call : CallNo) × (replies ≡ record { call = call; answer = result } ∷ []) }
-{
-    match replies.into_vec().pop() {
-        Some(reply) => reply.answer,
-        None => unreachable!(),
+    match op {
+        Op::Read => shards[usize::from(shard_of(key))].read(rt, alloc, reading, key),
+        _ => Ok(None),
     }
 }
 
-// Sets the node's clock to the reading. It takes no memory.
-fn set_clock(alloc: Global, node: &mut Node, reading: u64)
-    ensures { node.new ≡ ticked reading node.old }
-{
-    let event = NodeEvent::Tick {
-        now: within(reading),
-    };
-    let Ok(_) = node.step(alloc, &event) else {
-        unreachable!()
-    };
-}
-
-// Makes the call, whose number is the next, and tells its answer. Where no memory is found, the node is as it was.
-fn call(alloc: Global, node: &mut Node, calls: u64, key: &Key, op: &Op) -> Result<Answer, Memory>
-    requires lone { IsLone node.old }
-    requires numbers { calls + 1 < 2 ^ 64 }
-    ensures told { IfOk result (λ answer. IsTold key.now (record { 0 = calls + 1 }) answer (node_step node.old (Call (record { 0 = calls + 1 }) key.now op.now))) }
+// Makes the next call, at the key's shard, and tells its answer.
+fn call<R: Wait>(
+    rt: &R,
+    alloc: Global,
+    shards: &mut Vec<DeskShard>,
+    calls: u64,
+    reading: u64,
+    key: &Key,
+    op: &Op,
+) -> Result<Answer, Memory>
+    requires kept { AreShards calls shards.old.items }
+    requires numbers { calls < MAX_CALLS }
+    ensures kept { AreShards (calls + 1) shards.new.items }
+    ensures told { IfOk result (λ answer. IsTold key.now (record { 0 = calls + 1 }) answer (call_step reading (node_at (nodes_of shards.old.items) (shard_of key.now)) (calls + 1) key.now op.now)) }
     ensures suits { IfOk result (λ answer. answers op.now answer ≡ true) }
-    ensures node { OnOk result (node.new ≡ (node_step node.old (Call (record { 0 = calls + 1 }) key.now op.now)).node) }
-    ensures err { OnErr result (node.new ≡ node.old) }
+    ensures nodes { OnOk result (nodes_of shards.new.items ≡ slice_set (nodes_of shards.old.items) (shard_of key.now)
+        (call_step reading (node_at (nodes_of shards.old.items) (shard_of key.now)) (calls + 1) key.now op.now).node) }
+    ensures err { OnErr result ((nodes_of shards.new.items ≡ nodes_of shards.old.items)
+        ⊎ (nodes_of shards.new.items ≡ slice_set (nodes_of shards.old.items) (shard_of key.now) (ticked reading (node_at (nodes_of shards.old.items) (shard_of key.now))))) }
 {
-    let event = NodeEvent::Call {
-        call: CallNo(calls + 1),
-        key: key.share()?,
-        op: op.share()?,
-    };
-    let out = node.step(alloc, &event)?;
-    Ok(answer_of(out.replies))
+    shards[usize::from(shard_of(key))].call(rt, alloc, reading, calls + 1, key, op)
 }
 
-impl<C: Clock + Send + Sync + Drop + 'static> FounderDesk<C> {
+impl<C: Clock + Send + Sync + Drop + 'static, R: Wait + Copy + Drop> FounderDesk<C, R> {
     /// The desk of a new node that has a lease to the limit of clocks. Other clocks differ from this one by `skew`
     /// milliseconds at most.
-    pub fn new(alloc: Global, clock: Arc<C>, skew: u64) -> Result<FounderDesk<C>, Memory>
+    pub fn new(rt: R, alloc: Global, clock: Arc<C>, skew: u64) -> Result<FounderDesk<C, R>, Memory>
         requires { skew ≤ MAX_TIME }
-        ensures node { IfOk result (λ desk. desk.node ≡ lone_founder skew) }
+        ensures nodes { IfOk result (λ desk. nodes_of desk.shards.items ≡ replicate 8 (lone_founder skew)) }
         ensures calls { IfOk result (λ desk. desk.calls ≡ 0) }
     {
-        let view = first_view(alloc)?;
-        let node = Node::founder(alloc, NodeId(0), view, MAX_TIME, skew, 0)?;
+        let shards = new_shards(&rt, alloc, skew)?;
         Ok(FounderDesk {
+            rt,
             alloc,
             clock,
-            node,
+            shards,
             calls: 0,
         })
     }
 }
 
-impl<C: Clock + Send + Sync + Drop + 'static> Desk for FounderDesk<C> {
+impl<C: Clock + Send + Sync + Drop + 'static, R: Wait + Copy + Drop> Desk for FounderDesk<C, R> {
     ghost asks = { λ desk. None };
 
-    /// What is told is the answer of the node to the next call, once its clock was set to the reading. Where no memory
-    /// is found, the clock alone was set.
+    /// What is told is the answer of the key's shard, once its clock was set to the reading, to a read that changes nothing, or to the
+    /// next call. Where no memory is found, at most the clock was set, and a number is lost.
     fn ask(&mut self, key: &Key, op: &Op) -> Result<DeskReply, Memory>
         ensures suits { Suits op.now result }
-        ensures told { AsksAt (C.reading self.old.clock.value) self.old.node self.old.calls key.now op.now self.new.node self.new.calls result }
+        ensures told { AsksAt (C.reading self.old.clock.value) (nodes_of self.old.shards.items) self.old.calls key.now op.now (nodes_of self.new.shards.items) self.new.calls result }
     {
         let reading = self.clock.now();
-        set_clock(self.alloc, &mut self.node, reading);
-        if self.calls == u64::MAX {
+        let shown = read(
+            &self.rt,
+            self.alloc,
+            &mut self.shards,
+            self.calls,
+            reading,
+            key,
+            op,
+        )?;
+        if let Some(answer) = shown {
+            return Ok(DeskReply::Told(answer));
+        }
+        if self.calls == MAX_CALLS {
             return Ok(DeskReply::Spent { asks: self.calls });
         }
-        let answer = call(self.alloc, &mut self.node, self.calls, key, op)?;
+        let called = call(
+            &self.rt,
+            self.alloc,
+            &mut self.shards,
+            self.calls,
+            reading,
+            key,
+            op,
+        );
         self.calls += 1;
-        Ok(DeskReply::Told(answer))
+        Ok(DeskReply::Told(called?))
     }
 }

@@ -9,7 +9,7 @@ use crate::desk::FounderDesk;
 use hk_conn::serve_connection;
 use hk_outside::{Clock, Connection, Doors, Status};
 use std::alloc::Global;
-use std::sync::Arc;
+use std::sync::{Arc, Wait};
 
 // How often one key of one request is asked, while it is busy.
 const PATIENCE: u32 = 64;
@@ -26,20 +26,21 @@ pub struct ServeOptions {
 }
 
 // Serves one connection, to its end.
-fn serve_one<C: Clock + Send + Sync + Drop + 'static, N: Connection + Drop>(
+fn serve_one<C: Clock + Send + Sync + Drop + 'static, R: Wait + Copy + Drop, N: Connection + Drop>(
     alloc: Global,
     mut conn: N,
-    desk: &mut FounderDesk<C>,
+    desk: &mut FounderDesk<C, R>,
 ) {
     serve_connection(alloc, &mut conn, desk, PATIENCE);
 }
 
-/// Serves connections one after the other, each to its end, at one new node.
+/// Serves connections one after the other, each to its end, at the shards of one new node.
 ///
-/// Done: so many connections were served as the options say, or no more came. Memory: there was none to make the node.
+/// Done: so many connections were served as the options say, or no more came. Memory: there was none to make the shards.
 /// DoorFault: the port could not be opened, or the next connection could not be taken; those before it were served.
 /// However a connection ends, the next one is served.
-pub fn serve<C: Clock + Send + Sync + Drop + 'static, D: Doors>(
+pub fn serve<C: Clock + Send + Sync + Drop + 'static, D: Doors, R: Wait + Copy + Drop>(
+    rt: R,
     alloc: Global,
     clock: Arc<C>,
     doors: &mut D,
@@ -51,7 +52,7 @@ pub fn serve<C: Clock + Send + Sync + Drop + 'static, D: Doors>(
     ensures done { result ≡ Status.Done → HasServed (D.left doors.old) (D.left doors.new) options.now.conns }
     ensures door_fault { result ≡ Status.DoorFault → Rose (D.faults doors.old) (D.faults doors.new) }
 {
-    let Ok(mut desk) = FounderDesk::new(alloc, clock, options.skew) else {
+    let Ok(mut desk) = FounderDesk::new(rt, alloc, clock, options.skew) else {
         return Status::Memory;
     };
     if doors.open(options.port).is_err() {

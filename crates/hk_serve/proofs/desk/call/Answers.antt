@@ -1,12 +1,26 @@
-use Rattle.std.proofs.Common.{◌+◌}
-use Rattle.hk_serve.proofs.Lone.{one_reply, told_shared}
+use Rattle.std.proofs.Common.{◌<◌, ◌+◌, inl, inr, ⊎_elim, ◌∙◌, arith}
+use Rattle.std.proofs.lemmas.Result.{on_ok_weaker, on_err_weaker}
+use Rattle.hk_node.specs.Node.{NodeState}
+use Rattle.hk_shard.specs.Shard.{shard_of}
+use Rattle.hk_serve.specs.Lone.{call_step, ticked}
+use Rattle.hk_serve.proofs.Shards.{called_at, same_at}
 use Rattle.hk_serve.proofs.desk.call.Goals as goal
 
-pub answer_of-requires : goal.answer_of-requires
-answer_of-requires c = one_reply c.args.node.now c.requires.lone (record { 0 = c.args.calls + 1 }) c.in_ok-share.field-0 c.in_ok-share-2.field-0 c.in_ok-out.out.replies c.in_ok-out.ensures.out.replies
+pub returns-clause-nodes : goal.returns-clause-nodes
+returns-clause-nodes g c =
+    let at = c.from.ensures ∙ c.shard_of.ensures.shard in
+    let below : shard_of c.args.key.now < 8 = omega (arith, c.shard_of.ensures.shard, c.shard_of.ensures.below) in
+    on_ok_weaker c.call.result
+    (called_at c.args.calls c.args.shards.now.items c.from.result (shard_of c.args.key.now) c.index_mut.result.now c.call.new.self c.requires.kept at below c.index_mut.ensures.value
+    (λ (node : NodeState). (call_step c.args.reading node (c.args.calls + 1) c.args.key.now c.args.op.now).node))
+    c.call.ensures.part
 
-pub returns-clause-told : goal.returns-clause-told
-returns-clause-told c = (told_shared c.args.node.now c.requires.lone (record { 0 = c.args.calls + 1 }) c.args.key.now c.in_ok-share.field-0 c.args.op.now c.in_ok-share-2.field-0 c.in_ok-share.ensures c.in_ok-share-2.ensures c.in_ok-out.out.replies c.answer_of.result c.answer_of.ensures.0 c.in_ok-out.ensures.out.replies c.answer_of.ensures.1).0
-
-pub returns-clause-suits : goal.returns-clause-suits
-returns-clause-suits c = (told_shared c.args.node.now c.requires.lone (record { 0 = c.args.calls + 1 }) c.args.key.now c.in_ok-share.field-0 c.args.op.now c.in_ok-share-2.field-0 c.in_ok-share.ensures c.in_ok-share-2.ensures c.in_ok-out.out.replies c.answer_of.result c.answer_of.ensures.0 c.in_ok-out.ensures.out.replies c.answer_of.ensures.1).1
+pub returns-clause-err : goal.returns-clause-err
+returns-clause-err g c =
+    let at = c.from.ensures ∙ c.shard_of.ensures.shard in
+    let below : shard_of c.args.key.now < 8 = omega (arith, c.shard_of.ensures.shard, c.shard_of.ensures.below) in
+    on_err_weaker c.call.result
+    (λ either. ⊎_elim (λ same. inl (same_at c.args.shards.now.items c.from.result c.index_mut.result.now c.call.new.self c.index_mut.ensures.value same))
+    (λ set. inr (called_at c.args.calls c.args.shards.now.items c.from.result (shard_of c.args.key.now) c.index_mut.result.now c.call.new.self c.requires.kept at below c.index_mut.ensures.value (ticked c.args.reading) set))
+    either)
+    c.call.ensures.err

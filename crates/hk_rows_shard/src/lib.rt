@@ -1,0 +1,5 @@
+//! The tests of shards and of what they show.
+#![tactic(auto)]
+
+#[cfg(test)]
+mod cells;
