@@ -2,7 +2,7 @@
 use Rattle.std.proofs.Common.{◌≡◌, ℕ, List, Option, Some, None, refl, sym, ap, ◌∙◌}
 use Rattle.hk_script.proofs.Choices.{no_some}
 use Rattle.hk_cli.specs.declared.words.Command.{Command}
-use Rattle.hk_cli.specs.declared.words.Command.TheVariants.{Drill, Generate, Serve}
+use Rattle.hk_cli.specs.declared.words.Command.TheVariants.{Drill, Generate, Serve, Watch}
 use Rattle.hk_cli.specs.Words.{IsCommand, IsCommandRead}
 use Rattle.hk_cli.specs.Commands.{IsNoCommand, IsInRange}
 use Rattle.hk_cli.proofs.Exact.{commands_are_one}
@@ -24,3 +24,4 @@ in_range None words read = tt
 in_range (Some Drill) words read = tt
 in_range (Some (Generate start count nodes)) words read = (read.2.some_nodes, read.2.few_nodes)
 in_range (Some (Serve lease skew port conns)) words read = read.2.skew_fits
+in_range (Some (Watch writes)) words read = tt

@@ -4,9 +4,9 @@ use Rattle.std.specs.List.{AllByRecursion}
 use Rattle.std.proofs.lemmas.Bool.Decides.{nat_tests}
 use Rattle.hk_base.specs.declared.time.TheConstants.{MAX_TIME}
 use Rattle.hk_cli.specs.declared.words.Command.{Command}
-use Rattle.hk_cli.specs.declared.words.Command.TheVariants.{Drill, Generate, Serve}
-use Rattle.hk_cli.specs.Words.{Given, option, IsGenerate, IsServe, IsCommand, IsCommandRead, WordsTellCommands}
-use Rattle.hk_cli.specs.Options.{option_count, option_is, value_of, ranged, generate_of, serve_of, alone, command_of}
+use Rattle.hk_cli.specs.declared.words.Command.TheVariants.{Drill, Generate, Serve, Watch}
+use Rattle.hk_cli.specs.Words.{Given, option, IsGenerate, IsServe, IsWatch, IsCommand, IsCommandRead, WordsTellCommands}
+use Rattle.hk_cli.specs.Options.{option_count, option_is, value_of, ranged, generate_of, serve_of, watch_of, alone, command_of}
 use Rattle.hk_script.specs.Parts.{is_text}
 use Rattle.hk_script.proofs.Choices.{chosen, held, bind_some, some_same, no_some, text_is}
 use Rattle.hk_cli.proofs.Orders.{AreApart, IsNamed, first_of, order_all, order_found, order_length, found_order, are_read, are_again}
@@ -199,6 +199,49 @@ serve_again l e p c words is =
     let conns = ap (ranged 1 1000000) (again.values (codes "conns") ∙ found.1.1.1.1.1.1.0) ∙ ranged_again 1 1000000 c is.some_conns cs in
     rw seven (rw (nodes, workers, managers, lease, skew, port, conns) refl)
 
+-- ---- watch
+abbrev watching : ℕ → List Given
+watching w = option (codes "writes") w ∷ []
+
+watching_apart : (w : ℕ) → AreApart (watching w)
+watching_apart w = (tt, tt)
+
+watching_named : (w : ℕ) → w < 2 ^ 64 → AllByRecursion IsNamed (watching w)
+watching_named w a = ((refl, a), tt)
+
+watch_takes : (words : List (List ℕ)) (command : Command) → watch_of words ≡ Some command → IsCommand command (codes "watch" ∷ words)
+unfolding watch_of
+watch_takes words command e =
+    let n = length words in
+    let one = held (option_is 1 (option_count n words)) _ command e in
+    let w = bind_some (ranged 1 10000 (value_of (codes "writes") n words)) _ command one.1 in
+    let is : Watch w.0 ≡ command = some_same _ command w.2 in
+    let read = are_read n words 1 (counted (option_count n words) 1 one.0) in
+    let ws = ranged_takes 1 10000 _ w.0 w.1 in
+    let a : first_of (codes "writes") read.given ≡ Some w.0 = sym (read.values (codes "writes")) ∙ ws.0 in
+    let order = found_order (watching w.0) read.given (watching_apart w.0) read.many (a, tt) in
+    subst (λ (k : Command). IsCommand k (codes "watch" ∷ words)) is (
+      words,
+      refl,
+      record {
+        some_writes = ws.1;
+        few_writes = ws.2;
+        options = (read.given, order, read.are);
+      },
+    )
+
+watch_again : (w : ℕ) (words : List (List ℕ)) → IsWatch w words → watch_of words ≡ Some (Watch w)
+unfolding watch_of
+watch_again w words is =
+    let order = is.options.1 in
+    let few = is.few_writes in
+    let all = order_all IsNamed (watching w) is.options.0 order (watching_named w (omega (arith, few))) in
+    let again = are_again (length words) is.options.0 words (omega arith) all is.options.2 in
+    let found = order_found (watching w) is.options.0 (watching_apart w) order in
+    let one : option_is 1 (option_count (length words) words) ≡ true = ap (option_is 1) (again.counted ∙ ap (λ k. Some k) (order_length (watching w) is.options.0 order)) in
+    let writes = ap (ranged 1 10000) (again.values (codes "writes") ∙ found.0) ∙ ranged_again 1 10000 w is.some_writes is.few_writes in
+    rw one (rw writes refl)
+
 -- ---- all commands
 alone_takes : (words : List (List ℕ)) (command : Command) → alone words ≡ Some command → (words ≡ []) × (Drill ≡ command)
 alone_takes [] command e = (refl, some_same Drill command e)
@@ -216,8 +259,12 @@ command_takes (name ∷ words) command e = elim (chosen (is_text name (codes "dr
       elim (chosen (is_text name (codes "generate")) _ _ (Some command) other.1) [
         | inl g ↦ subst (λ (w : List ℕ). IsCommand command (w ∷ words)) (sym (text_is name (codes "generate") g.0)) (generate_takes words command g.1)
         | inr last ↦
-            let s = held (is_text name (codes "serve")) (serve_of words) command last.1 in
-            subst (λ (w : List ℕ). IsCommand command (w ∷ words)) (sym (text_is name (codes "serve") s.0)) (serve_takes words command s.1)
+            elim (chosen (is_text name (codes "serve")) _ _ (Some command) last.1) [
+              | inl s ↦ subst (λ (w : List ℕ). IsCommand command (w ∷ words)) (sym (text_is name (codes "serve") s.0)) (serve_takes words command s.1)
+              | inr more ↦
+                  let v = held (is_text name (codes "watch")) (watch_of words) command more.1 in
+                  subst (λ (w : List ℕ). IsCommand command (w ∷ words)) (sym (text_is name (codes "watch") v.0)) (watch_takes words command v.1)
+            ]
       ]
 ]
 
@@ -226,6 +273,7 @@ unfolding command_of
 command_again words Drill is = rw is refl
 command_again words (Generate s c n) is = ap command_of is.1 ∙ generate_again s c n is.0 is.2
 command_again words (Serve l e p c) is = ap command_of is.1 ∙ serve_again l e p c is.0 is.2
+command_again words (Watch w) is = ap command_of is.1 ∙ watch_again w is.0 is.2
 
 command_read_at : (o : Option Command) (words : List (List ℕ)) → command_of words ≡ o → IsCommandRead o words
 command_read_at (Some command) words e = command_takes words command e

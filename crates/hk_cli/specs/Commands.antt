@@ -5,8 +5,9 @@ use Rattle.hk_outside.specs.declared.status.Status.{Status}
 use Rattle.hk_drill.specs.Drilled.{EndsDrill}
 use Rattle.hk_drill.specs.Generated.{EndsGenerate}
 use Rattle.hk_serve.specs.Serving.{EndsServe}
+use Rattle.hk_watching.specs.Watching.{EndsWatch}
 use Rattle.hk_cli.specs.declared.words.Command.{Command}
-use Rattle.hk_cli.specs.declared.words.Command.TheVariants.{Drill, Generate, Serve}
+use Rattle.hk_cli.specs.declared.words.Command.TheVariants.{Drill, Generate, Serve, Watch}
 use Rattle.hk_cli.specs.Words.{IsCommand}
 
 -- the bytes of each word
@@ -26,6 +27,7 @@ abbrev pub MayEnd : Command → Status → Type 0
 MayEnd Drill status = EndsDrill status
 MayEnd (Generate start count nodes) status = EndsGenerate status
 MayEnd (Serve lease skew port conns) status = EndsServe status
+MayEnd (Watch writes) status = EndsWatch status
 
 -- what words read as a command are within
 abbrev pub IsInRange : Option Command → Type 0
@@ -33,3 +35,4 @@ IsInRange None = ⊤
 IsInRange (Some Drill) = ⊤
 IsInRange (Some (Generate start count nodes)) = (1 ≤ nodes) × (nodes ≤ 16)
 IsInRange (Some (Serve lease skew port conns)) = skew ≤ MAX_TIME
+IsInRange (Some (Watch writes)) = ⊤

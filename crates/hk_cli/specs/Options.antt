@@ -5,7 +5,7 @@ use Rattle.std.specs.Cmp.Lexicographic.{pointwise}
 use Rattle.hk_base.specs.declared.time.TheConstants.{MAX_TIME}
 use Rattle.hk_cli.specs.Words.{Given, option}
 use Rattle.hk_cli.specs.declared.words.Command.{Command}
-use Rattle.hk_cli.specs.declared.words.Command.TheVariants.{Drill, Generate, Serve}
+use Rattle.hk_cli.specs.declared.words.Command.TheVariants.{Drill, Generate, Serve, Watch}
 use Rattle.hk_script.specs.Parts.{is_text, number_64}
 
 -- a word behind its two dashes
@@ -84,9 +84,17 @@ serve_of words =
     (ranged 1 1 (value_of (codes "nodes") (length words) words))
     else None
 
+unfoldable pub watch_of : List (List ℕ) → Option Command
+watch_of words =
+    if option_is 1 (option_count (length words) words) then
+    option_and_then (λ w. Some (Watch w))
+    (ranged 1 10000 (value_of (codes "writes") (length words) words))
+    else None
+
 unfoldable pub command_of : List (List ℕ) → Option Command
 command_of [] = None
 command_of (name ∷ words) =
     if is_text name (codes "drill") then alone words
     else (if is_text name (codes "generate") then generate_of words
-    else (if is_text name (codes "serve") then serve_of words else None))
+    else (if is_text name (codes "serve") then serve_of words
+    else (if is_text name (codes "watch") then watch_of words else None)))

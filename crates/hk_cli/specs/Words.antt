@@ -2,7 +2,7 @@
 use Rattle.std.specs.Prelude.{◌≡◌, ◌⊎◌, ℕ, ◌<◌, ◌≤◌, ◌^◌, List, [], ◌∷◌, ◌++◌, Option, None, Some, codes, decimal}
 use Rattle.hk_base.specs.declared.time.TheConstants.{MAX_TIME}
 use Rattle.hk_cli.specs.declared.words.Command.{Command}
-use Rattle.hk_cli.specs.declared.words.Command.TheVariants.{Drill, Generate, Serve}
+use Rattle.hk_cli.specs.declared.words.Command.TheVariants.{Drill, Generate, Serve, Watch}
 
 -- ---- options
 -- an option and its value
@@ -54,11 +54,18 @@ pub record IsServe (lease skew port conns : ℕ) (words : List (List ℕ)) : Typ
   pub options : GiveEach (option (codes "nodes") 1 ∷ option (codes "workers") 1 ∷ option (codes "managers") 0 ∷ option (codes "lease") lease
       ∷ option (codes "skew") skew ∷ option (codes "port") port ∷ option (codes "conns") conns ∷ []) words
 
+-- 1 to 10,000 writes
+pub record IsWatch (writes : ℕ) (words : List (List ℕ)) : Type 0 where
+  pub some_writes : 1 ≤ writes
+  pub few_writes : writes ≤ 10000
+  pub options : GiveEach (option (codes "writes") writes ∷ []) words
+
 -- the command comes first
 abbrev pub IsCommand : Command → List (List ℕ) → Type 0
 IsCommand Drill words = words ≡ codes "drill" ∷ []
 IsCommand (Generate start count nodes) words = (options : List (List ℕ)) × (words ≡ codes "generate" ∷ options) × IsGenerate start count nodes options
 IsCommand (Serve lease skew port conns) words = (options : List (List ℕ)) × (words ≡ codes "serve" ∷ options) × IsServe lease skew port conns options
+IsCommand (Watch writes) words = (options : List (List ℕ)) × (words ≡ codes "watch" ∷ options) × IsWatch writes options
 
 -- what is read: the command that the words are; none where they are no command's
 abbrev pub IsCommandRead : Option Command → List (List ℕ) → Type 0

@@ -6,8 +6,9 @@ ghost use Rattle.hk_outside.specs.Causes.{Rose, Stayed};
 ghost use Rattle.hk_drill.specs.Drilled.{AllLegal, IsDone, IsExact, IsFront, IsStopped, HasTold};
 ghost use Rattle.hk_drill.specs.Generated.{generated, summary};
 ghost use Rattle.hk_serve.specs.Serving.{HasServed};
+ghost use Rattle.hk_watching.specs.Watching.{watched_line};
 ghost use Rattle.hk_cli.specs.declared.words.Command.{Command as CommandOf};
-ghost use Rattle.hk_cli.specs.declared.words.Command.TheVariants.{Drill, Generate, Serve};
+ghost use Rattle.hk_cli.specs.declared.words.Command.TheVariants.{Drill, Generate, Serve, Watch};
 ghost use Rattle.hk_cli.specs.Words.{IsCommand};
 ghost use Rattle.hk_cli.specs.Commands.{texts, IsNoCommand, usage_line, MayEnd, IsInRange};
 
@@ -15,6 +16,7 @@ use crate::words::{Command, read_command};
 use hk_drill::{drill, generate_run};
 use hk_outside::{Clock, Doors, Sink, Source, Spawner, Status, write_all};
 use hk_serve::{ServeOptions, serve};
+use hk_watching::watch_writes;
 use std::alloc::Global;
 use std::sync::{Arc, Wait};
 use std::thread::Threads;
@@ -33,7 +35,14 @@ fn tell_usage<K: Sink>(sink: &mut K) -> Status
 }
 
 // Does what a command says.
-fn perform<S: Source, K: Sink, C: Clock + Send + Sync + Drop + 'static, D: Doors>(
+fn perform<
+    R: Threads + Wait + Copy + Send + Sync + 'static,
+    S: Source,
+    K: Sink,
+    C: Clock + Send + Sync + Drop + 'static,
+    D: Doors,
+>(
+    rt: R,
     alloc: Global,
     command: Option<Command>,
     source: &mut S,
@@ -59,6 +68,9 @@ fn perform<S: Source, K: Sink, C: Clock + Send + Sync + Drop + 'static, D: Doors
         → (source.new ≡ source.old) × ((n : ℕ) × Appends (K.held sink.old) (K.held sink.new) (take n (summary start count nodes))) }
     ensures aside { (lease skew port conns : ℕ) → command ≡ Some (Serve lease skew port conns) → (source.new ≡ source.old) × (sink.new ≡ sink.old) }
     ensures served { (lease skew port conns : ℕ) → command ≡ Some (Serve lease skew port conns) → result ≡ Status.Done → HasServed (D.left doors.old) (D.left doors.new) conns }
+    ensures watched { (writes : ℕ) → command ≡ Some (Watch writes) → result ≡ Status.Done → Appends (K.held sink.old) (K.held sink.new) (watched_line writes) }
+    ensures watching { (writes : ℕ) → command ≡ Some (Watch writes)
+        → (source.new ≡ source.old) × ((n : ℕ) × Appends (K.held sink.old) (K.held sink.new) (take n (watched_line writes))) }
     ensures read_fault { result ≡ Status.ReadFault → Rose (S.faults source.old) (S.faults source.new) }
     ensures write_fault { result ≡ Status.WriteFault → Rose (K.faults sink.old) (K.faults sink.new) }
     ensures door_fault { result ≡ Status.DoorFault → Rose (D.faults doors.old) (D.faults doors.new) }
@@ -79,7 +91,8 @@ fn perform<S: Source, K: Sink, C: Clock + Send + Sync + Drop + 'static, D: Doors
                 conns,
                 ..
             },
-        ) => serve(alloc, clock, doors, &ServeOptions { skew, port, conns }),
+        ) => serve(rt, alloc, clock, doors, &ServeOptions { skew, port, conns }),
+        Some(Command::Watch { writes }) => watch_writes(rt, alloc, writes, sink),
         None => tell_usage(sink),
     }
 }
@@ -93,8 +106,10 @@ fn perform<S: Source, K: Sink, C: Clock + Send + Sync + Drop + 'static, D: Doors
 /// - `serve --nodes 1 --workers 1 --managers 0 --lease L --skew E --port P --conns C` opens port P of 127.0.0.1 and serves C connections of
 ///   memcached clients at one node, one after the other. It reads no source and writes to no sink.
 ///
-/// For all other words one line is written, which tells the commands, and the status is Usage. The spawner and the runtime value are not
-/// touched.
+/// - `watch --writes N` writes a key N times in one thread while a watch of it looks in another, and writes one line, which tells the last
+///   stamp that the watch was told. It reads no source.
+///
+/// For all other words one line is written, which tells the commands, and the status is Usage. The spawner is not touched.
 pub fn hermes<
     R: Threads + Wait + Copy + Send + Sync + 'static,
     S: Source,
@@ -103,7 +118,7 @@ pub fn hermes<
     D: Doors,
     P: Spawner,
 >(
-    _rt: R,
+    rt: R,
     alloc: Global,
     words: &[String],
     source: &mut S,
@@ -153,10 +168,16 @@ pub fn hermes<
     ensures served { (lease skew port conns : ℕ) → IsCommand (Serve lease skew port conns) (texts words.now) → result ≡ Status.Done → HasServed (D.left doors.old) (D.left doors.new) conns }
     ensures aside { (lease skew port conns : ℕ) → IsCommand (Serve lease skew port conns) (texts words.now) → (source.new ≡ source.old) × (sink.new ≡ sink.old) }
 
+    // A watch that is done wrote its line, which is a function of the words. Whatever the answer, what was written is a front of that line, and
+    // nothing was read.
+    ensures watched { (writes : ℕ) → IsCommand (Watch writes) (texts words.now) → result ≡ Status.Done → Appends (K.held sink.old) (K.held sink.new) (watched_line writes) }
+    ensures watching { (writes : ℕ) → IsCommand (Watch writes) (texts words.now)
+        → (source.new ≡ source.old) × ((n : ℕ) × Appends (K.held sink.old) (K.held sink.new) (take n (watched_line writes))) }
+
     // A fault is the outside's.
     ensures read_fault { result ≡ Status.ReadFault → Rose (S.faults source.old) (S.faults source.new) }
     ensures write_fault { result ≡ Status.WriteFault → Rose (K.faults sink.old) (K.faults sink.new) }
     ensures door_fault { result ≡ Status.DoorFault → Rose (D.faults doors.old) (D.faults doors.new) }
 {
-    perform(alloc, read_command(words), source, sink, clock, doors)
+    perform(rt, alloc, read_command(words), source, sink, clock, doors)
 }

@@ -3,7 +3,7 @@
 ghost use Rattle.std.specs.Prelude.{◌≡◌, ◌≤◌, map, length, string_bytes, IfSome};
 ghost use Rattle.hk_cli.specs.Words.{IsCommandRead};
 ghost use Rattle.hk_cli.specs.Commands.{IsInRange};
-ghost use Rattle.hk_cli.specs.Options.{command_of, generate_of, serve_of, option_is, option_count, ranged, value_of};
+ghost use Rattle.hk_cli.specs.Options.{command_of, generate_of, serve_of, watch_of, option_is, option_count, ranged, value_of};
 
 use crate::options::{option_count, value_of};
 use hk_base::MAX_TIME;
@@ -26,6 +26,10 @@ pub enum Command {
         skew: u64,
         port: u16,
         conns: u32,
+    },
+    /// Write a key so often in one thread while a watch of it looks in another, and tell the last stamp that the watch was told.
+    Watch {
+        writes: u32,
     },
 }
 
@@ -95,6 +99,19 @@ fn read_serve(words: &[String]) -> Option<Command>
     })
 }
 
+#[tactic(auto, unfolding(crate::specs::Options::watch_of))]
+fn read_watch(words: &[String]) -> Option<Command>
+    ensures { result ≡ watch_of (map (λ w. string_bytes w) words.now) }
+{
+    if !are_options(words, 1) {
+        return None;
+    }
+    let writes = ranged(words, b"writes", 1, 10_000)?;
+    Some(Command::Watch {
+        writes: writes as u32,
+    })
+}
+
 #[tactic(auto, unfolding(crate::specs::Options::command_of))]
 fn read(words: &[String]) -> Option<Command>
     ensures { result ≡ command_of (map (λ w. string_bytes w) words.now) }
@@ -110,6 +127,7 @@ fn read(words: &[String]) -> Option<Command>
         }
         "generate" => read_generate(words),
         "serve" => read_serve(words),
+        "watch" => read_watch(words),
         _ => None,
     }
 }

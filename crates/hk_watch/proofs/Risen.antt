@@ -15,8 +15,10 @@ use Rattle.hk_snap.specs.Ends.{Reader, seen_at}
 use Rattle.hk_watch.specs.declared.look.Look.{Look}
 use Rattle.hk_watch.specs.declared.look.Look.TheVariants.{Fired, Large, Old}
 use Rattle.hk_watch.specs.declared.watch.Watch.{Watch}
+use Rattle.hk_watch.specs.declared.watcher.Notice.{Notice}
+use Rattle.hk_watch.specs.declared.watcher.Seen.{Seen}
 use Rattle.hk_watch.specs.Looking.{is_above, look_of, look_row, look_whole, after_look, watch_at, IsLook}
-use Rattle.hk_watch.specs.Rising.{Among, IsSeen, IsNotBehind, IsDue, IsRisen, IsCaughtUp, Looks}
+use Rattle.hk_watch.specs.Rising.{Among, IsSeen, IsNotBehind, IsDue, IsRisen, IsTold, IsCaughtUp, Looks}
 
 record Shown (ps : List Publication) (s : Snapshot) : Type 0 where
   pub published : Publication
@@ -87,6 +89,7 @@ module _ {F : Type 0} (watch : ℕ) (before after : List (ℕ × Watch F)) (read
       subst (λ (l : Look). Fair watch kept read l (glance_of read.shown kept.key)) (sym is) (fair watch kept read read.shown (sym shown)) in
       (both.0, subst (λ (o : Option (Watch F)). IsCaughtUp (Some kept) o read) (sym now) both.1)
 
-  pub looks_on : (r : Result Look Memory) → IfOk r (λ look. IsLook (watch_at before watch) watch look before reader after read) → IfOk r (λ look. Looks watch look before reader after read)
-  looks_on (Ok look) is = let both = risen_at (watch_at before watch) look is in record { exact = is; risen = both.0; caught_up = both.1 }
-  looks_on (Err m) is = tt
+  pub looks_on : (Told : F → ℕ → Seen → Notice → Type 0) (r : Result Look Memory) → IfOk r (λ look. IsLook (watch_at before watch) watch look before reader after read) →
+      IfOk r (λ look. IsTold Told (watch_at before watch) watch look read) → IfOk r (λ look. Looks Told watch look before reader after read)
+  looks_on Told (Ok look) is told = let both = risen_at (watch_at before watch) look is in record { exact = is; risen = both.0; told = told; caught_up = both.1 }
+  looks_on Told (Err m) is told = tt

@@ -7,6 +7,7 @@ use Rattle.hk_watch.specs.declared.look.Look.{Look}
 use Rattle.hk_watch.specs.declared.look.Look.TheVariants.{Fired, NoWatch, Elsewhere, Open, Large, Old}
 use Rattle.hk_watch.specs.declared.watch.Watch.{Watch}
 use Rattle.hk_watch.specs.declared.watcher.Notice.{Notice}
+use Rattle.hk_watch.specs.declared.watcher.Seen.{Seen}
 use Rattle.hk_watch.specs.declared.run.WatchCall.{WatchCall}
 use Rattle.hk_watch.specs.declared.run.WatchCall.TheVariants as call
 use Rattle.hk_watch.specs.Looking.{is_above, after_look, watch_at, IsLook}
@@ -19,18 +20,18 @@ mine watch n rest same = rw (eq-eqb n.watch watch same) refl
 others : (watch : ℕ) (n : Notice) (rest : List Notice) → n.watch ≢ watch → stamps_of watch (n ∷ rest) ≡ stamps_of watch rest
 others watch n rest apart = rw (ne_eqb n.watch watch apart) refl
 
-module _ {F : Type 0} (watch : ℕ) where
+module _ {F : Type 0} (Told : F → ℕ → Seen → Notice → Type 0) (watch : ℕ) where
   -- what one call did to a watch: nothing, or it was told one stamp
   abbrev Stays : Watch F → Option Notice → List (ℕ × Watch F) → Type 0
   Stays kept fired next = (watch_at next watch ≡ Some kept) × ((rest : List Notice) → stamps_of watch (with_fired fired rest) ≡ stamps_of watch rest)
 
-  abbrev Told : Watch F → Option Notice → List (ℕ × Watch F) → Type 0
-  Told kept fired next = (s : Stamp) × (watch_at next watch ≡ Some (record { key = kept.key; last = s; done = kept.done })) × (is_above s kept.last ≡ true)
+  abbrev Climbs : Watch F → Option Notice → List (ℕ × Watch F) → Type 0
+  Climbs kept fired next = (s : Stamp) × (watch_at next watch ≡ Some (record { key = kept.key; last = s; done = kept.done })) × (is_above s kept.last ≡ true)
       × ((rest : List Notice) → stamps_of watch (with_fired fired rest) ≡ s ∷ stamps_of watch rest)
 
   -- its own look
   own_look : (kept : Watch F) (look : Look) (next : List (ℕ × Watch F)) (read : Reader) → watch_at next watch ≡ Some (after_look kept look) → IsDue kept watch look read →
-      Stays kept (notice_of look) next ⊎ Told kept (notice_of look) next
+      Stays kept (notice_of look) next ⊎ Climbs kept (notice_of look) next
   own_look kept (Fired n) next read now (same, above, seen) = inr (n.stamp, now, above, λ rest. mine watch n rest same)
   own_look kept NoWatch next read now due = inl (now, λ rest. refl)
   own_look kept Elsewhere next read now due = inl (now, λ rest. refl)
@@ -56,20 +57,20 @@ module _ {F : Type 0} (watch : ℕ) where
       (unchanged watch (λ e. apart (sym e)) ∙ at, λ rest. passed other w look read apart due rest)
 
   own_look_of : (o : Option (Watch F)) (kept : Watch F) (look : Look) (before next : List (ℕ × Watch F)) (reader read : Reader) → o ≡ Some kept →
-      IsLook o watch look before reader next read → IsRisen o watch look read → Stays kept (notice_of look) next ⊎ Told kept (notice_of look) next
+      IsLook o watch look before reader next read → IsRisen o watch look read → Stays kept (notice_of look) next ⊎ Climbs kept (notice_of look) next
   own_look_of None kept look before next reader read at is due = absurd cc
   own_look_of (Some w) kept look before next reader read at (loads, shown, is, now, unchanged) due =
       let same : w ≡ kept = cc in
-      subst (λ (k : Watch F). Stays k (notice_of look) next ⊎ Told k (notice_of look) next) same (own_look w look next read now due)
+      subst (λ (k : Watch F). Stays k (notice_of look) next ⊎ Climbs k (notice_of look) next) same (own_look w look next read now due)
 
-  quiet : (kept : Watch F) (fired : Option Notice) (next : List (ℕ × Watch F)) → fired ≡ None → watch_at next watch ≡ Some kept → Stays kept fired next ⊎ Told kept fired next
+  quiet : (kept : Watch F) (fired : Option Notice) (next : List (ℕ × Watch F)) → fired ≡ None → watch_at next watch ≡ Some kept → Stays kept fired next ⊎ Climbs kept fired next
   quiet kept fired next none at = inl (at, λ rest. ap (λ (f : Option Notice). stamps_of watch (with_fired f rest)) none)
 
   one_call : (c : WatchCall F) (kept : Watch F) (before next : List (ℕ × Watch F)) (reader read : Reader) (fired : Option Notice) → watch_at before watch ≡ Some kept →
-      NeverEnds watch (c ∷ []) → Makes c before reader fired next read → Stays kept fired next ⊎ Told kept fired next
+      NeverEnds watch (c ∷ []) → Makes Told c before reader fired next read → Stays kept fired next ⊎ Climbs kept fired next
   one_call (call.Watch other key from done) kept before next reader read fired at never (none, unread, (now, unchanged)) = go (cases_eq other watch)
     where
-      go : (other ≡ watch) ⊎ (other ≡ watch → ⊥) → Stays kept fired next ⊎ Told kept fired next
+      go : (other ≡ watch) ⊎ (other ≡ watch → ⊥) → Stays kept fired next ⊎ Climbs kept fired next
       go (inl same) =
           let was : watch_at before other ≡ Some kept = ap (λ (n : ℕ). watch_at before n) same ∙ at in
           let still : watch_at next other ≡ Some kept = now ∙ ap (λ (o : Option (Watch F)). Some (unwrap_or o (record { key = key; last = from; done = done }))) was in
@@ -79,13 +80,13 @@ module _ {F : Type 0} (watch : ℕ) where
       quiet kept fired next none (unchanged watch (λ e. never.0 (sym e)) ∙ at)
   one_call (call.Look other) kept before next reader read fired at never (look, is, looks) = go (cases_eq other watch)
     where
-      go : (other ≡ watch) ⊎ (other ≡ watch → ⊥) → Stays kept fired next ⊎ Told kept fired next
+      go : (other ≡ watch) ⊎ (other ≡ watch → ⊥) → Stays kept fired next ⊎ Climbs kept fired next
       go (inl same) =
           let own : IsLook (watch_at before watch) watch look before reader next read = subst (λ (n : ℕ). IsLook (watch_at before n) n look before reader next read) same looks.exact in
           let due : IsRisen (watch_at before watch) watch look read = subst (λ (n : ℕ). IsRisen (watch_at before n) n look read) same looks.risen in
-          subst (λ (f : Option Notice). Stays kept f next ⊎ Told kept f next) (sym is) (own_look_of (watch_at before watch) kept look before next reader read at own due)
+          subst (λ (f : Option Notice). Stays kept f next ⊎ Climbs kept f next) (sym is) (own_look_of (watch_at before watch) kept look before next reader read at own due)
       go (inr apart) =
-          subst (λ (f : Option Notice). Stays kept f next ⊎ Told kept f next) (sym is) (inl (other_look other (watch_at before other) kept look before next reader read apart at looks.exact looks.risen))
+          subst (λ (f : Option Notice). Stays kept f next ⊎ Climbs kept f next) (sym is) (inl (other_look other (watch_at before other) kept look before next reader read apart at looks.exact looks.risen))
 
   never_first : (c : WatchCall F) (calls : List (WatchCall F)) → NeverEnds watch (c ∷ calls) → NeverEnds watch (c ∷ []) × NeverEnds watch calls
   never_first (call.Watch other key from done) calls never = (tt, never)
@@ -93,7 +94,7 @@ module _ {F : Type 0} (watch : ℕ) where
   never_first (call.Look other) calls never = (tt, never)
 
   then_rises : (kept : Watch F) (fired : Option Notice) (next after : List (ℕ × Watch F)) (notices rest : List Notice) → notices ≡ with_fired fired rest →
-      Stays kept fired next ⊎ Told kept fired next → ((k : Watch F) → watch_at next watch ≡ Some k → Rises watch k rest after) → Rises watch kept notices after
+      Stays kept fired next ⊎ Climbs kept fired next → ((k : Watch F) → watch_at next watch ≡ Some k → Rises watch k rest after) → Rises watch kept notices after
   then_rises kept fired next after notices rest is (inl (at, same)) later =
       let more = later kept at in
       let all : stamps_of watch notices ≡ stamps_of watch rest = ap (stamps_of watch) is ∙ same rest in
@@ -118,7 +119,7 @@ module _ {F : Type 0} (watch : ℕ) where
       }
 
   pub rises : (calls : List (WatchCall F)) (kept : Watch F) (before after : List (ℕ × Watch F)) (reader read : Reader) (notices : List Notice) → watch_at before watch ≡ Some kept →
-      NeverEnds watch calls → Runs calls before reader notices after read → Rises watch kept notices after
+      NeverEnds watch calls → Runs Told calls before reader notices after read → Rises watch kept notices after
   rises [] kept before after reader read notices at never (none, same, unread) =
       let all : stamps_of watch notices ≡ [] = ap (stamps_of watch) none in
       record {
@@ -135,12 +136,12 @@ module _ {F : Type 0} (watch : ℕ) where
       (λ k here. rises calls k next after between read rest here parts.1 runs)
 
 -- each stretch of a run
-pub are_rising : {F : Type 0} (calls : List (WatchCall F)) (before after : List (ℕ × Watch F)) (reader read : Reader) (notices : List Notice) →
-    Runs calls before reader notices after read → AreRising calls before reader notices
-are_rising {F} calls before after reader read notices runs front some back is =
-    let all : Runs (front ++ (some ++ back)) before reader notices after read = subst (λ (c : List (WatchCall F)). Runs c before reader notices after read) is runs in
-    let whole = in_parts front (some ++ back) before after reader read notices all in
-    let rest = in_parts some back whole.mid after whole.at read whole.later whole.runs_back in
+pub are_rising : {F : Type 0} (Told : F → ℕ → Seen → Notice → Type 0) (calls : List (WatchCall F)) (before after : List (ℕ × Watch F)) (reader read : Reader) (notices : List Notice) →
+    Runs Told calls before reader notices after read → AreRising Told calls before reader notices
+are_rising {F} Told calls before after reader read notices runs front some back is =
+    let all : Runs Told (front ++ (some ++ back)) before reader notices after read = subst (λ (c : List (WatchCall F)). Runs Told c before reader notices after read) is runs in
+    let whole = in_parts Told front (some ++ back) before after reader read notices all in
+    let rest = in_parts Told some back whole.mid after whole.at read whole.later whole.runs_back in
     record {
       first = whole.first;
       fired = rest.first;
@@ -152,5 +153,5 @@ are_rising {F} calls before after reader read notices runs front some back is =
       end_read = rest.at;
       runs_front = whole.runs_front;
       runs = rest.runs_front;
-      rises = λ watch kept at never. rises watch some kept whole.mid rest.mid whole.at rest.at rest.first at never rest.runs_front;
+      rises = λ watch kept at never. rises Told watch some kept whole.mid rest.mid whole.at rest.at rest.first at never rest.runs_front;
     }

@@ -5,6 +5,7 @@ use Rattle.std.proofs.lemmas.Map.Steps.{set_value_same}
 use Rattle.hk_snap.specs.Ends.{Reader}
 use Rattle.hk_watch.specs.declared.watch.Watch.{Watch}
 use Rattle.hk_watch.specs.declared.watcher.Notice.{Notice}
+use Rattle.hk_watch.specs.declared.watcher.Seen.{Seen}
 use Rattle.hk_watch.specs.declared.run.WatchCall.{WatchCall}
 use Rattle.hk_watch.specs.Rising.{Makes, Runs, Stops, IsFurther, with_fired}
 
@@ -12,13 +13,13 @@ behind : (fired : Option Notice) (rest more : List Notice) → with_fired fired 
 behind None rest more = refl
 behind (Some notice) rest more = refl
 
-module _ {F : Type 0} where
+module _ {F : Type 0} (Told : F → ℕ → Seen → Notice → Type 0) where
   -- one more call
   runs_next : (calls : List (WatchCall F)) (c : WatchCall F) (before mid after : List (ℕ × Watch F)) (reader at read : Reader) (notices : List Notice) (fired : Option Notice) →
-      Runs calls before reader notices mid at → Makes c mid at fired after read → Runs (calls ++ c ∷ []) before reader (notices ++ with_fired fired []) after read
+      Runs Told calls before reader notices mid at → Makes Told c mid at fired after read → Runs Told (calls ++ c ∷ []) before reader (notices ++ with_fired fired []) after read
   runs_next [] c before mid after reader at read notices fired (none, same, unread) made =
-      let here : Makes c before at fired after read = subst (λ (m : List (ℕ × Watch F)). Makes c m at fired after read) same made in
-      (fired, after, read, [], ap (λ (n : List Notice). n ++ with_fired fired []) none, subst (λ (a : Reader). Makes c before a fired after read) unread here, (refl, refl, refl))
+      let here : Makes Told c before at fired after read = subst (λ (m : List (ℕ × Watch F)). Makes Told c m at fired after read) same made in
+      (fired, after, read, [], ap (λ (n : List Notice). n ++ with_fired fired []) none, subst (λ (a : Reader). Makes Told c before a fired after read) unread here, (refl, refl, refl))
   runs_next (d ∷ calls) c before mid after reader at read notices fired (first, next, between, rest, is, one, runs) made = (
     first,
     next,
@@ -30,18 +31,18 @@ module _ {F : Type 0} where
   )
 
   pub runs_on : (calls : List (WatchCall F)) (c : WatchCall F) (before mid after : List (ℕ × Watch F)) (reader at read : Reader) (notices more : List Notice) (fired : Option Notice) →
-      Runs calls before reader notices mid at → Makes c mid at fired after read → more ≡ notices ++ with_fired fired [] → Runs (calls ++ c ∷ []) before reader more after read
+      Runs Told calls before reader notices mid at → Makes Told c mid at fired after read → more ≡ notices ++ with_fired fired [] → Runs Told (calls ++ c ∷ []) before reader more after read
   runs_on calls c before mid after reader at read notices more fired runs made is =
-      subst (λ (n : List Notice). Runs (calls ++ c ∷ []) before reader n after read) (sym is) (runs_next calls c before mid after reader at read notices fired runs made)
+      subst (λ (n : List Notice). Runs Told (calls ++ c ∷ []) before reader n after read) (sym is) (runs_next calls c before mid after reader at read notices fired runs made)
 
   -- the call behind a front found no memory
   pub stopped : (front back calls : List (WatchCall F)) (before mid after : List (ℕ × Watch F)) (reader at read : Reader) (notices : List Notice) → front ++ back ≡ calls →
-      Runs front before reader notices mid at → after ≡ mid → IsFurther at read → Stops calls before reader after read
+      Runs Told front before reader notices mid at → after ≡ mid → IsFurther at read → Stops Told calls before reader after read
   stopped front back calls before mid after reader at read notices parts runs same further =
-      (front, back, at, notices, sym parts, subst (λ (m : List (ℕ × Watch F)). Runs front before reader notices m at) (sym same) runs, further)
+      (front, back, at, notices, sym parts, subst (λ (m : List (ℕ × Watch F)). Runs Told front before reader notices m at) (sym same) runs, further)
 
   -- no call was made
-  pub not_begun : (calls : List (WatchCall F)) (before : List (ℕ × Watch F)) (reader : Reader) → Stops calls before reader before reader
+  pub not_begun : (calls : List (WatchCall F)) (before : List (ℕ × Watch F)) (reader : Reader) → Stops Told calls before reader before reader
   not_begun calls before reader = ([], calls, reader, [], refl, (refl, refl, refl), inl refl)
 
   -- a run in two parts
@@ -51,11 +52,11 @@ module _ {F : Type 0} where
     pub is : notices ≡ first ++ later
     pub mid : List (ℕ × Watch F)
     pub at : Reader
-    pub runs_front : Runs front before reader first mid at
-    pub runs_back : Runs back mid at later after read
+    pub runs_front : Runs Told front before reader first mid at
+    pub runs_back : Runs Told back mid at later after read
 
   pub in_parts : (front back : List (WatchCall F)) (before after : List (ℕ × Watch F)) (reader read : Reader) (notices : List Notice) →
-      Runs (front ++ back) before reader notices after read → Parts front back before reader notices after read
+      Runs Told (front ++ back) before reader notices after read → Parts front back before reader notices after read
   in_parts [] back before after reader read notices runs =
       record { first = []; later = notices; is = refl; mid = before; at = reader; runs_front = (refl, refl, refl); runs_back = runs }
   in_parts (c ∷ front) back before after reader read notices (fired, next, between, rest, is, one, runs) =

@@ -4,12 +4,13 @@ use Rattle.hk_base.specs.declared.stamp.Stamp.{Stamp}
 use Rattle.hk_base.specs.declared.call.State.TheVariants.{Valid}
 use Rattle.hk_snap.specs.declared.snapshot.Glance.{Glance}
 use Rattle.hk_snap.specs.declared.rule.Publication.{Publication}
-use Rattle.hk_snap.specs.Snapshots.{cell_of, glance_of}
+use Rattle.hk_snap.specs.Snapshots.{cell_of, glance_of, shown_content}
 use Rattle.hk_snap.specs.Ends.{Reader, Loads, seen_at}
 use Rattle.hk_watch.specs.declared.look.Look.{Look}
 use Rattle.hk_watch.specs.declared.look.Look.TheVariants.{Fired}
 use Rattle.hk_watch.specs.declared.watch.Watch.{Watch}
 use Rattle.hk_watch.specs.declared.watcher.Notice.{Notice}
+use Rattle.hk_watch.specs.declared.watcher.Seen.{Seen}
 use Rattle.hk_watch.specs.declared.run.WatchCall.{WatchCall}
 use Rattle.hk_watch.specs.declared.run.WatchCall.TheVariants as call
 use Rattle.hk_watch.specs.Looking.{is_above, watch_at, AreOthersSame, IsLook}
@@ -46,6 +47,13 @@ module _ {F : Type 0} where
   IsRisen None watch look reader = ⊤
   IsRisen (Some kept) watch look reader = IsDue kept watch look reader
 
+  -- Where a look fired, the watcher itself was told: of its key, the stamp of the notice, and the content that the cell showed. `Told` is
+  -- what a watcher says of its answer.
+  abbrev pub IsTold : (F → ℕ → Seen → Notice → Type 0) → Option (Watch F) → ℕ → Look → Reader → Type 0
+  IsTold Told (Some kept) watch (Fired notice) reader =
+      Told kept.done watch (record { key = kept.key; stamp = notice.stamp; content = shown_content reader.shown }) notice
+  IsTold Told kept watch look reader = ⊤
+
   abbrev pub IsCaughtUp : Option (Watch F) → Option (Watch F) → Reader → Type 0
   IsCaughtUp None after reader = ⊤
   IsCaughtUp (Some kept) None reader = ⊥
@@ -65,11 +73,14 @@ module _ {F : Type 0} where
   abbrev pub IsKept : List (ℕ × Watch F) → List (ℕ × Watch F) → ℕ → Watch F → Type 0
   IsKept before after watch new = (watch_at after watch ≡ Some (unwrap_or (watch_at before watch) new)) × AreOthersSame before after watch
 
+-- what the watchers say of their answers
+module _ {F : Type 0} (Told : F → ℕ → Seen → Notice → Type 0) where
   -- What a look of this watch does: which answer it gives; what is told is above the last stamp, of a Valid row of the key that the reader has
-  -- seen by then; and the last stamp is then not below that of a Valid small row that was found.
+  -- seen by then; the watcher was told it; and the last stamp is then not below that of a Valid small row that was found.
   pub record Looks (watch : ℕ) (look : Look) (before : List (ℕ × Watch F)) (reader : Reader) (after : List (ℕ × Watch F)) (read : Reader) : Type 0 where
     pub exact : IsLook (watch_at before watch) watch look before reader after read
     pub risen : IsRisen (watch_at before watch) watch look read
+    pub told : IsTold Told (watch_at before watch) watch look read
     pub caught_up : IsCaughtUp (watch_at before watch) (watch_at after watch) read
 
   -- What one call does: a Watch whose number is kept changes nothing.
@@ -124,7 +135,7 @@ pub record Rises {F : Type 0} (watch : ℕ) (kept : Watch F) (notices : List Not
 
 -- Some calls of a run, what was kept and seen before and after them, and their notices. Each watch that was kept, and that they don't end,
 -- rises.
-pub record Stretch {F : Type 0} (before : List (ℕ × Watch F)) (reader : Reader) (front calls : List (WatchCall F)) (notices : List Notice) : Type 0 where
+pub record Stretch {F : Type 0} (Told : F → ℕ → Seen → Notice → Type 0) (before : List (ℕ × Watch F)) (reader : Reader) (front calls : List (WatchCall F)) (notices : List Notice) : Type 0 where
   pub first : List Notice
   pub fired : List Notice
   pub later : List Notice
@@ -133,10 +144,10 @@ pub record Stretch {F : Type 0} (before : List (ℕ × Watch F)) (reader : Reade
   pub begin_read : Reader
   pub ends : List (ℕ × Watch F)
   pub end_read : Reader
-  pub runs_front : Runs front before reader first begins begin_read
-  pub runs : Runs calls begins begin_read fired ends end_read
+  pub runs_front : Runs Told front before reader first begins begin_read
+  pub runs : Runs Told calls begins begin_read fired ends end_read
   pub rises : (watch : ℕ) (kept : Watch F) → watch_at begins watch ≡ Some kept → NeverEnds watch calls → Rises watch kept fired ends
 
 -- whichever calls of the run are looked at, in each of them the watches rise
-abbrev pub AreRising : {F : Type 0} → List (WatchCall F) → List (ℕ × Watch F) → Reader → List Notice → Type 0
-AreRising {F} calls before reader notices = (front some back : List (WatchCall F)) → calls ≡ front ++ (some ++ back) → Stretch before reader front some notices
+abbrev pub AreRising : {F : Type 0} → (F → ℕ → Seen → Notice → Type 0) → List (WatchCall F) → List (ℕ × Watch F) → Reader → List Notice → Type 0
+AreRising {F} Told calls before reader notices = (front some back : List (WatchCall F)) → calls ≡ front ++ (some ++ back) → Stretch Told before reader front some notices

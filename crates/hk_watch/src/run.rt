@@ -71,7 +71,7 @@ fn make<F: Watcher + Drop, R: Wait>(
     reader: &mut SnapReader,
     call: WatchCall<F>,
 ) -> Result<Option<Notice>, Memory>
-    ensures made { IfOk result (λ fired. Makes call watches.old reader.old fired watches.new reader.new) }
+    ensures made { IfOk result (λ fired. Makes F.told call watches.old reader.old fired watches.new reader.new) }
     ensures err { OnErr result (watches.new ≡ watches.old) }
     ensures further { IsFurther reader.old reader.new }
 {
@@ -119,8 +119,8 @@ fn make_all<F: Watcher + Drop, R: Wait>(
 ) -> Result<(), Memory>
     requires none { notices.old.items ≡ [] }
     requires room { vec_len notices.old + length calls.items ≤ vec_capacity notices.old }
-    ensures runs { OnOk result (Runs calls.items watches.old reader.old notices.new.items watches.new reader.new) }
-    ensures err { OnErr result (Stops calls.items watches.old reader.old watches.new reader.new) }
+    ensures runs { OnOk result (Runs F.told calls.items watches.old reader.old notices.new.items watches.new reader.new) }
+    ensures err { OnErr result (Stops F.told calls.items watches.old reader.old watches.new reader.new) }
 {
     for call in calls {
         let fired = make(watches, rt, alloc, reader, call)?;
@@ -140,12 +140,12 @@ impl<F: Watcher + Drop> Watches<F> {
         calls: WatchCalls<F>,
     ) -> Result<Notices, Memory>
         // Each call does what it does alone.
-        ensures runs { IfOk result (λ notices. Runs calls self.old reader.old notices self.new reader.new) }
+        ensures runs { IfOk result (λ notices. Runs F.told calls self.old reader.old notices self.new reader.new) }
 
         // Whichever of the calls are looked at, the stamps of each watch that they don't end rise from its last one, each was seen of its key in
         // a Valid row, and after a look of it its last stamp is not below what was found.
-        ensures rising { IfOk result (λ notices. AreRising calls self.old reader.old notices) }
-        ensures err { OnErr result (Stops calls self.old reader.old self.new reader.new) }
+        ensures rising { IfOk result (λ notices. AreRising F.told calls self.old reader.old notices) }
+        ensures err { OnErr result (Stops F.told calls self.old reader.old self.new reader.new) }
     {
         let mut notices = Vec::with_capacity(alloc, calls.len())?;
         make_all(self, rt, alloc, reader, calls.into_vec(), &mut notices)?;

@@ -2,9 +2,10 @@
 
 ghost use Rattle.std.specs.Prelude.{◌≡◌, Some, IfOk, OnErr};
 ghost use Rattle.hk_base.specs.declared.call.State.TheVariants.{Valid};
-ghost use Rattle.hk_snap.specs.Snapshots.{cell_of, glance_of, last_shown};
+ghost use Rattle.hk_snap.specs.Snapshots.{cell_of, glance_of, last_shown, shown_content};
 ghost use Rattle.hk_snap.specs.Ends.{Loads, seen_at};
 ghost use Rattle.hk_watch.specs.Looking.{is_above, look_of, look_at, after_look};
+ghost use Rattle.hk_watch.specs.Rising.{IsTold};
 
 use crate::look::Look;
 use crate::watcher::{Notice, Seen, Watcher};
@@ -43,6 +44,7 @@ impl<F: Watcher + Drop> Watch<F> {
         ensures shown { reader.new.shown ≡ last_shown (seen_at reader.new.ends (cell_of self.old.key)) }
         ensures found { IfOk result (λ look. look ≡ look_of watch self.old.last (glance_of reader.new.shown self.old.key)) }
         ensures kept { IfOk result (λ look. self.new ≡ after_look self.old look) }
+        ensures told { IfOk result (λ look. IsTold F.told (Some self.old) watch look reader.new) }
         ensures err { OnErr result (self.new ≡ self.old) }
     {
         reader.load(rt, cell_of(&self.key));
@@ -62,6 +64,7 @@ impl<F: Watcher + Drop> Watch<F> {
     ) -> Result<Look, Memory>
         ensures found { IfOk result (λ look. look ≡ look_at watch self.old.last glance) }
         ensures kept { IfOk result (λ look. self.new ≡ after_look self.old look) }
+        ensures told { IfOk result (λ look. IsTold F.told (Some self.old) watch look reader.now) }
         ensures err { OnErr result (self.new ≡ self.old) }
     {
         let stamp = glance.stamp;
@@ -88,7 +91,8 @@ impl<F: Watcher + Drop> Watch<F> {
         watch: u64,
         stamp: Stamp,
     ) -> Result<Notice, Memory>
-        ensures { IfOk result (λ notice. notice ≡ record { watch = watch; stamp = stamp }) }
+        ensures notice { IfOk result (λ notice. notice ≡ record { watch = watch; stamp = stamp }) }
+        ensures told { IfOk result (λ notice. F.told self.now.done watch (record { key = self.now.key; stamp = stamp; content = shown_content reader.now.shown }) notice) }
     {
         let content = reader.content(alloc)?;
         let key = self.key.share()?;

@@ -2,7 +2,7 @@
 
 ghost use Rattle.std.specs.Prelude.{◌≡◌, [], Some, None, is_some, IfOk, OnOk, OnErr};
 ghost use Rattle.hk_watch.specs.Looking.{watch_at, AreOthersSame, IsWatch, IsLook};
-ghost use Rattle.hk_watch.specs.Rising.{Looks, IsFurther};
+ghost use Rattle.hk_watch.specs.Rising.{IsTold, Looks, IsFurther};
 
 use crate::look::Look;
 use crate::watch::Watch;
@@ -90,6 +90,7 @@ impl<F: Watcher + Drop> Watches<F> {
         watch: u64,
     ) -> Result<Look, Memory>
         ensures exact { IfOk result (λ look. IsLook (watch_at self.old watch) watch look self.old reader.old self.new reader.new) }
+        ensures told { IfOk result (λ look. IsTold F.told (watch_at self.old watch) watch look reader.new) }
         ensures further { IsFurther reader.old reader.new }
         ensures others { AreOthersSame self.old self.new watch }
         ensures err { OnErr result (self.new ≡ self.old) }
@@ -111,7 +112,7 @@ impl<F: Watcher + Drop> Watches<F> {
         watch: u64,
     ) -> Result<Look, Memory>
         // Which answer comes, and what is loaded, told and kept.
-        ensures looks { IfOk result (λ look. Looks watch look self.old reader.old self.new reader.new) }
+        ensures looks { IfOk result (λ look. Looks F.told watch look self.old reader.old self.new reader.new) }
 
         // There is one load at most, and no other watch is touched.
         ensures further { IsFurther reader.old reader.new }

@@ -1,6 +1,6 @@
 use Rattle.std.proofs.Common.{◌≡◌, Some, subst}
 use Rattle.std.specs.Prelude.{IfSome}
-use Rattle.hk_cli.specs.declared.words.Command.TheVariants.{Drill, Generate, Serve}
+use Rattle.hk_cli.specs.declared.words.Command.TheVariants.{Drill, Generate, Serve, Watch}
 use Rattle.hk_cli.specs.Commands.{texts, MayEnd}
 use Rattle.hk_cli.proofs.Ending.{read_is, none_is, is_none}
 use Rattle.hk_cli.proofs.top.hermes.Goals as goal
@@ -37,3 +37,9 @@ returns-clause-served g c = λ lease skew port conns is. c.perform.ensures.serve
 
 pub returns-clause-aside : goal.returns-clause-aside
 returns-clause-aside g c = λ lease skew port conns is. c.perform.ensures.aside lease skew port conns (read_is _ _ (Serve lease skew port conns) c.read_command.ensures.read is)
+
+pub returns-clause-watched : goal.returns-clause-watched
+returns-clause-watched g c = λ writes is. c.perform.ensures.watched writes (read_is _ _ (Watch writes) c.read_command.ensures.read is)
+
+pub returns-clause-watching : goal.returns-clause-watching
+returns-clause-watching g c = λ writes is. c.perform.ensures.watching writes (read_is _ _ (Watch writes) c.read_command.ensures.read is)

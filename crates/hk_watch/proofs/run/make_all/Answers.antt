@@ -32,7 +32,7 @@ loop-call-preserved g c =
     let one = c.put.ensures.len in
     let same = c.put.ensures.capacity in (
       append_assoc at.yielded (x ∷ []) _ ∙ rw (← steps) at.invariant.0,
-      runs_on at.yielded x _ _ _ _ _ _ _ _ _ at.invariant.1 c.in_ok-fired.ensures.made c.put.ensures.items,
+      runs_on g.F.Watcher.told at.yielded x _ _ _ _ _ _ _ _ _ at.invariant.1 c.in_ok-fired.ensures.made c.put.ensures.items,
       omega (arith, was, gone, short),
       omega (arith, room, one, same, short),
     )
@@ -40,7 +40,7 @@ loop-call-preserved g c =
 pub returns-in_err-fired-clause-err : goal.returns-in_err-fired-clause-err
 returns-in_err-fired-clause-err g c =
     let at = c.loop-call in
-    on_err c.from_residual.result (stopped at.yielded (into_iter_items at.call-iterator) _ _ _ _ _ _ _ _ (at.invariant.0 ∙ c.into_iter-call-iterator.ensures.into_iter_gives.0) at.invariant.1
+    on_err c.from_residual.result (stopped g.F.Watcher.told at.yielded (into_iter_items at.call-iterator) _ _ _ _ _ _ _ _ (at.invariant.0 ∙ c.into_iter-call-iterator.ensures.into_iter_gives.0) at.invariant.1
     c.in_err-fired.ensures.err c.in_err-fired.ensures.further)
 
 pub returns-clause-runs : goal.returns-clause-runs
@@ -49,4 +49,4 @@ returns-clause-runs g c =
     let none = c.in-None.ensures.steps in
     let empty : into_iter_items at.call-iterator ≡ [] = nothing_left _ (sym at.invariant.2 ∙ none.0) in
     let all = sym (append-nil at.yielded) ∙ rw empty at at.invariant.0 ∙ c.into_iter-call-iterator.ensures.into_iter_gives.0 in
-    subst (λ l. Runs l c.args.watches.now c.args.reader.now at.notices.items at.watches at.reader) all at.invariant.1
+    subst (λ l. Runs g.F.Watcher.told l c.args.watches.now c.args.reader.now at.notices.items at.watches at.reader) all at.invariant.1

@@ -6,6 +6,6 @@ use Rattle.hk_watch.proofs.run.make_all.Given as goal
 
 abbrev pub invariant-loop-call : goal.invariant-loop-call
 invariant-loop-call g l = (l.yielded ++ into_iter_items l.call-iterator ≡ into_iter_items l.initial.call-iterator)
-    × Runs l.yielded l.initial.watches l.initial.reader l.notices.items l.watches l.reader
+    × Runs g.F.Watcher.told l.yielded l.initial.watches l.initial.reader l.notices.items l.watches l.reader
     × (into_iter_len l.call-iterator ≡ length (into_iter_items l.call-iterator))
     × (vec_len l.notices + length (into_iter_items l.call-iterator) ≤ vec_capacity l.notices)
