@@ -11,3 +11,4 @@ pub mod Drilling
 pub mod Turns
 pub mod Answering
 pub mod Drawings
+pub mod Marking

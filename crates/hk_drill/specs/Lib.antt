@@ -4,3 +4,4 @@ pub mod Taken
 pub mod Progress
 pub mod Drilled
 pub mod Generated
+pub mod Marks

@@ -39,7 +39,7 @@ fn put_stop(out: &mut Vec<u8>, line: u64, stop: Stop) -> Result<(), Memory>
 fn put_key_of(out: &mut Vec<u8>, alloc: Global, run: &LiveRun, key: &Key) -> Result<(), Memory>
     ensures { OnOk result (out.new.items ≡ out.old.items ++ key_text key.now (history run.now key.now) (printed run.now key.now)) }
 {
-    let history = run.items(key)?;
+    let history = run.marks(key)?;
     let order = run.order(alloc, key)?;
     put_key(out, key, history, order.as_slice())
 }

@@ -19,3 +19,4 @@ pub mod Noting
 pub mod Making
 pub mod Histories
 pub mod Lines
+pub mod Remade

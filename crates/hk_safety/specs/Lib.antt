@@ -4,3 +4,5 @@ pub mod Kept
 pub mod Shows
 pub mod Noted
 pub mod Grown
+pub mod Marks
+pub mod Again

@@ -61,8 +61,8 @@ fn step(world: &mut World, alloc: Global, event: &Event) -> Result<Shown, Unmade
     }
 }
 
-// The key of the call of this number.
-fn call_key(calls: &[Key], call: CallNo) -> Option<&Key>
+/// The key of the call of this number.
+pub(crate) fn call_key(calls: &[Key], call: CallNo) -> Option<&Key>
     ensures { option_copied result ≡ numbered call.0 calls.now }
 {
     if call.0 == 0 {

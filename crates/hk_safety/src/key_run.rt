@@ -5,8 +5,9 @@ ghost use Rattle.hk_safety.specs.Kept.{first_key, no_stamp};
 ghost use Rattle.hk_safety.specs.Grown.{IsCoveredAt, IsBegunAt, IsLookedAt, IsTurned};
 
 use crate::evidence::{Cover, Evidence};
+use crate::marked::Marked;
 use hk_base::{CallNo, Memory, Op, Reply, Sequence, View};
-use hk_history::{Event, Items};
+use hk_history::Event;
 use std::alloc::Global;
 use std::collections::BTreeMap;
 use std::marker::Model;
@@ -34,10 +35,10 @@ pub struct Turn {
     pub answered: bool,
 }
 
-/// What a run keeps of one key: its history and its stamps, by tag.
+/// What a run keeps of one key: the numbers of its history, and its stamps, by tag.
 #[derive(Drop)]
 pub struct KeyRun {
-    pub(crate) items: Items,
+    pub(crate) items: Marked,
     pub(crate) stamps: BTreeMap<u64, AtStamp>,
 }
 
@@ -139,7 +140,7 @@ impl KeyRun {
         ensures { result ≡ first_key }
     {
         KeyRun {
-            items: Items::new(alloc),
+            items: Marked::new(alloc),
             stamps: BTreeMap::new(alloc),
         }
     }
@@ -177,7 +178,6 @@ impl KeyRun {
         self.items.push(Event::Reply {
             no: reply.call,
             answer,
-        })?;
-        Ok(())
+        })
     }
 }

@@ -8,12 +8,14 @@
 //! and on the law that each event is effects of it, and on nothing of what an event does.
 #![tactic(auto)]
 
+mod again;
 mod cover;
 mod evidence;
 mod kept;
 mod key_run;
 mod laws;
 mod live;
+mod marked;
 mod order;
 mod past;
 mod reading;
@@ -21,5 +23,6 @@ mod run;
 
 pub use laws::{histories_are_histories, runs_are_legal};
 pub use live::{Keys, LiveRun};
+pub use marked::Mark;
 pub use order::order_of;
 pub use run::Run;

@@ -6,10 +6,11 @@ ghost use Rattle.std.specs.Map.{keys_of};
 use crate::kept::{Kept, Unmade};
 use crate::key_run::KeyRun;
 use crate::laws::runs_are_legal;
+use crate::marked::Mark;
 use crate::past::Past;
 use hk_base::{Key, Memory, Sequence};
 use hk_effects::runs_keep_parts;
-use hk_history::{Entries, Event as Item};
+use hk_history::Entries;
 use hk_world::{Event, Header, Shown, World, WorldFault};
 use std::alloc::Global;
 use std::collections::BTreeMap;
@@ -52,6 +53,8 @@ fn share_keys(alloc: Global, map: &BTreeMap<Key, KeyRun>) -> Result<Keys, Memory
 }
 
 impl LiveRun {
+    ghost use Rattle.std.specs.Prelude.{map};
+    ghost use Rattle.hk_safety.specs.Marks.{mark_of};
     ghost use Rattle.hk_safety.specs.Kept.{IsKeptOf};
     ghost use Rattle.hk_history.specs.Legal.{Legal};
     ghost use Rattle.hk_world.specs.Sound.{IsHeader, IsEvent};
@@ -107,6 +110,13 @@ impl LiveRun {
             Some(kept) => Ok(kept),
             None => Err(Memory),
         }
+    }
+
+    /// That it is a run. It does nothing at run time.
+    pub(crate) fn sound(&self)
+        ensures { IsRun self.now }
+    {
+        let _header = &self.header;
     }
 
     /// The header. It takes no memory.
@@ -165,13 +175,13 @@ impl LiveRun {
         }
     }
 
-    /// The calls on the key and their replies, where they are kept. It takes no memory.
-    pub fn items(&self, key: &Key) -> Result<&[Item], Memory>
-        ensures { IfOk result (λ items. items.now ≡ history self.now key.now) }
+    /// A mark of each of the calls on the key and their replies, where they are kept. It takes no memory.
+    pub fn marks(&self, key: &Key) -> Result<&[Mark], Memory>
+        ensures { IfOk result (λ marks. marks.now ≡ map mark_of (history self.now key.now)) }
     {
         let kept = self.kept()?;
         match kept.keys.get(key) {
-            Some(run) => Ok(run.history()),
+            Some(run) => Ok(run.marks()),
             None => Ok(&[]),
         }
     }

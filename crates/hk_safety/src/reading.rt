@@ -4,41 +4,15 @@ ghost use Rattle.std.specs.Prelude.{◌≡◌, ◌++◌, map, IfOk, OnOk};
 ghost use Rattle.std.specs.List.Sorted.{IsStrictlySortedBy};
 ghost use Rattle.std.specs.Map.{keys_of};
 ghost use Rattle.std.specs.Ordering.{nat_cmp};
+ghost use Rattle.hk_safety.specs.Marks.{mark_of};
 ghost use Rattle.hk_safety.specs.Kept.{kept_order, is_complete, update_entry, look_entry, entries_at};
 
 use crate::evidence::Evidence;
 use crate::key_run::{AtStamp, Calls, KeyRun};
+use crate::marked::Mark;
 use hk_base::Memory;
-use hk_history::{Entries, Entry, Event, Items};
+use hk_history::{Entries, Entry};
 use std::alloc::Global;
-
-// The same event, which shares the bytes.
-fn share_event(event: &Event) -> Result<Event, Memory>
-    ensures { IfOk result (λ same. same ≡ event.now) }
-{
-    match event {
-        Event::Call { no, op } => {
-            let op = op.share()?;
-            Ok(Event::Call { no: *no, op })
-        }
-        Event::Reply { no, answer } => {
-            let answer = answer.share()?;
-            Ok(Event::Reply { no: *no, answer })
-        }
-    }
-}
-
-/// The same events, which share the bytes.
-pub(crate) fn share_items(alloc: Global, items: &[Event]) -> Result<Items, Memory>
-    ensures { IfOk result (λ same. same ≡ items.now) }
-{
-    let mut same = Items::new(alloc);
-    for event in items {
-        let event = share_event(event)?;
-        same.push(event)?;
-    }
-    Ok(same)
-}
 
 // Whether the update is complete.
 fn is_complete(evidence: &Evidence) -> bool
@@ -86,11 +60,11 @@ fn put_stamp(order: &mut Entries, stamp: u64, at: &AtStamp) -> Result<(), Memory
 }
 
 impl KeyRun {
-    /// The history of the key.
-    pub(crate) fn history(&self) -> &[Event]
-        ensures { result.now ≡ self.now.items }
+    /// A mark of each event of the history of the key.
+    pub(crate) fn marks(&self) -> &[Mark]
+        ensures { result.now ≡ map mark_of self.now.items }
     {
-        self.items.as_slice()
+        self.items.marks()
     }
 
     /// The order of the key.

@@ -3,8 +3,9 @@
 ghost use Rattle.std.specs.Prelude.{◌≡◌, [], ◌∷◌, ◌++◌, length, IfOk, OnOk, OnErr};
 ghost use Rattle.std.specs.Option.{option_copied};
 
+use crate::again::again;
+use crate::laws::histories_are_histories;
 use crate::live::{Keys, LiveRun};
-use crate::reading::share_items;
 use hk_base::{Key, Memory};
 use hk_history::Items;
 use hk_world::{Event, Header, Shown, World, WorldFault};
@@ -110,11 +111,12 @@ impl Run {
         self.live.keys(alloc)
     }
 
-    /// The calls on the key and their replies.
+    /// The calls on the key and their replies. The run is made again for them: of what was said it keeps the numbers alone.
     pub fn history(&self, alloc: Global, key: &Key) -> Result<Items, Memory>
         ensures { IfOk result (λ items. items ≡ history self.now key.now) }
     {
-        let items = self.live.items(key)?;
-        share_items(alloc, items)
+        histories_are_histories();
+        self.live.sound();
+        again(alloc, *self.live.header(), self.events.as_slice(), key)
     }
 }

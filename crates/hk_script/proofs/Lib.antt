@@ -11,3 +11,4 @@ pub mod Exact
 pub mod Cuts
 pub mod Printed
 pub mod Drawing
+pub mod Taking

@@ -5,7 +5,7 @@ ghost use Rattle.std.specs.List.{flat_map, join_with_byte};
 ghost use Rattle.hk_script.specs.Words.{spelled, hexadecimal, word_of, actor_word};
 ghost use Rattle.hk_script.specs.Grammar.{op_words, change_words};
 
-use crate::words::is_plain;
+use crate::words::{all_plain, is_plain};
 use hk_base::{Actor, Change, Content, Memory, NodeId, Op};
 use itoa::Buffer;
 
@@ -60,9 +60,13 @@ fn put_byte(out: &mut Vec<u8>, byte: u8) -> Result<(), Memory>
     }
 }
 
+#[tactic(auto, using(crate::proofs::Literal::plain_word))]
 fn put_bytes(out: &mut Vec<u8>, bytes: &[u8]) -> Result<(), Memory>
     ensures { OnOk result (out.new.items ≡ out.old.items ++ flat_map spelled bytes.now) }
 {
+    if all_plain(bytes) {
+        return put(out, bytes);
+    }
     for byte in bytes {
         put_byte(out, *byte)?;
     }

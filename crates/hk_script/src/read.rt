@@ -1,6 +1,6 @@
 //! The readers.
 
-ghost use Rattle.std.specs.Prelude.{◌≡◌, OnErr, Err};
+ghost use Rattle.std.specs.Prelude.{◌≡◌, IfSome, OnErr, Some, Err};
 ghost use Rattle.hk_script.specs.declared.fault.LineFault.TheVariants.{Bad};
 ghost use Rattle.hk_script.specs.Parts.{Reads, number_of};
 ghost use Rattle.hk_script.specs.Lines.{event_of};
@@ -9,7 +9,7 @@ ghost use Rattle.hk_script.specs.Reading.{IsNumberRead, IsEventRead, IsHeaderRea
 use crate::event::event;
 use crate::fault::LineFault;
 use crate::header::header;
-use crate::words::{number, split};
+use crate::words::{Words, cut, is, number, split};
 use hk_base::Memory;
 use hk_world::{Event, Header};
 use std::alloc::Global;
@@ -26,10 +26,26 @@ pub fn read_header(line: &[u8]) -> Result<Header, LineFault>
     }
 }
 
+// The event of a line that takes a letter, as most lines do. So its words need no list.
+fn taken(line: &[u8]) -> Option<Event>
+    ensures { IfSome result (λ event. event_of line.now ≡ Some event) }
+{
+    let (name, word) = cut(line)?;
+    if !is(name, b"take") {
+        return None;
+    }
+    let letter = number(u64::MAX, word)?;
+    Some(Event::Take { letter })
+}
+
 fn event_in(alloc: Global, line: &[u8]) -> Result<Option<Event>, Memory>
     ensures { Reads result (event_of line.now) }
 {
-    let words = split(alloc, line)?;
+    if let Some(event) = taken(line) {
+        return Ok(Some(event));
+    }
+    let mut words = Words::new(alloc);
+    split(&mut words, line)?;
     event(alloc, words.as_slice())
 }
 

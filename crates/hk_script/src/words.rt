@@ -1,20 +1,32 @@
 //! The words of a line.
 
-ghost use Rattle.std.specs.Prelude.{◌≡◌, ◌<◌, ◌≤◌, ◌^◌, map, position, IfOk, IfSome, length, nat_eq, nat_lt, true, None, Some, if◌then◌else◌};
-ghost use Rattle.std.specs.Option.{option_map};
+ghost use Rattle.std.specs.Prelude.{◌≡◌, ◌<◌, ◌≤◌, ◌+◌, ◌-◌, ◌*◌, ◌^◌, [], map, position, IfOk, OnOk, IfSome, length, nat_eq, nat_lt, true, None, Some, if◌then◌else◌};
+ghost use Rattle.std.specs.Option.{option_map, SomeIff};
 ghost use Rattle.std.specs.List.{list_all};
 ghost use Rattle.std.specs.Char.{is_ascii_digit};
 ghost use Rattle.std.specs.Str.Parse.{digits_value};
 ghost use Rattle.hk_script.specs.Words.{is_plain};
 ghost use Rattle.hk_script.specs.Parts.{fields, is_space, IsCut, is_text, number_of, has_spare_zero, digit_of, escape_of, escaped_at, byte_at, unspelled, bytes_of};
 
+use hk_base::Memory;
+use smallvec::SmallVec;
 use std::alloc::{AllocError, Global};
 
-/// The words between the spaces.
-pub(crate) fn split(alloc: Global, line: &[u8]) -> Result<Vec<&[u8]>, AllocError>
-    ensures { IfOk result (λ v. map (λ w. w.now) v.items ≡ fields line.now) }
+/// The words of a line. So many are kept without an allocation, which is as many as an event has.
+pub(crate) type Words<'a> = SmallVec<&'a [u8], 8>;
+
+/// Puts the words between the spaces behind none.
+pub(crate) fn split<'a>(words: &mut Words<'a>, line: &'a [u8]) -> Result<(), Memory>
+    requires { words.old.items ≡ [] }
+    ensures { OnOk result (map (λ w. w.now) words.new.items ≡ fields line.now) }
 {
-    line.split(|b| *b == b' ').collect(alloc)
+    let mut rest = line;
+    while let Some((word, behind)) = cut(rest) {
+        words.push(word)?;
+        rest = behind;
+    }
+    words.push(rest)?;
+    Ok(())
 }
 
 fn first_space(line: &[u8]) -> Option<usize>
@@ -33,11 +45,20 @@ pub(crate) fn cut(line: &[u8]) -> Option<(&[u8], &[u8])>
     Some((word, rest))
 }
 
-/// Whether a word is this text.
+/// Whether a word is this text. The texts are constants of a few bytes: so this is some tests in place of a call.
+#[inline(always)]
 pub(crate) fn is(word: &[u8], text: &[u8]) -> bool
     ensures { result ≡ is_text word.now text.now }
 {
-    word == text
+    if word.len() != text.len() {
+        return false;
+    }
+    for place in 0..word.len() {
+        if word[place] != text[place] {
+            return false;
+        }
+    }
+    true
 }
 
 fn all_digits(word: &[u8]) -> bool
@@ -57,16 +78,26 @@ fn has_spare_zero(word: &[u8]) -> bool
     }
 }
 
+// What a digit more makes of a value, where that is below 2^64.
+fn with_digit(value: u64, digit: u8) -> Option<u64>
+    requires { is_ascii_digit digit ≡ true }
+    ensures { SomeIff result (value * 10 + (digit - 48) < 2 ^ 64) (value * 10 + (digit - 48)) }
+{
+    let tens = value.checked_mul(10)?;
+    tens.checked_add(u64::from(digit - b'0'))
+}
+
 // What digits are worth, where that is below 2^64.
 fn value(digits: &[u8]) -> Option<u64>
     requires digits { list_all is_ascii_digit digits.now ≡ true }
     requires some { 0 < length digits.now }
     ensures { result ≡ (if nat_lt (digits_value 10 digits.now) (2 ^ 64) then Some (digits_value 10 digits.now) else None) }
 {
-    let Ok(text) = str::from_utf8(digits) else {
-        return None;
-    };
-    text.parse::<u64>().ok()
+    let mut value = 0;
+    for digit in digits {
+        value = with_digit(value, *digit)?;
+    }
+    Some(value)
 }
 
 /// The number that a word is, up to a limit.
@@ -168,7 +199,8 @@ fn unspelled(alloc: Global, word: &[u8]) -> Result<Option<Vec<u8>>, AllocError>
     }
 }
 
-fn all_plain(word: &[u8]) -> bool
+/// Whether each byte stands for itself.
+pub(crate) fn all_plain(word: &[u8]) -> bool
     ensures { result ≡ list_all is_plain word.now }
 {
     word.iter().all(|byte| is_plain(*byte))

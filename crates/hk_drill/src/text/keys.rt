@@ -1,27 +1,29 @@
 //! A key with its history and its order.
 
 ghost use Rattle.std.specs.Prelude.{◌≡◌, ◌++◌, OnOk};
-ghost use Rattle.hk_drill.specs.Text.{item_text, history_text, tag_text, entry_text, order_text, key_text};
+ghost use Rattle.hk_drill.specs.Text.{tag_text, entry_text, order_text};
+ghost use Rattle.hk_drill.specs.Marks.{mark_text, marks_text, marked_text};
 
 use super::parts::put_named;
 use hk_base::{Key, Memory};
-use hk_history::{Entry, Event};
+use hk_history::Entry;
+use hk_safety::Mark;
 use hk_script::{put_text, put_word};
 
-fn put_item(out: &mut Vec<u8>, item: &Event) -> Result<(), Memory>
-    ensures { OnOk result (out.new.items ≡ out.old.items ++ item_text item.now) }
+fn put_mark(out: &mut Vec<u8>, mark: Mark) -> Result<(), Memory>
+    ensures { OnOk result (out.new.items ≡ out.old.items ++ mark_text mark) }
 {
-    match item {
-        Event::Call { no, op: _ } => put_named(out, b" c", no.0),
-        Event::Reply { no, answer: _ } => put_named(out, b" r", no.0),
+    match mark {
+        Mark::Call(call) => put_named(out, b" c", call.0),
+        Mark::Reply(call) => put_named(out, b" r", call.0),
     }
 }
 
-fn put_history(out: &mut Vec<u8>, history: &[Event]) -> Result<(), Memory>
-    ensures { OnOk result (out.new.items ≡ out.old.items ++ history_text history.now) }
+fn put_history(out: &mut Vec<u8>, history: &[Mark]) -> Result<(), Memory>
+    ensures { OnOk result (out.new.items ≡ out.old.items ++ marks_text history.now) }
 {
-    for item in history {
-        put_item(out, item)?;
+    for mark in history {
+        put_mark(out, *mark)?;
     }
     Ok(())
 }
@@ -52,15 +54,15 @@ fn put_order(out: &mut Vec<u8>, order: &[Entry]) -> Result<(), Memory>
     Ok(())
 }
 
-/// A key with its history and its order.
-#[tactic(auto, unfolding(crate::specs::Text::key_text))]
+/// A key with its history, by its marks, and its order.
+#[tactic(auto, unfolding(crate::specs::Marks::marked_text))]
 pub(crate) fn put_key(
     out: &mut Vec<u8>,
     key: &Key,
-    history: &[Event],
+    history: &[Mark],
     order: &[Entry],
 ) -> Result<(), Memory>
-    ensures { OnOk result (out.new.items ≡ out.old.items ++ key_text key.now history.now order.now) }
+    ensures { OnOk result (out.new.items ≡ out.old.items ++ marked_text key.now history.now order.now) }
 {
     put_text(out, b"key ")?;
     put_word(out, key.bytes())?;

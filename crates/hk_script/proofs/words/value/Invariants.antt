@@ -1,0 +1,9 @@
+use Rattle.std.proofs.Common.{◌≡◌, ◌<◌, ◌^◌, drop, true}
+use Rattle.std.specs.List.{list_all}
+use Rattle.std.specs.Char.{is_ascii_digit}
+use Rattle.std.specs.Str.Parse.{digits_value, digits_value_after}
+use Rattle.hk_script.proofs.words.value.Given as goal
+
+-- the value so far and the digits that are left make the whole
+abbrev pub invariant-loop-digit : goal.invariant-loop-digit
+invariant-loop-digit l = (digits_value 10 l.digits ≡ digits_value_after 10 l.value (drop l.digit-index l.digits)) × (list_all is_ascii_digit (drop l.digit-index l.digits) ≡ true) × (l.value < 2 ^ 64)
