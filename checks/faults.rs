@@ -1,6 +1,6 @@
 // Makes one call of the C library fail, in a program that is started with this library before it: the environment names a kind of
 // call, `ALLOCATE`, `READ` or `WRITE`, and the number of the call that fails, counted from 1. With `SHORT` 1 each write takes one byte,
-// with 2 each read gives one, with 3 both.
+// with 2 each read gives one, with 3 both. Reads and writes are those of standard input, standard output and sockets.
 // At the end it tells on standard error how many calls of each kind were made.
 use std::ffi::{c_char, c_int, c_void};
 use std::sync::atomic::{AtomicU64, Ordering};
@@ -12,6 +12,8 @@ unsafe extern "C" {
     fn __libc_memalign(align: usize, size: usize) -> *mut c_void;
     fn __read(file: c_int, room: *mut c_void, size: usize) -> isize;
     fn __write(file: c_int, bytes: *const c_void, size: usize) -> isize;
+    fn recvfrom(socket: c_int, room: *mut c_void, size: usize, flags: c_int, from: *mut c_void, from_size: *mut u32) -> isize;
+    fn sendto(socket: c_int, bytes: *const c_void, size: usize, flags: c_int, to: *const c_void, to_size: u32) -> isize;
     fn __errno_location() -> *mut c_int;
     fn getenv(name: *const c_char) -> *const c_char;
     fn atol(text: *const c_char) -> i64;
@@ -86,22 +88,41 @@ unsafe fn faulty() -> isize {
     -1
 }
 
+/// As many bytes as a call moves, where `short` is the bit of `SHORT` for its kind.
+fn moved(size: usize, short: u64) -> usize {
+    if SHORT.load(Ordering::Relaxed) & short != 0 { size.min(1) } else { size }
+}
+
 #[unsafe(no_mangle)]
 pub unsafe extern "C" fn read(file: c_int, room: *mut c_void, size: usize) -> isize {
-    if file == 0 && READS.fail() {
-        return unsafe { faulty() };
+    if file != 0 {
+        return unsafe { __read(file, room, size) };
     }
-    let size = if file == 0 && SHORT.load(Ordering::Relaxed) & 2 != 0 { size.min(1) } else { size };
-    unsafe { __read(file, room, size) }
+    if READS.fail() { unsafe { faulty() } } else { unsafe { __read(file, room, moved(size, 2)) } }
 }
 
 #[unsafe(no_mangle)]
 pub unsafe extern "C" fn write(file: c_int, bytes: *const c_void, size: usize) -> isize {
-    if file == 1 && WRITES.fail() {
+    if file != 1 {
+        return unsafe { __write(file, bytes, size) };
+    }
+    if WRITES.fail() { unsafe { faulty() } } else { unsafe { __write(file, bytes, moved(size, 1)) } }
+}
+
+#[unsafe(no_mangle)]
+pub unsafe extern "C" fn recv(socket: c_int, room: *mut c_void, size: usize, flags: c_int) -> isize {
+    if READS.fail() {
         return unsafe { faulty() };
     }
-    let size = if file == 1 && SHORT.load(Ordering::Relaxed) & 1 != 0 { size.min(1) } else { size };
-    unsafe { __write(file, bytes, size) }
+    unsafe { recvfrom(socket, room, moved(size, 2), flags, std::ptr::null_mut(), std::ptr::null_mut()) }
+}
+
+#[unsafe(no_mangle)]
+pub unsafe extern "C" fn send(socket: c_int, bytes: *const c_void, size: usize, flags: c_int) -> isize {
+    if WRITES.fail() {
+        return unsafe { faulty() };
+    }
+    unsafe { sendto(socket, bytes, moved(size, 1), flags, std::ptr::null(), 0) }
 }
 
 unsafe fn asked(name: &std::ffi::CStr) -> u64 {

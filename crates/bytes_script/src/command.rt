@@ -1,0 +1,66 @@
+//! What command words are. Each word is ended by a zero byte.
+
+use bytes_told::{put, put_number};
+use hk_base::Memory;
+use hk_cli::{Command, read_command};
+use std::alloc::Global;
+
+// The words; none where they are no text, as the program has none then.
+fn words(alloc: Global, bytes: &[u8]) -> Result<Vec<String>, Memory> {
+    let mut words = Vec::new(alloc);
+    let Ok(text) = str::from_utf8(bytes) else {
+        return Ok(words);
+    };
+    for word in text.split('\0') {
+        words.push(String::from_str(alloc, word)?)?;
+    }
+    if words.last().is_some_and(|word| word.is_empty()) {
+        words.pop();
+    }
+    Ok(words)
+}
+
+fn put_numbers(out: &mut Vec<u8>, name: &[u8], numbers: &[u64]) -> Result<(), Memory> {
+    put(out, name)?;
+    for number in numbers {
+        put(out, b" ")?;
+        put_number(out, *number)?;
+    }
+    Ok(())
+}
+
+/// Tells which command the words are.
+pub fn tell(alloc: Global, bytes: &[u8], out: &mut Vec<u8>) -> Result<(), Memory> {
+    match read_command(words(alloc, bytes)?.as_slice()) {
+        Some(Command::Drill) => put(out, b"drill"),
+        Some(
+            Command::Generate {
+                start,
+                count,
+                nodes,
+            },
+        ) => {
+            put_numbers(
+                out,
+                b"generate",
+                &[start, u64::from(count), u64::from(nodes)],
+            )
+        }
+        Some(
+            Command::Serve {
+                lease,
+                skew,
+                port,
+                conns,
+            },
+        ) => {
+            put_numbers(
+                out,
+                b"serve",
+                &[lease, skew, u64::from(port), u64::from(conns)],
+            )
+        }
+        Some(Command::Watch { writes }) => put_numbers(out, b"watch", &[u64::from(writes)]),
+        None => put(out, b"none"),
+    }
+}
