@@ -18,6 +18,7 @@ unsafe extern "C" {
     fn getenv(name: *const c_char) -> *const c_char;
     fn atol(text: *const c_char) -> i64;
     fn dprintf(file: c_int, format: *const c_char, ...) -> c_int;
+    fn exit(status: c_int) -> !;
 }
 
 const EIO: c_int = 5;
@@ -144,6 +145,12 @@ extern "C" fn begin() {
 
 extern "C" fn tell() {
     unsafe { dprintf(2, c"calls %lu %lu %lu\n".as_ptr(), ALLOCATIONS.number(), READS.number(), WRITES.number()) };
+}
+
+/// A program that can start threads ends by this, which would tell nothing.
+#[unsafe(no_mangle)]
+pub unsafe extern "C" fn _exit(status: c_int) -> ! {
+    unsafe { exit(status) }
 }
 
 #[used]

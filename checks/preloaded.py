@@ -1,0 +1,30 @@
+"""Programs that run while one call of the C library fails: what `checks/faults.rs` makes of the environment, and what it tells."""
+import os
+import subprocess
+import sys
+from pathlib import Path
+
+KINDS = ["ALLOCATE", "READ", "WRITE"]
+WRITES_SHORT, READS_SHORT = 1, 2
+
+
+def build(room):
+    """The library that is loaded before a program, built into this folder."""
+    library = f"{room}/faults.so"
+    source = Path(__file__).resolve().parent / "faults.rs"
+    subprocess.run(["rustc", "--edition", "2021", "-O", "--crate-type", "cdylib", "-o", library, source], check=True)
+    return library
+
+
+def environment(library, faults):
+    """The environment of a program: `faults` has the number of the call that fails for each kind, and how short calls are."""
+    return {**os.environ, "LD_PRELOAD": library, **{name: str(number) for name, number in faults.items()}}
+
+
+def calls(told, status):
+    """How many calls of each kind the program made, by the last line of what it told on standard error."""
+    line = told.decode(errors="replace").splitlines()[-1:]
+    words = line[0].split() if line else []
+    if words[:1] != ["calls"]:
+        sys.exit(f"the library told no calls: the program ended with status {status}, and told {told[-400:]!r}")
+    return dict(zip(KINDS, map(int, words[1:])))
