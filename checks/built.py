@@ -1,0 +1,23 @@
+"""The repository's small programs, each proved and built first where it is missing or older than a source of any crate."""
+import subprocess
+import sys
+from pathlib import Path
+
+TOP = Path(__file__).resolve().parent.parent
+
+
+def is_stale(program):
+    """Whether the program is missing, or older than a source of any crate."""
+    if not program.exists():
+        return True
+    sources = [file for ending in ("*.rt", "*.antt") for file in (TOP / "crates").rglob(ending) if "out" not in file.parts]
+    return any(file.stat().st_mtime > program.stat().st_mtime for file in [TOP / "crates.txt", *sources])
+
+
+def program(name):
+    """The path of the program of this crate."""
+    path = TOP / "crates" / name / "out" / name
+    if is_stale(path):
+        print(f"{name}: proving and building it, which may take an hour", file=sys.stderr, flush=True)
+        subprocess.run(["rt", "run"], cwd=TOP / "crates" / name, stdin=subprocess.DEVNULL, stdout=subprocess.DEVNULL, stderr=subprocess.DEVNULL)
+    return path
