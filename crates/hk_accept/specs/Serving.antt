@@ -1,0 +1,35 @@
+-- How a server ends whose connections are jobs.
+use Rattle.std.specs.Prelude.{◌≡◌, ℕ, ◌+◌, ◌-◌, ◌^◌, ◌≤◌, ◌<◌, min, Option, None, Some, ⊤}
+use Rattle.hk_outside.specs.declared.status.Status.{Status}
+use Rattle.hk_outside.specs.declared.status.Status.TheVariants as status
+
+-- the statuses with which a server may end
+abbrev pub EndsServe : Status → Type 0
+EndsServe status.Done = ⊤
+EndsServe status.Memory = ⊤
+EndsServe status.DoorFault = ⊤
+EndsServe status.SpawnFault = ⊤
+EndsServe other = ⊥
+
+-- so many connections came through the doors, where they tell how many are left
+abbrev pub Came : Option ℕ → Option ℕ → ℕ → Type 0
+Came None now count = ⊤
+Came (Some before) now count = (count ≤ before) × (now ≡ Some (before - count))
+
+-- so many are all that were left, where the doors tell how many are left
+abbrev pub AreAll : Option ℕ → ℕ → Type 0
+AreAll None count = ⊤
+AreAll (Some before) count = before ≡ count
+
+-- at least so many jobs were taken, as far as their count goes, where the spawner tells it
+abbrev pub Taken : Option ℕ → Option ℕ → ℕ → Type 0
+Taken None now count = ⊤
+Taken (Some before) now count = (jobs : ℕ) × (now ≡ Some jobs) × (min (before + count) (2 ^ 64 - 1) ≤ jobs)
+
+-- The stated number of connections came, or all that were left where those were fewer, and for each a job was taken.
+pub record HasServed (left left' taken taken' : Option ℕ) (conns : ℕ) : Type 0 where
+  pub count : ℕ
+  pub within : count ≤ conns
+  pub came : Came left left' count
+  pub started : Taken taken taken' count
+  pub all : count < conns → AreAll left count

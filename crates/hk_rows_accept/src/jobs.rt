@@ -1,0 +1,116 @@
+//! How servers end whose connections are jobs, and that these run side by side.
+
+use crate::meeting::{Meeting, Seen};
+use hk_accept::{AcceptOptions, Desks, serve_each};
+use hk_base::{Answer, Memory};
+use hk_outside::{
+    DeskReply, FakeDesk, MemoryConnection, MemoryDoors, MemorySink, MemorySource, NoSpawner,
+    Status, ThreadSpawner,
+};
+use std::alloc::Global;
+use std::collections::VecDeque;
+use std::process::Abort;
+use std::sync::Arc;
+use std::sync::atomic::{AtomicBool, AtomicU64, Ordering};
+
+// Desks that tell one Stored each.
+#[derive(Drop)]
+struct Storing {
+    alloc: Global,
+}
+
+impl Desks for Storing {
+    type Desk = FakeDesk;
+
+    fn desk(&self, _number: u32) -> Result<FakeDesk, Memory> {
+        let mut replies = VecDeque::new(self.alloc);
+        replies.push_back(DeskReply::Told(Answer::Stored))?;
+        FakeDesk::new(self.alloc, replies, 0)
+    }
+}
+
+fn connection(rt: &impl Abort, alloc: Global) -> MemoryConnection {
+    let sent = Vec::from_slice(alloc, b"set k 0 0 1\r\nx\r\n").expect(rt, "memory");
+    MemoryConnection {
+        source: MemorySource::new(sent, Vec::new(alloc)),
+        sink: MemorySink::new(alloc, Vec::new(alloc)),
+    }
+}
+
+fn seen(rt: &impl Abort, alloc: Global) -> Arc<Seen> {
+    let seen = Seen {
+        written: AtomicU64::new(0),
+        stored: AtomicBool::new(false),
+    };
+    Arc::new(alloc, seen).expect(rt, "memory")
+}
+
+// Two connections, of which the first waits for the second.
+fn doors(rt: &impl Abort, alloc: Global, seen: &Arc<Seen>, fails: bool) -> MemoryDoors<Meeting> {
+    let mut conns = VecDeque::new(alloc);
+    for waits in [true, false] {
+        let conn = Meeting {
+            conn: connection(rt, alloc),
+            waits,
+            faults: 0,
+            seen: Arc::clone(seen).expect(rt, "memory"),
+        };
+        conns.push_back(conn).expect(rt, "memory");
+    }
+    MemoryDoors::new(conns, fails)
+}
+
+fn stores(rt: &impl Abort, alloc: Global) -> Arc<Storing> {
+    Arc::new(alloc, Storing { alloc }).expect(rt, "memory")
+}
+
+fn options(conns: u32) -> AcceptOptions {
+    AcceptOptions {
+        port: 11_211,
+        conns,
+    }
+}
+
+#[test]
+fn conns_meet(rt: HostRuntime) {
+    let alloc = rt.alloc();
+    for conns in [2, 3] {
+        let seen = seen(&rt, alloc);
+        let mut doors = doors(&rt, alloc, &seen, false);
+        let mut spawner = ThreadSpawner::new(rt, alloc);
+        let status = serve_each(
+            &rt,
+            alloc,
+            &mut doors,
+            &mut spawner,
+            &stores(&rt, alloc),
+            &options(conns),
+        );
+        assert_eq!(rt; status, Status::Done, "{conns} connections");
+        assert_eq!(rt; spawner.taken, 2, "{conns} connections");
+        assert_eq!(rt;
+            seen.written.load(Ordering::SeqCst),
+            16,
+            "{conns} connections"
+        );
+        spawner.join_all();
+    }
+}
+
+#[test]
+fn servers_with_jobs_end(rt: HostRuntime) {
+    let alloc = rt.alloc();
+    for (fails, wanted) in [(true, Status::DoorFault), (false, Status::SpawnFault)] {
+        let seen = seen(&rt, alloc);
+        let mut doors = doors(&rt, alloc, &seen, fails);
+        let mut spawner: NoSpawner<HostRuntime> = NoSpawner::new();
+        let desks = stores(&rt, alloc);
+        let status = serve_each(&rt, alloc, &mut doors, &mut spawner, &desks, &options(2));
+        assert_eq!(rt; status, wanted, "doors that fail: {fails}");
+        assert_eq!(rt;
+            seen.written.load(Ordering::SeqCst),
+            0,
+            "doors that fail: {fails}"
+        );
+    }
+}
