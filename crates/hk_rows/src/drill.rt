@@ -267,7 +267,7 @@ const USAGE: &[u8] = b"usage: hermes drill | generate | storm | serve\n";
 
 #[test]
 fn other_words_are_answered_by_one_line(rt: HostRuntime) -> Result<(), Fail> {
-    let rows: [&[&str]; 12] = [
+    let rows: [&[&str]; 16] = [
         &[],
         &["drill", "now"],
         &["--help"],
@@ -280,6 +280,10 @@ fn other_words_are_answered_by_one_line(rt: HostRuntime) -> Result<(), Fail> {
         &["generate", "--start", "1", "--count", "5", "--nodes", "17"],
         &["generate", "--start", "1", "--start=1", "--nodes", "1"],
         &["--start", "1", "generate", "--count", "5", "--nodes", "1"],
+        &["watch"],
+        &["watch", "--writes", "0"],
+        &["watch", "--writes", "10001"],
+        &["watch", "--writes", "5", "--writes", "5"],
         &[
             "serve",
             "--nodes=2",
@@ -353,6 +357,27 @@ fn runs_are_drawn_from_a_number(rt: HostRuntime) -> Result<(), Fail> {
         assert_eq!(rt; outcome.status, Status::Done);
     }
     Ok(())
+}
+
+#[test]
+fn a_watch_tells_the_stamp_of_the_last_write(rt: HostRuntime) {
+    let rows: [(&[&str], &[u8]); 2] = [
+        (
+            &["watch", "--writes", "100"],
+            b"writes 100 last 200.0 rising\n",
+        ),
+        (
+            &["watch", "--writes=10000"],
+            b"writes 10000 last 20000.0 rising\n",
+        ),
+    ];
+    for (words, text) in rows {
+        let outcome = call(rt, rt.alloc(), words, Vec::new(rt.alloc()), &[], &[]).expect(
+            &rt, "memory",
+        );
+        assert_eq!(rt; outcome.text.as_slice(), text);
+        assert_eq!(rt; outcome.status, Status::Done);
+    }
 }
 
 #[test]
