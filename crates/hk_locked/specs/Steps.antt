@@ -1,5 +1,5 @@
 -- What a reader has seen after the calls that are made with it under a shard's lock.
-use Rattle.std.specs.Prelude.{◌≡◌, ◌≢◌, ◌⊎◌, ⊤, ℕ, ◌+◌, ◌≤◌, List, [], ◌∷◌, Option, Some, None}
+use Rattle.std.specs.Prelude.{◌≡◌, ◌≢◌, ◌⊎◌, ⊤, ℕ, ◌+◌, ◌<◌, ◌≤◌, List, [], ◌∷◌, length, Option, Some, None}
 use Rattle.atomic_table.specs.Seated.{TableId}
 use mathlib.Core.List.{IsPrefix}
 use Rattle.hk_base.specs.declared.call.CallNo.{CallNo}
@@ -13,7 +13,8 @@ use Rattle.hk_snap.specs.Leases.{Lease, Looks as LooksAtLease}
 use Rattle.hk_node.specs.declared.event.NodeEvent.TheVariants.{Call}
 use Rattle.hk_node.specs.Stepped.{replies_of}
 use Rattle.hk_node.specs.Steps.{node_step}
-use Rattle.hk_shard.specs.Shard.{ShardState, IsApplied}
+use Rattle.hk_shard.specs.Shard.{ShardState, IsApplied, checkpointed}
+use Rattle.hk_journal.specs.declared.step_entry.JournalEntry.{JournalEntry}
 use Rattle.hk_told.specs.declared.asks.Look.{Look}
 use Rattle.hk_told.specs.declared.asks.Look.TheVariants.{Gone, Waits, Told}
 use Rattle.hk_told.specs.declared.ask.Ask.{Ask}
@@ -64,6 +65,21 @@ pub record MeetsLease (s : LockedState) (old new : ReaderState) : Type 0 where
   pub end : new.lease.end ≡ lease_end s.shard.part
   pub now : new.lease.now ≡ s.shard.part.clock
   pub looked : LooksAtLease old.lease new.lease
+
+-- By one load of the lease cell the reader has seen a clock that is not below this reading.
+pub record Ticks (now : ℕ) (old new : ReaderState) : Type 0 where
+  pub node : new.node ≡ old.node
+  pub number : new.number ≡ old.number
+  pub skew : new.skew ≡ old.skew
+  pub cells : new.cells ≡ old.cells
+  pub looked : LooksAtLease old.lease new.lease
+  pub clock : now ≤ new.lease.now
+
+-- The journal is handed out, and begins anew, where it has so many entries at least; else nothing is.
+abbrev pub Trims : ℕ → LockedState → LockedState → Option (List JournalEntry) → Type 0
+Trims entries old new None = (length old.shard.journal < entries) × (new ≡ old)
+Trims entries old new (Some journal) =
+    (entries ≤ length old.shard.journal) × (journal ≡ old.shard.journal) × (new ≡ record old { shard = checkpointed old.shard })
 
 -- the replies of a call's step, by the answer that it gave, if it did
 abbrev pub replies_with : CallNo → Option Answer → List Reply

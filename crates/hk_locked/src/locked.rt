@@ -1,8 +1,9 @@
 //! A shard under its lock.
 
-ghost use Rattle.std.specs.Prelude.{◌≡◌, ◌<◌, ◌∷◌, [], true, None, Some, IsTrue, IfOk, OnOk, OnErr, MatchOption};
+ghost use Rattle.std.specs.Prelude.{◌≡◌, ◌<◌, ◌≤◌, ◌∷◌, [], true, None, Some, IsTrue, IfOk, OnOk, OnErr, MatchOption};
 ghost use Rattle.std.specs.List.{AllByRecursion};
 ghost use Rattle.hk_base.specs.Range.{IsLetter};
+ghost use Rattle.hk_base.specs.declared.time.TheConstants.{MAX_TIME};
 ghost use Rattle.hk_node.specs.Sound.{IsEvent};
 ghost use Rattle.hk_node.specs.Laws.{IsNoCall};
 ghost use Rattle.hk_shard.specs.Shard.{IsShard, IsApplied};
@@ -15,7 +16,7 @@ ghost use Rattle.hk_node.specs.declared.event.NodeEvent.TheVariants.{Call};
 ghost use Rattle.hk_node.specs.Stepped.{replies_of};
 ghost use Rattle.hk_node.specs.Steps.{node_step};
 ghost use Rattle.hk_locked.specs.Places.{shard_names, node_names};
-ghost use Rattle.hk_locked.specs.Steps.{IsGrown, Meets, MeetsLease, Begins, StartsAt, LooksFor, HasCalled, AreOneOrNone, replies_with};
+ghost use Rattle.hk_locked.specs.Steps.{IsGrown, Meets, MeetsLease, Ticks, Trims, Begins, StartsAt, LooksFor, HasCalled, AreOneOrNone, replies_with};
 
 use crate::places::Places;
 use crate::reader::ShardReader;
@@ -262,6 +263,7 @@ impl<F: Completion + Copy + Drop, P: Places> LockedShard<F, P> {
         requires no_call { IsNoCall event }
         ensures letters { IfOk result (λ given. AllByRecursion IsLetter given.letters) }
         ensures applied { OnOk result (IsApplied self.old.shard ticket event self.new.shard) }
+        ensures err { OnErr result (self.new ≡ self.old) }
     {
         keeps(&self.shard);
         let out = self.shard.apply(rt, alloc, ticket, event)?;
@@ -392,6 +394,25 @@ impl<F: Completion + Copy + Drop, P: Places> LockedShard<F, P> {
         Ok(self.asks.look(call, ticket))
     }
 
+    /// Raises the clock to a reading, which the reader sees by one load of the lease. Where it answers `Memory` the clock may have risen.
+    pub fn tick<R: Wait>(
+        &mut self,
+        rt: &R,
+        alloc: Global,
+        reader: &mut ShardReader<P>,
+        ticket: u64,
+        now: u64,
+    ) -> Result<(), Memory>
+        requires ticket { self.old.shard.last < ticket }
+        requires now { now ≤ MAX_TIME }
+        ensures ticks { OnOk result (Ticks now reader.old reader.new) }
+        ensures err { OnErr result (reader.new ≡ reader.old) }
+    {
+        self.apply(rt, alloc, ticket, NodeEvent::Tick { now })?;
+        self.meet_lease(rt, reader)?;
+        Ok(())
+    }
+
     /// Nobody waits any more for what the call is told. It takes no memory.
     pub fn give_up(&mut self, call: CallNo) {
         self.asks.give_up(call);
@@ -404,15 +425,21 @@ impl<F: Completion + Copy + Drop, P: Places> LockedShard<F, P> {
     }
 
     /// Hands out the journal and begins a new one, if it has so many entries at least. After `Memory` nothing has changed.
-    pub fn trim(&mut self, alloc: Global, entries: usize) -> Result<Option<Journal>, Memory> {
+    pub fn trim(&mut self, alloc: Global, entries: usize) -> Result<Option<Journal>, Memory>
+        ensures trims { IfOk result (λ journal. Trims entries self.old self.new journal) }
+        ensures err { OnErr result (self.new ≡ self.old) }
+    {
         if self.shard.journal().len() < entries {
             return Ok(None);
         }
-        Ok(Some(self.shard.checkpoint(alloc)?))
+        let journal = self.shard.checkpoint(alloc)?;
+        Ok(Some(journal))
     }
 
     /// The journal.
-    pub fn journal(&self) -> &Journal {
+    pub fn journal(&self) -> &Journal
+        ensures { result.now ≡ self.now.shard.journal }
+    {
         self.shard.journal()
     }
 }

@@ -110,7 +110,7 @@ fn give_up<F: Completion + Copy + Drop, P: Places, R: Wait>(
 }
 
 /// Asks an operation: waits a while until the key is Valid, makes the call, sends its letters, and where its update waits looks until it was told.
-pub fn ask<F: Completion + Copy + Drop, P: Places, R: Wait>(
+pub(crate) fn ask<F: Completion + Copy + Drop, P: Places, R: Wait>(
     rt: &R,
     alloc: Global,
     shards: &Shards<F, P>,

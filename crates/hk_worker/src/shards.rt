@@ -1,6 +1,6 @@
 //! The eight shards of a node.
 
-ghost use Rattle.std.specs.Prelude.{◌≡◌, ◌≤◌, ◌<◌, true, IfOk, OnOk};
+ghost use Rattle.std.specs.Prelude.{◌≡◌, ◌≤◌, ◌<◌, true, IfOk, OnOk, OnErr};
 ghost use Rattle.std.specs.List.{AllByRecursion};
 ghost use Rattle.hk_base.specs.Range.{IsLetter};
 ghost use Rattle.hk_base.specs.declared.time.TheConstants.{MAX_TIME};
@@ -9,6 +9,7 @@ ghost use Rattle.hk_node.specs.Node.{is_member};
 ghost use Rattle.hk_node.specs.Sound.{IsEvent};
 ghost use Rattle.hk_node.specs.Laws.{IsNoCall};
 ghost use Rattle.hk_locked.specs.Places.{node_names};
+ghost use Rattle.hk_locked.specs.Steps.{Ticks};
 ghost use Rattle.hk_worker.specs.Founding.{IsFoundedShard, IsShardNamed, names_of};
 
 use crate::eight::Eight;
@@ -229,7 +230,7 @@ impl<F: Completion + Copy + Drop, P: Places> Shards<F, P> {
         Ok(reader.into_cells())
     }
 
-    /// Makes the step of an event that is no call at a shard, 0 to 7, with a ticket that is drawn under its lock. After `Memory` nothing has changed.
+    /// Makes the step of an event that is no call at a shard, 0 to 7, with a ticket that is drawn under its lock.
     pub fn apply<R: Wait>(
         &self,
         rt: &R,
@@ -248,17 +249,25 @@ impl<F: Completion + Copy + Drop, P: Places> Shards<F, P> {
         Ok(given.letters)
     }
 
-    /// Raises the clock of a shard, 0 to 7, to a reading. One above the limit counts as the limit. After `Memory` nothing has changed.
-    pub fn tick<R: Wait>(&self, rt: &R, alloc: Global, shard: u8, now: u64) -> Result<(), Memory>
-        requires { shard < 8 }
+    // Raises the clock of the reader's shard to a reading, with a ticket that is drawn under its lock.
+    pub(crate) fn tick<R: Wait>(
+        &self,
+        rt: &R,
+        alloc: Global,
+        reader: &mut ShardReader<P>,
+        now: u64,
+    ) -> Result<(), Memory>
+        requires { now ≤ MAX_TIME }
+        ensures ticks { OnOk result (Ticks now reader.old reader.new) }
+        ensures err { OnErr result (reader.new ≡ reader.old) }
     {
-        let now = now.min(MAX_TIME);
-        self.apply(rt, alloc, shard, NodeEvent::Tick { now })?;
-        Ok(())
+        let mut held = self.lock_of(reader.number()).lock(rt);
+        let ticket = self.tickets().draw_above(rt, held.last_ticket());
+        held.tick(rt, alloc, reader, ticket, now)
     }
 
-    /// Checkpoints a shard, 0 to 7, whose journal has at least so many entries, and drops what it hands out. After `Memory` nothing has changed.
-    pub fn trim<R: Wait>(
+    // Checkpoints a shard, 0 to 7, whose journal has at least so many entries, and drops what it hands out.
+    pub(crate) fn trim<R: Wait>(
         &self,
         rt: &R,
         alloc: Global,
