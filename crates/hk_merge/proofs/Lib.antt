@@ -9,3 +9,5 @@ pub mod Alone
 pub mod Placing
 pub mod Puts
 pub mod Sameness
+pub mod Settings
+pub mod Indexing

@@ -6,3 +6,4 @@ pub mod Shows
 pub mod Single
 pub mod Placed
 pub mod Same
+pub mod Indexed

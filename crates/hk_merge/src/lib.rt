@@ -5,7 +5,9 @@
 //! The caller owes that the tickets of each journal rise.
 #![tactic(auto)]
 
+mod index;
 mod laws;
+mod named;
 mod note;
 mod same;
 mod slot;

@@ -2,16 +2,15 @@
 
 ghost use Rattle.std.specs.Prelude.{◌≡◌, ◌≤◌, length, OnOk, IfOk, map};
 ghost use Rattle.std.specs.BTreeMap.{insert_entry};
-ghost use Rattle.std.specs.Option.{option_copied};
 ghost use Rattle.std.specs.Map.{values_of};
-ghost use Rattle.hk_node.specs.Laws.{key_of, key_in};
-ghost use Rattle.hk_merge.specs.Merged.{is_named, is_next, next_entry, journal_of, note_place, place_cmp};
-ghost use Rattle.hk_merge.specs.Placed.{item_of, placed, put_entries, put_journals, put_notes, with_note, is_founded, merged, items_in};
+ghost use Rattle.hk_merge.specs.Merged.{note_place, place_cmp};
+ghost use Rattle.hk_merge.specs.Placed.{item_of, placed, put_entries, put_journals, put_notes, with_note, merged, items_in};
+ghost use Rattle.hk_merge.specs.Indexed.{place_by};
 
+use crate::index::Index;
 use crate::note::Note;
-use hk_base::{Body, Key, Memory, NodeId};
+use hk_base::{Memory, NodeId};
 use hk_journal::{Journal, JournalEntry};
-use hk_node::NodeEvent;
 use std::alloc::Global;
 use std::collections::BTreeMap;
 
@@ -35,82 +34,29 @@ pub enum Slot<'a> {
 /// Entries and notes, by their places.
 pub type Slots<'a> = BTreeMap<Place, Slot<'a>>;
 
-fn key_in(body: &Body) -> Option<&Key>
-    ensures { option_copied result ≡ key_in body.now }
-{
-    match body {
-        Body::Inv { key, .. } => Some(key),
-        Body::Ack { key, .. } => Some(key),
-        Body::Val { key, .. } => Some(key),
-        _ => None,
-    }
-}
-
-fn key_of(event: &NodeEvent) -> Option<&Key>
-    ensures { option_copied result ≡ key_of event.now }
-{
-    match event {
-        NodeEvent::Call { key, .. } => Some(key),
-        NodeEvent::Receive(letter) => key_in(&letter.body),
-        NodeEvent::Resend(key) => Some(key),
-        NodeEvent::Replay(key) => Some(key),
-        _ => None,
-    }
-}
-
-fn is_named(event: &NodeEvent, key: &Key) -> bool
-    ensures { result ≡ is_named (key_of event.now) key.now }
-{
-    match key_of(event) {
-        Some(named) => key.cmp(named).is_eq(),
-        None => false,
-    }
-}
-
-fn is_next(key: &Key, ticket: u64, entry: &JournalEntry) -> bool
-    ensures { result ≡ is_next key.now ticket entry.now }
-{
-    ticket < entry.ticket && is_named(&entry.event, key)
-}
-
-// The next entry of the key behind the ticket.
-fn next_entry<'a>(journal: &'a [JournalEntry], key: &Key, ticket: u64) -> Option<&'a JournalEntry>
-    ensures { option_copied result ≡ next_entry key.now ticket journal.now }
-{
-    journal.iter().find(|entry| is_next(key, ticket, entry))
-}
-
-// Whether an entry has the ticket.
-fn is_founded(journal: &[JournalEntry], ticket: u64) -> bool
-    ensures { result ≡ is_founded journal.now ticket }
-{
-    journal.iter().any(|entry| entry.ticket == ticket)
-}
-
-fn journal_of(journals: &[Journal], node: NodeId) -> &[JournalEntry]
-    ensures { result.now ≡ journal_of journals.now node }
-{
-    match journals.get(usize::from(node.0)) {
-        Some(journal) => journal.as_slice(),
-        None => &[],
-    }
-}
-
-fn note_place(journal: &[JournalEntry], listed: u64, note: &Note) -> Place
-    ensures { result ≡ note_place journal.now listed note.now }
+// Where a note stands, by the ticket of the next entry of its key.
+fn place_by(next: Option<u64>, listed: u64, note: &Note) -> Place
+    ensures { result ≡ place_by next listed note.now }
 {
     let late = note.own.max(note.ticket);
     let node = u64::from(note.node.0);
-    match next_entry(journal, &note.key, note.ticket) {
+    match next {
         Some(next) => {
-            if next.ticket <= late {
-                [next.ticket, 0, node, 0, note.call.0, listed]
+            if next <= late {
+                [next, 0, node, 0, note.call.0, listed]
             } else {
                 [late, 1, node, 0, note.call.0, listed]
             }
         }
         None => [late, 1, node, 0, note.call.0, listed],
     }
+}
+
+fn note_place(journal: &Index<'_>, listed: u64, note: &Note) -> Place
+    ensures { result ≡ note_place journal.now listed note.now }
+{
+    let next = journal.next_ticket(&note.key, note.ticket);
+    place_by(next, listed, note)
 }
 
 fn put<'a>(slots: &mut Slots<'a>, place: Place, slot: Slot<'a>) -> Result<(), Memory>
@@ -146,14 +92,16 @@ fn put_journals<'a>(slots: &mut Slots<'a>, journals: &'a [Journal]) -> Result<()
 
 fn put_note<'a>(
     slots: &mut Slots<'a>,
-    journals: &[Journal],
+    journals: &[Index<'_>],
     listed: u64,
     note: &'a Note,
 ) -> Result<(), Memory>
     ensures { OnOk result (placed slots.new.entries ≡ with_note journals.now listed note.now (placed slots.old.entries)) }
 {
-    let journal = journal_of(journals, note.node);
-    if is_founded(journal, note.ticket) {
+    let Some(journal) = journals.get(usize::from(note.node.0)) else {
+        return Ok(());
+    };
+    if journal.is_founded(note.ticket) {
         let place = note_place(journal, listed, note);
         return put(slots, place, Slot::Look { listed, note });
     }
@@ -162,7 +110,7 @@ fn put_note<'a>(
 
 fn put_notes<'a>(
     slots: &mut Slots<'a>,
-    journals: &[Journal],
+    journals: &[Index<'_>],
     notes: &'a [Note],
 ) -> Result<(), Memory>
     ensures { OnOk result (placed slots.new.entries ≡ put_notes journals.now 0 (placed slots.old.entries) notes.now) }
@@ -173,13 +121,25 @@ fn put_notes<'a>(
     Ok(())
 }
 
+fn index_all<'a>(alloc: Global, journals: &'a [Journal]) -> Result<Vec<Index<'a>>, Memory>
+    ensures { IfOk result (λ all. all.items ≡ journals.now) }
+{
+    let mut all = Vec::new(alloc);
+    for journal in journals {
+        let index = Index::new(alloc, journal.as_slice())?;
+        all.push(index)?;
+    }
+    Ok(all)
+}
+
 fn place<'a>(alloc: Global, journals: &'a [Journal], notes: &'a [Note]) -> Result<Slots<'a>, Memory>
     requires { length journals.now ≤ 65536 }
     ensures { IfOk result (λ slots. items_in slots.entries ≡ merged journals.now notes.now) }
 {
+    let indexes = index_all(alloc, journals)?;
     let mut slots = BTreeMap::new(alloc);
     put_journals(&mut slots, journals)?;
-    put_notes(&mut slots, journals, notes)?;
+    put_notes(&mut slots, indexes.as_slice(), notes)?;
     Ok(slots)
 }
 
