@@ -1,0 +1,13 @@
+pub mod Lists
+pub mod Complete
+pub mod Served
+pub mod Earlier
+pub mod Chain
+pub mod Firsts
+pub mod Keys
+pub mod KeyOrder
+pub mod AllKeys
+pub mod Fitting
+pub mod Moments
+pub mod Splits
+pub mod Timing

@@ -1,0 +1,11 @@
+//! Several keys of a run at one moment.
+//!
+//! The joint order of a run has the printed orders of all its keys in one. A change stands at the first event after which it, or a later one of its key, is complete; any other
+//! call stands at the event that replied to it.
+#![tactic(auto)]
+
+mod laws;
+mod worked;
+
+pub use laws::{keys_keep_their_order, moments_are_first};
+pub use worked::worked_runs;
