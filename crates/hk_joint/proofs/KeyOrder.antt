@@ -49,7 +49,7 @@ module _ (run : RunState) (key : List ℕ) (kept : IsKept key (trace_of key run)
   pub is_other : (a : Slot) → 0 < a.place → event_of run key a ≡ replied_at run key a.call
   is_other a l = ap (λ (b : Bool). cond b (moment run key a.stamp) (replied_at run key a.call)) (ne_eqb a.place 0 (λ e. absurd (omega (arith, e, l))))
 
-  change_stamp : (a : Slot) → In (slots run key) a → a.place ≡ 0 → 1 ≤ a.stamp
+  pub change_stamp : (a : Slot) → In (slots run key) a → a.place ≡ 0 → 1 ≤ a.stamp
   change_stamp a h e =
       let f = is_printed.update a h e in
       let up = above_base (Views last) (view key last) parts f.0 f.1 in

@@ -11,3 +11,7 @@ pub mod Fitting
 pub mod Moments
 pub mod Splits
 pub mod Timing
+pub mod Readings
+pub mod Segments
+pub mod Together
+pub mod Legality

@@ -1,7 +1,7 @@
 -- Whoever was answered before another began stands before it, across all keys.
 use Rattle.std.proofs.Common.{◌≡◌, ℕ, zero, suc, Bool, true, false, cond, ◌+◌, ◌||◌, not, List, [], ◌∷◌, ◌++◌, length, drop, take, get_or, ◌<◌, ◌≤◌, ◌∙◌, sym, refl, ap, subst, inl, inr, ⊎_elim, arith, eqb, eq-zero-or-pos}
 use Rattle.std.specs.List.{filter, flat_map, list_any, position_or_len}
-use Rattle.std.proofs.lemmas.Bool.{false≢true, eqb-true, cases_lt}
+use Rattle.std.proofs.lemmas.Bool.{false≢true, false_from_ne_true, eqb-true, cases_lt}
 use Rattle.std.proofs.lemmas.List.Sums.{fails_before_first, passes_at_first}
 use Rattle.hk_history.specs.declared.event.Event.{Event as Line}
 use Rattle.hk_history.specs.declared.event.Event.TheVariants as L
@@ -67,6 +67,22 @@ reply_no : (n : ℕ) (line : Line) → is_reply n line ≡ true → call_no line
 reply_no n (L.Call c op) e = absurd (false≢true e)
 reply_no n (L.Reply c answer) e = eqb-true c.0 n e
 
+call_no_is : (n : ℕ) (line : Line) → is_call n line ≡ true → call_no line ≡ n
+call_no_is n (L.Call c op) e = eqb-true c.0 n e
+call_no_is n (L.Reply c answer) e = absurd (false≢true e)
+
+-- the entry of a standing is of the call
+abbrev pub has : ℕ → Standing → Bool
+has n s = is_entry n (entry_of s.slot)
+
+pub position_entries : (n : ℕ) (order : List Standing) → position_or_len (is_entry n) (entries_of order) ≡ position_or_len (has n) order
+position_entries n [] = refl
+position_entries n (s ∷ order) = ap (λ (k : ℕ). cond (not (has n s)) (1 + k) 0) (position_entries n order)
+
+pub any_entries : (n : ℕ) (order : List Standing) → list_any (is_entry n) (entries_of order) ≡ list_any (has n) order
+any_entries n [] = refl
+any_entries n (s ∷ order) = ap (λ (b : Bool). has n s || b) (any_entries n order)
+
 module _ (runs : RunsKeepParts) (is_effects : EventIsEffects) (run : RunState) (ok : IsRun run) where
   -- ---- one key
   module _ (key : List ℕ) where
@@ -76,22 +92,22 @@ module _ (runs : RunsKeepParts) (is_effects : EventIsEffects) (run : RunState) (
     abbrev now : ℕ → Trace
     now n = trace_of key (up_to n run)
 
-    kept : IsKept key last
+    pub kept : IsKept key last
     kept = run_kept runs key run ok
 
     now_is : (n : ℕ) → n ≤ length run.events → get_or (traces run key) n (start_trace run.header) ≡ now n
     now_is n l = at_moment key (start_trace run.header) run.events n (start_trace run.header) l
 
-    moment_now : (n : ℕ) → n ≤ length run.events → IsMomentOf key last (now n)
+    pub moment_now : (n : ℕ) → n ≤ length run.events → IsMomentOf key last (now n)
     moment_now n l =
         let long = traces_len key (start_trace run.header) run.events in
         moments_of_run runs is_effects run ok key (now n) (subst (In (traces run key)) (now_is n l) (in_get (traces run key) n (start_trace run.header) (omega (arith, l, long))))
 
     -- what holds then has its first moment by then
-    upto : (p : Trace → Bool) (n : ℕ) → n ≤ length run.events → p (now n) ≡ true → position_or_len p (traces run key) ≤ n
+    pub upto : (p : Trace → Bool) (n : ℕ) → n ≤ length run.events → p (now n) ≡ true → position_or_len p (traces run key) ≤ n
     upto p n l e = position_upto p (traces run key) n (start_trace run.header) (ap p (now_is n l) ∙ e)
 
-    at_first : (p : Trace → Bool) (n : ℕ) → n ≤ length run.events → position_or_len p (traces run key) ≡ n → p (now n) ≡ true
+    pub at_first : (p : Trace → Bool) (n : ℕ) → n ≤ length run.events → position_or_len p (traces run key) ≡ n → p (now n) ≡ true
     at_first p n l is =
         let long = traces_len key (start_trace run.header) run.events in
         sym (ap p (now_is n l)) ∙ subst (λ (m : ℕ). p (get_or (traces run key) m (start_trace run.header)) ≡ true) is (passes_at_first p (traces run key) (start_trace run.header) (omega (arith, l, is, long)))
@@ -113,7 +129,7 @@ module _ (runs : RunsKeepParts) (is_effects : EventIsEffects) (run : RunState) (
         (eq-zero-or-pos a.place)
 
     -- a call that stands was made by then
-    called_by : (b : Slot) → In (slots run key) b → (n : ℕ) → n ≤ length run.events → event_of run key b ≡ n → list_any (is_call b.call) (history (up_to n run) key) ≡ true
+    pub called_by : (b : Slot) → In (slots run key) b → (n : ℕ) → n ≤ length run.events → event_of run key b ≡ n → list_any (is_call b.call) (history (up_to n run) key) ≡ true
     called_by b mine n l is =
         let m : IsMomentOf key last (now n) = moment_now n l in
         ⊎_elim
@@ -143,11 +159,17 @@ module _ (runs : RunsKeepParts) (is_effects : EventIsEffects) (run : RunState) (
         let mine = in_filter (is_on (called_from run.events) key) (joint_history (up_to n run)) t.0 t.1 (on_line key (called_from run.events) c on t.0 (reply_no c t.0 t.2)) in
         in_any (is_reply c) (history (up_to n run) key) t.0 (subst (λ (l : List Line). In l t.0) (sym (so_far n)) mine) t.2
 
-    call_there : (n c : ℕ) → list_any (is_call c) (history (up_to n run) key) ≡ true → list_any (is_call c) (joint_history (up_to n run)) ≡ true
+    pub call_there : (n c : ℕ) → list_any (is_call c) (history (up_to n run) key) ≡ true → list_any (is_call c) (joint_history (up_to n run)) ≡ true
     call_there n c e =
         let t = any_in (is_call c) (history (up_to n run) key) e in
         let there = of_filter (is_on (called_from run.events) key) (joint_history (up_to n run)) t.0 (subst (λ (l : List Line). In l t.0) (so_far n) t.1) in
         in_any (is_call c) (joint_history (up_to n run)) t.0 there.0 t.2
+
+    call_here : (n c : ℕ) → IsOn run key c → list_any (is_call c) (joint_history (up_to n run)) ≡ true → list_any (is_call c) (history (up_to n run) key) ≡ true
+    call_here n c on e =
+        let t = any_in (is_call c) (joint_history (up_to n run)) e in
+        let mine = in_filter (is_on (called_from run.events) key) (joint_history (up_to n run)) t.0 t.1 (on_line key (called_from run.events) c on t.0 (call_no_is c t.0 t.2)) in
+        in_any (is_call c) (history (up_to n run) key) t.0 (subst (λ (l : List Line). In l t.0) (sym (so_far n)) mine) t.2
 
     -- a call that has not begun stands later
     pub event_after : (b : Slot) → In (slots run key) b → (n : ℕ) → n ≤ length run.events → list_any (is_call b.call) (joint_history (up_to n run)) ≡ false → n < event_of run key b
@@ -158,6 +180,11 @@ module _ (runs : RunsKeepParts) (is_effects : EventIsEffects) (run : RunState) (
         let here = call_there m b.call (called_by b mine m (omega (arith, low, l)) refl) in
         absurd (false≢true (sym none ∙ lines_stay (is_call b.call) m n low run.events (start run.header) here)))
         (cases_lt n (event_of run key b))
+
+    pub event_after_key : (b : Slot) → In (slots run key) b → IsOn run key b.call → (n : ℕ) → n ≤ length run.events → list_any (is_call b.call) (history (up_to n run) key) ≡ false →
+        n < event_of run key b
+    event_after_key b mine on n l none = event_after b mine n l (false_from_ne_true (list_any (is_call b.call) (joint_history (up_to n run))) (λ h.
+        false≢true (sym none ∙ call_here n b.call on h)))
 
     -- the call of a slot is on the key
     pub slot_on : Legal (history run key) (printed run key) → (a : Slot) → In (slots run key) a → IsOn run key a.call
@@ -207,17 +234,6 @@ module _ (runs : RunsKeepParts) (is_effects : EventIsEffects) (run : RunState) (
         let ex : x.event ≡ event_of run p.key p.slot = ap (λ (s : Standing). s.event) p.is in
         let ey : y.event ≡ event_of run q.key q.slot = ap (λ (s : Standing). s.event) q.is in
         omega (arith, low, up, ex, ey)
-
-    abbrev has : ℕ → Standing → Bool
-    has n s = is_entry n (entry_of s.slot)
-
-    position_entries : (n : ℕ) (order : List Standing) → position_or_len (is_entry n) (entries_of order) ≡ position_or_len (has n) order
-    position_entries n [] = refl
-    position_entries n (s ∷ order) = ap (λ (k : ℕ). cond (not (has n s)) (1 + k) 0) (position_entries n order)
-
-    any_entries : (n : ℕ) (order : List Standing) → list_any (is_entry n) (entries_of order) ≡ list_any (has n) order
-    any_entries n [] = refl
-    any_entries n (s ∷ order) = ap (λ (b : Bool). has n s || b) (any_entries n order)
 
     pub joint_timely : Timely (joint_history run) (entries_of (joint_order run))
     joint_timely a b ha hb told before =

@@ -7,5 +7,5 @@
 mod laws;
 mod worked;
 
-pub use laws::{keys_keep_their_order, moments_are_first};
+pub use laws::{joint_orders_are_legal, keys_keep_their_order, moments_are_first};
 pub use worked::worked_runs;
