@@ -15,3 +15,4 @@ pub mod Readings
 pub mod Segments
 pub mod Together
 pub mod Legality
+pub mod OneByOne

@@ -1,5 +1,5 @@
 -- A batch is of Reads of events that follow each other.
-use Rattle.std.proofs.Common.{◌≡◌, ℕ, zero, suc, Bool, true, false, cond, ◌+◌, List, [], ◌∷◌, ◌++◌, map, length, take, get_or, ◌<◌, ◌≤◌, ◌∙◌, sym, refl, ap, subst, inl, inr, ⊎_elim, arith, Option, Some, None, Result, Ok, is_some}
+use Rattle.std.proofs.Common.{◌≡◌, ℕ, zero, suc, Bool, true, false, cond, ◌+◌, List, [], ◌∷◌, ◌++◌, map, length, take, get_or, ◌<◌, ◌≤◌, ◌∙◌, sym, refl, ap, subst, inl, inr, ⊎_elim, arith, Option, Some, None, Result, Ok, Err, is_some}
 use Rattle.std.specs.Prelude.{nat_lt}
 use Rattle.std.proofs.lemmas.Bool.{false≢true}
 use Rattle.std.proofs.lemmas.List.{get_or_append_left, get_or-append-add}
@@ -13,7 +13,8 @@ use Rattle.hk_world.specs.declared.refused.Refused.{Refused}
 use Rattle.hk_world.specs.World.{WorldState}
 use Rattle.hk_world.specs.Steps.{Accepted, world_step}
 use Rattle.hk_safety.specs.Run.{world_with, world_from}
-use Rattle.hk_joint.specs.Batch.{Reading, reading_by, reading_at, readings_from, goes_on, closed, batches_from}
+use Rattle.hk_joint.specs.declared.batch.Reading.{Reading}
+use Rattle.hk_joint.specs.Batch.{reading_by, reading_at, readings_from, goes_on, closed, batches_from}
 
 append_of : {X : Type 0} (a b c : List X) → (a ++ b) ++ c ≡ a ++ (b ++ c)
 append_of [] b c = refl
@@ -100,7 +101,7 @@ pub record IsReadAt (w : WorldState) (events : List Event) (i : ℕ) (r : Readin
   pub a : Accepted
   pub next : take (suc i) events ≡ take i events ++ Call id key Read ∷ []
   pub made : world_step (world_from w (take i events)) (Call id key Read) ≡ Ok a
-  pub told : reading_by id.0 key a.shown.replies ≡ Some r
+  pub told : reading_by id key a.shown.replies ≡ Some r
 
 record IsReadOf (x : Event) (result : Result Accepted Refused) (r : Reading) : Type 0 where
   id : NodeId
@@ -108,14 +109,15 @@ record IsReadOf (x : Event) (result : Result Accepted Refused) (r : Reading) : T
   a : Accepted
   event : x ≡ Call id key Read
   made : result ≡ Ok a
-  told : reading_by id.0 key a.shown.replies ≡ Some r
+  told : reading_by id key a.shown.replies ≡ Some r
 
 not_some : (r : Reading) → None ≡ Some r → ⊥
 not_some r e = absurd (false≢true (ap is_some e))
 
 read_of : (x : Event) (result : Result Accepted Refused) (r : Reading) → reading_at x result ≡ Some r → IsReadOf x result r
 read_of (Call id key Read) (Ok a) r e = record { id = id; key = key; a = a; event = refl; made = refl; told = e }
-read_of x result r e = absurd (not_some r e)
+read_of x (Ok a) r e = absurd (not_some r e)
+read_of x (Err refused) r e = absurd (not_some r e)
 
 pub read_at : (events : List Event) (w : WorldState) (i : ℕ) (r : Reading) → get_or (readings_from w events) i None ≡ Some r → IsReadAt w events i r
 read_at [] w zero r e = absurd (not_some r e)

@@ -3,7 +3,9 @@ use Rattle.std.proofs.Common.{◌≡◌, ℕ, zero, suc, Bool, true, false, cond
 use Rattle.std.specs.List.{filter, list_any, position_or_len}
 use Rattle.std.proofs.lemmas.Bool.{false≢true, eqb-true, eq-eqb, cases_lt, false_from_ne_true}
 use Rattle.hk_base.specs.declared.call.Answer.{Answer}
+use Rattle.hk_base.specs.declared.call.CallNo.{CallNo}
 use Rattle.hk_base.specs.declared.call.Op.TheVariants.{Read}
+use Rattle.hk_base.specs.declared.stamp.NodeId.{NodeId}
 use Rattle.hk_base.specs.declared.call.Reply.{Reply}
 use Rattle.hk_history.specs.declared.event.Event.{Event as Line}
 use Rattle.hk_history.specs.declared.event.Entry.{Entry}
@@ -30,7 +32,8 @@ use Rattle.hk_safety.specs.Kept.{called_from}
 use Rattle.hk_safety.proofs.Traces.{run_kept, step_at, trace_then}
 use Rattle.hk_joint.specs.Moment.{is_reached, moment, replied_at, up_to}
 use Rattle.hk_joint.specs.Joint.{Standing, slots, event_of, joint_order, entries_at}
-use Rattle.hk_joint.specs.Batch.{Reading, is_told, reading_by, readings_from, batches}
+use Rattle.hk_joint.specs.declared.batch.Reading.{Reading}
+use Rattle.hk_joint.specs.Batch.{is_told, reading_by, readings_from, batches}
 use Rattle.hk_joint.specs.Legal.{IsTogether}
 use Rattle.hk_joint.proofs.AllKeys.{IsOn}
 use Rattle.hk_joint.proofs.Chain.{Views, kept_parts, IsMomentOf, moments_of_run}
@@ -77,17 +80,17 @@ at_place (x ∷ items) i (inl e) = (length items + 1, inl (e, refl), omega arith
 at_place (x ∷ items) i (inr h) = let t = at_place items i h in (t.0, inr t.1, t.2)
 
 -- ---- what a Read tells
-record IsTold (node : ℕ) (key : List ℕ) (call : ℕ) (answer : Answer) (r : Reading) : Type 0 where
+record IsTold (node : NodeId) (key : List ℕ) (call : CallNo) (answer : Answer) (r : Reading) : Type 0 where
   told : is_told answer ≡ true
   is : r ≡ record { node = node; key = key; call = call }
 
-told_is : (node : ℕ) (key : List ℕ) (reply : Reply) (r : Reading) → reading_by node key (reply ∷ []) ≡ Some r → IsTold node key reply.call.0 reply.answer r
+told_is : (node : NodeId) (key : List ℕ) (reply : Reply) (r : Reading) → reading_by node key (reply ∷ []) ≡ Some r → IsTold node key reply.call reply.answer r
 told_is node key reply r e = by_test (is_told reply.answer) refl e
   where
     mine : Reading
-    mine = record { node = node; key = key; call = reply.call.0 }
+    mine = record { node = node; key = key; call = reply.call }
 
-    by_test : (b : Bool) → is_told reply.answer ≡ b → cond b (Some mine) None ≡ Some r → IsTold node key reply.call.0 reply.answer r
+    by_test : (b : Bool) → is_told reply.answer ≡ b → cond b (Some mine) None ≡ Some r → IsTold node key reply.call reply.answer r
     by_test true t e = record { told = t; is = sym (some_is mine r e) }
       where
         some_is : (x y : Reading) → Some x ≡ Some y → x ≡ y
@@ -179,14 +182,14 @@ module _ (runs : RunsKeepParts) (is_effects : EventIsEffects) (run : RunState) (
     abbrev t : Trace
     t = now at.key i
 
-    is_told_here : IsTold at.id.0 at.key (t.world.calls + 1) (read_is t at.id at.key at.a (made_at at.key)).answer r
-    is_told_here = told_is at.id.0 at.key (record { call = record { 0 = t.world.calls + 1 }; answer = (read_is t at.id at.key at.a (made_at at.key)).answer }) r
-        (sym (ap (reading_by at.id.0 at.key) (read_replies t at.id at.key at.a (made_at at.key))) ∙ at.told)
+    is_told_here : IsTold at.id at.key (record { 0 = t.world.calls + 1 }) (read_is t at.id at.key at.a (made_at at.key)).answer r
+    is_told_here = told_is at.id at.key (record { call = record { 0 = t.world.calls + 1 }; answer = (read_is t at.id at.key at.a (made_at at.key)).answer }) r
+        (sym (ap (reading_by at.id at.key) (read_replies t at.id at.key at.a (made_at at.key))) ∙ at.told)
 
     record IsPlaced : Type 0 where
       slot : Slot
       mine : In (slots run at.key) slot
-      call : slot.call ≡ r.call
+      call : slot.call ≡ r.call.0
       event : event_of run at.key slot ≡ i + 1
 
     is_placed : IsPlaced
@@ -210,13 +213,13 @@ module _ (runs : RunsKeepParts) (is_effects : EventIsEffects) (run : RunState) (
         let within = at.within in
         let low : i < event_of run key slot =
         event_after_key runs is_effects run ok key slot mine (slot_on runs is_effects run ok key (legal key) slot mine) i (omega (arith, within)) (next_not_begun key t (kept_at key i)) in
-        record { slot = slot; mine = mine; call = sym (ap (λ (q : Reading). q.call) is_told_here.is); event = omega (arith, place, high, low) }
+        record { slot = slot; mine = mine; call = sym (ap (λ (q : Reading). q.call.0) is_told_here.is); event = omega (arith, place, high, low) }
 
     -- so each entry of its call stands at its event
-    pub read_event : (z : Standing) → In (joint_order run) z → z.slot.call ≡ r.call → z.event ≡ i + 1
+    pub read_event : (z : Standing) → In (joint_order run) z → z.slot.call ≡ r.call.0 → z.event ≡ i + 1
     read_event z h same = one_event at.key is_placed.slot is_placed.mine z h (same ∙ sym is_placed.call) ∙ is_placed.event
 
-    pub read_stands : list_any (has r.call) (joint_order run) ≡ true
+    pub read_stands : list_any (has r.call.0) (joint_order run) ≡ true
     read_stands = subst (λ (n : ℕ). list_any (has n) (joint_order run) ≡ true) is_placed.call (stands_there at.key is_placed.slot is_placed.mine)
 
   abbrev order : List Standing
@@ -225,8 +228,8 @@ module _ (runs : RunsKeepParts) (is_effects : EventIsEffects) (run : RunState) (
   -- ---- two Reads of a batch
   module _ (batch : List Reading) (seg : IsSegment (readings_from (start run.header) run.events) batch) (a b : Reading) (ha : In batch a) (hb : In batch b)
       (s : Standing) (hs : In (joint_order run) s) where
-    event_read : (r : Reading) (i : ℕ) → get_or (readings_from (start run.header) run.events) i None ≡ Some r → (z : Standing) → In order z → has r.call z ≡ true → z.event ≡ i + 1
-    event_read r i e z h same = read_event i r (read_at run.events (start run.header) i r e) z h (eqb-true z.slot.call r.call same)
+    event_read : (r : Reading) (i : ℕ) → get_or (readings_from (start run.header) run.events) i None ≡ Some r → (z : Standing) → In order z → has r.call.0 z ≡ true → z.event ≡ i + 1
+    event_read r i e z h same = read_event i r (read_at run.events (start run.header) i r e) z h (eqb-true z.slot.call r.call.0 same)
 
     p : IsStanding runs is_effects run ok s
     p = in_joint runs is_effects run ok s hs
@@ -243,22 +246,22 @@ module _ (runs : RunsKeepParts) (is_effects : EventIsEffects) (run : RunState) (
     place n = position_or_len (has n) order
 
     -- what stands behind a Read has no lower event, and what stands before one no higher
-    not_lower : (i : ℕ) → get_or (readings_from (start run.header) run.events) i None ≡ Some a → place a.call < place s.slot.call → i + 1 ≤ s.event
+    not_lower : (i : ℕ) → get_or (readings_from (start run.header) run.events) i None ≡ Some a → place a.call.0 < place s.slot.call → i + 1 ≤ s.event
     not_lower i e first = ⊎_elim
         (λ (low : s.event < i + 1).
         let within = position_within (has s.slot.call) order in
-        let found : list_any (has a.call) order ≡ true = any_by_position (has a.call) order (omega (arith, first, within)) in
-        let turned = stands_first (λ (y : Standing). y.event) (has s.slot.call) (has a.call) order (joint_rises runs is_effects run ok) (λ x y hx hy px py.
+        let found : list_any (has a.call.0) order ≡ true = any_by_position (has a.call.0) order (omega (arith, first, within)) in
+        let turned = stands_first (λ (y : Standing). y.event) (has s.slot.call) (has a.call.0) order (joint_rises runs is_effects run ok) (λ x y hx hy px py.
         let ex = event_mine x hx px in let ey = event_read a i e y hy py in omega (arith, ex, ey, low)) mine_there found in
         absurd (omega (arith, turned, first)))
         (λ (l : i + 1 ≤ s.event). l)
         (cases_lt s.event (i + 1))
 
-    not_higher : (i : ℕ) → get_or (readings_from (start run.header) run.events) i None ≡ Some b → place s.slot.call < place b.call → s.event ≤ i + 1
+    not_higher : (i : ℕ) → get_or (readings_from (start run.header) run.events) i None ≡ Some b → place s.slot.call < place b.call.0 → s.event ≤ i + 1
     not_higher i e first = ⊎_elim
         (λ (high : i + 1 < s.event).
-        let found : list_any (has b.call) order ≡ true = read_stands i b (read_at run.events (start run.header) i b e) in
-        let turned = stands_first (λ (y : Standing). y.event) (has b.call) (has s.slot.call) order (joint_rises runs is_effects run ok) (λ x y hx hy px py.
+        let found : list_any (has b.call.0) order ≡ true = read_stands i b (read_at run.events (start run.header) i b e) in
+        let turned = stands_first (λ (y : Standing). y.event) (has b.call.0) (has s.slot.call) order (joint_rises runs is_effects run ok) (λ x y hx hy px py.
         let ex = event_read b i e x hx px in let ey = event_mine y hy py in omega (arith, ex, ey, high)) found mine_there in
         absurd (omega (arith, turned, first)))
         (λ (l : s.event ≤ i + 1). l)
@@ -280,7 +283,7 @@ module _ (runs : RunsKeepParts) (is_effects : EventIsEffects) (run : RunState) (
         let low = upto runs is_effects run ok p.key (is_reached p.key p.slot.stamp) m (omega (arith, within)) here in
         absurd (omega (arith, low, is))
 
-    change_out : s.slot.place ≡ 0 → place a.call < place s.slot.call → place s.slot.call < place b.call → ⊥
+    change_out : s.slot.place ≡ 0 → place a.call.0 < place s.slot.call → place s.slot.call < place b.call.0 → ⊥
     change_out zero_is after_a before_b =
         let front : ℕ = length seg.before in
         let ja = of_batch (readings_from (start run.header) run.events) batch seg a ha in
@@ -295,9 +298,9 @@ module _ (runs : RunsKeepParts) (is_effects : EventIsEffects) (run : RunState) (
   pub joint_together : (batch : List Reading) → In (batches run) batch → IsTogether order batch
   joint_together batch h a b ha hb s hs after_a before_b = ⊎_elim
       (λ (zero_is : s.slot.place ≡ 0).
-      let pa = position_entries a.call order in
+      let pa = position_entries a.call.0 order in
       let ps = position_entries s.slot.call order in
-      let pb = position_entries b.call order in
+      let pb = position_entries b.call.0 order in
       absurd (change_out batch (segments (readings_from (start run.header) run.events) [] batch h) a b ha hb s hs zero_is (omega (arith, after_a, pa, ps)) (omega (arith, before_b, pb, ps))))
       (λ (pos : 0 < s.slot.place). tag_none s.slot.place s.slot.stamp pos)
       (eq-zero-or-pos s.slot.place)

@@ -18,7 +18,8 @@ use Rattle.hk_effects.specs.View.{is_same_key}
 use Rattle.hk_safety.specs.Run.{RunState, world_with, IsRun, printed}
 use Rattle.hk_safety.specs.Shows.{reply_line}
 use Rattle.hk_joint.specs.Joint.{Standing, joint_order, entries_of, entries_at}
-use Rattle.hk_joint.specs.Batch.{Reading, batches}
+use Rattle.hk_joint.specs.declared.batch.Reading.{Reading}
+use Rattle.hk_joint.specs.Batch.{batches}
 
 -- ---- the history of all keys
 abbrev pub call_lines : Event → Option CallNo → List Line
@@ -63,7 +64,7 @@ FitsFrom history registers (s ∷ order) = MatchOption (op_of history s.slot.cal
 -- between two of its calls no entry changes a register
 abbrev pub IsTogether : List Standing → List Reading → Type 0
 IsTogether order batch = (a b : Reading) → In batch a → In batch b → (s : Standing) → In order s →
-    Before (is_entry a.call) (is_entry s.slot.call) (entries_of order) → Before (is_entry s.slot.call) (is_entry b.call) (entries_of order) → tag_of s ≡ None
+    Before (is_entry a.call.0) (is_entry s.slot.call) (entries_of order) → Before (is_entry s.slot.call) (is_entry b.call.0) (entries_of order) → tag_of s ≡ None
 
 -- JointLegal
 pub record JointLegal (run : RunState) (order : List Standing) : Type 0 where

@@ -9,7 +9,7 @@ use Rattle.hk_world.specs.Worked.{group, node, take}
 use Rattle.hk_safety.specs.Run.{RunState}
 use Rattle.hk_joint.specs.Moment.{moment}
 use Rattle.hk_joint.specs.Joint.{joint_order, entries_of}
-use Rattle.hk_joint.specs.Batch.{Reading, batches}
+use Rattle.hk_joint.specs.Batch.{calls_of, batches}
 
 abbrev pub content : ℕ → Content
 content byte = record { flags = 0; bytes = byte ∷ [] }
@@ -38,7 +38,7 @@ batch_run = record { header = group 1 0; events = set key_a 120 ∷ set key_b 12
 
 pub record BatchStandsTogether : Type 0 where
   pub order : entries_of (joint_order batch_run) ≡ change 1 131072 ∷ change 2 131072 ∷ look 3 ∷ look 4 ∷ change 5 262144 ∷ []
-  pub batches : map (map (λ (r : Reading). r.call)) (batches batch_run) ≡ (3 ∷ 4 ∷ []) ∷ []
+  pub batches : map calls_of (batches batch_run) ≡ (record { 0 = 3 } ∷ record { 0 = 4 } ∷ []) ∷ []
 
 -- Of two writes that one node begins the other node takes the second one first: it is complete first, and so it stands first.
 abbrev pub moments_run : RunState

@@ -2,6 +2,7 @@
 
 ghost use Rattle.hk_joint.specs.Moment.{MomentsAreFirst};
 ghost use Rattle.hk_joint.specs.Joint.{KeysKeepTheirOrder};
+ghost use Rattle.hk_joint.specs.Batch.{BatchesAreFound};
 ghost use Rattle.hk_joint.specs.Legal.{JointOrdersAreLegal};
 
 use hk_effects::{event_is_effects, runs_keep_parts};
@@ -29,3 +30,8 @@ pub fn joint_orders_are_legal()
     event_is_effects();
     runs_are_legal();
 }
+
+/// Noting each event of a run gives the calls of its batches.
+pub fn batches_are_found()
+    ensures { BatchesAreFound }
+{}

@@ -4,8 +4,12 @@
 //! call stands at the event that replied to it.
 #![tactic(auto)]
 
+mod batch;
 mod laws;
 mod worked;
 
-pub use laws::{joint_orders_are_legal, keys_keep_their_order, moments_are_first};
+pub use batch::{BatchCalls, Batches, Batching, Reading};
+pub use laws::{
+    batches_are_found, joint_orders_are_legal, keys_keep_their_order, moments_are_first,
+};
 pub use worked::worked_runs;
