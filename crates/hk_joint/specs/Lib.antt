@@ -1,0 +1,5 @@
+pub mod Moment
+pub mod Joint
+pub mod Batch
+pub mod Legal
+pub mod Worked
