@@ -4,3 +4,4 @@ pub mod Desk
 pub mod Records
 pub mod Status
 pub mod First
+pub mod Dialling

@@ -1,7 +1,8 @@
 //! Dialling: connections to the ports of others.
 
-ghost use Rattle.std.specs.Prelude.{◌≡◌, ℕ, IfOk};
+ghost use Rattle.std.specs.Prelude.{◌≡◌, ℕ, List, Option, None, IfOk};
 ghost use Rattle.hk_outside.specs.Causes.{HasCause};
+ghost use Rattle.hk_outside.specs.Dialling.{Dials};
 
 use crate::memory::{MemoryConnection, MemorySink, MemorySource};
 use crate::stream::{Connection, Failed, Sink, Source};
@@ -16,8 +17,12 @@ pub trait Dial {
     /// How often it failed.
     ghost faults: { Self → ℕ };
 
+    /// The ports that it was asked for, in their order, where the dialer tells them.
+    ghost ports: { Self → Option (List ℕ) } = { λ _. None };
+
     /// A new connection to whoever serves this port. It has no faults yet.
     fn dial(&mut self, port: u16) -> Result<Self::Conn, Failed>
+        ensures port { Dials (ports self.old) (ports self.new) port }
         ensures cause { HasCause (faults self.old) (faults self.new) result }
         ensures fresh { IfOk result (λ conn. (Self.Conn.Source.faults conn ≡ 0) × (Self.Conn.Sink.faults conn ≡ 0)) };
 }

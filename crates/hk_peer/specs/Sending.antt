@@ -2,6 +2,7 @@
 use Rattle.std.specs.Prelude.{◌≡◌, ℕ, List, take, Option, Some, None, Result, Ok, Err}
 use Rattle.std.specs.Io.KnownBytes.{Appends}
 use Rattle.hk_outside.specs.Causes.{Rose}
+use Rattle.hk_outside.specs.Dialling.{Dials}
 use Rattle.hk_link.specs.declared.parcel.Parcel.{Parcel}
 use Rattle.hk_peer.specs.declared.send.SendFault.{SendFault}
 use Rattle.hk_peer.specs.declared.send.SendFault.TheVariants as sending
@@ -44,3 +45,8 @@ module _ {C : Type 0} (held : C → Option (List ℕ)) (read_faults write_faults
   Forwards result p (Some conn) now = IsWrittenOn held write_faults result p conn now
   Forwards (Err forwarding.DialFault) p None now = now ≡ None
   Forwards result p None now = IsDialled result p now
+
+-- where there was no connection, this port was dialled once; else none was
+abbrev pub DialsFor : {C : Type 0} → Option C → Option (List ℕ) → Option (List ℕ) → ℕ → Type 0
+DialsFor (Some conn) before now port = now ≡ before
+DialsFor None before now port = Dials before now port

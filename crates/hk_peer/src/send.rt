@@ -2,7 +2,7 @@
 
 ghost use Rattle.std.specs.Prelude.{◌≡◌, ◌≤◌, Err};
 ghost use Rattle.hk_outside.specs.Causes.{Rose};
-ghost use Rattle.hk_peer.specs.Sending.{Sends, IsWritten, Forwards};
+ghost use Rattle.hk_peer.specs.Sending.{Sends, IsWritten, Forwards, DialsFor};
 
 use hk_frame::print_letter;
 use hk_link::Parcel;
@@ -45,7 +45,7 @@ pub fn send_parcel<K: Sink>(alloc: Global, sink: &mut K, parcel: &Parcel) -> Res
     }
 }
 
-/// Sends a parcel on the connection, which is dialled first where there is none.
+/// Sends a parcel on the connection, which is dialled first, at this port and once, where there is none.
 ///
 /// The connection stays, also after a fault of writing: whoever called drops it then.
 pub fn forward<D: Dial>(
@@ -56,6 +56,7 @@ pub fn forward<D: Dial>(
     parcel: &Parcel,
 ) -> Result<(), ForwardFault>
     ensures forwarded { Forwards D.Conn.Sink.held D.Conn.Source.faults D.Conn.Sink.faults result parcel.now conn.old conn.new }
+    ensures port { DialsFor conn.old (D.ports dialer.old) (D.ports dialer.new) port }
     ensures later { D.faults dialer.old ≤ D.faults dialer.new }
     ensures dial_fault { result ≡ Err ForwardFault.DialFault → Rose (D.faults dialer.old) (D.faults dialer.new) }
 {
