@@ -1,8 +1,8 @@
 //! Runs of a world, and the order that is printed of each key.
 //!
 //! A [`Run`] is a header and the events that its world accepted. A [`LiveRun`] is one whose events are told to clauses alone: it keeps the present world and, for
-//! each key that a call named, the key's history and, by stamp, its update, whether that is complete or who covered it so far, and the calls that found it. So
-//! [`Run::history`] and [`order_of`] read what is kept, and never make the events again.
+//! each key that a call named, the numbers of its history and, by stamp, its update, whether that is complete or who covered it so far, and the calls that found
+//! it. So [`order_of`] reads what is kept, and never makes the events again; [`Run::history`], which gives operations and answers, does.
 //!
 //! The order of every run is legal: that is a clause of [`order_of`] and the law [`runs_are_legal`]. It rests on the laws of the register
 //! and on the law that each event is effects of it, and on nothing of what an event does.

@@ -15,7 +15,7 @@ use std::alloc::{AllocError, Global};
 /// The words of a line. So many are kept without an allocation, which is as many as an event has.
 pub(crate) type Words<'a> = SmallVec<&'a [u8], 8>;
 
-/// Puts the words between the spaces behind none.
+/// Puts the words between the spaces into an empty list.
 pub(crate) fn split<'a>(words: &mut Words<'a>, line: &'a [u8]) -> Result<(), Memory>
     requires { words.old.items ≡ [] }
     ensures { OnOk result (map (λ w. w.now) words.new.items ≡ fields line.now) }

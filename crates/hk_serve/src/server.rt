@@ -36,9 +36,9 @@ fn serve_one<C: Clock + Send + Sync + Drop + 'static, R: Wait + Copy + Drop, N: 
 
 /// Serves connections one after the other, each to its end, at the shards of one new node.
 ///
-/// Done: so many connections were served as the options say, or no more came. Memory: there was none to make the shards.
-/// DoorFault: the port could not be opened, or the next connection could not be taken; those before it were served.
-/// However a connection ends, the next one is served.
+/// Done: so many connections were taken as the options say, or no more came. Memory: there was none to make the shards.
+/// DoorFault: the port could not be opened, or the next connection could not be taken. However a connection ends, the next one is
+/// taken. That those which were taken are served to their end is only tested.
 pub fn serve<C: Clock + Send + Sync + Drop + 'static, D: Doors, R: Wait + Copy + Drop>(
     rt: R,
     alloc: Global,
