@@ -16,3 +16,5 @@ pub mod Segments
 pub mod Together
 pub mod Legality
 pub mod OneByOne
+pub mod ByEvent
+pub mod Completions

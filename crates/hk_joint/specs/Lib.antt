@@ -1,5 +1,6 @@
 pub mod Moment
 pub mod Joint
+pub mod Placing
 pub mod Batch
 pub mod Legal
 pub mod Worked

@@ -1,5 +1,5 @@
 -- The moments of a run, and which of them is that of a stamp.
-use Rattle.std.specs.Prelude.{ℕ, ◌≤◌, ◌<◌, List, [], ◌∷◌, ◌&&◌, Bool, take, length, nat_le}
+use Rattle.std.specs.Prelude.{◌≡◌, ℕ, ◌≤◌, ◌<◌, List, [], ◌∷◌, ◌&&◌, Bool, take, length, nat_le, ◌+◌, ◌==◌, min}
 use Rattle.std.specs.List.{list_any, position_or_len}
 use Rattle.hk_history.specs.History.{is_reply}
 use Rattle.hk_register.specs.Machine.{In, Update}
@@ -55,3 +55,16 @@ pub record IsMoment (run : RunState) (key : List ℕ) (s n : ℕ) : Type 0 where
 -- A stamp that is reached in the end has its moment.
 abbrev pub MomentsAreFirst : Type 0
 MomentsAreFirst = (run : RunState) (key : List ℕ) (s : ℕ) → IsReached key s (trace_of key run) → IsMoment run key s (moment run key s)
+
+-- ---- moments by completions
+-- the update of the stamp is complete
+abbrev pub is_completed : List ℕ → ℕ → Trace → Bool
+is_completed key s t = list_any (λ u. (u.stamp == s) && is_complete (family t.world.views) (view key t) u.stamp) t.begun
+
+-- the number of the event that completed the update of the stamp
+abbrev pub completed_at : RunState → List ℕ → ℕ → ℕ
+completed_at run key s = position_or_len (is_completed key s) (traces run key)
+
+-- A stamp's moment is that of the next stamp, unless its own update is complete before.
+abbrev pub MomentsFollowCompletions : Type 0
+MomentsFollowCompletions = (run : RunState) (key : List ℕ) (s : ℕ) → moment run key s ≡ min (completed_at run key s) (moment run key (s + 1))

@@ -1,7 +1,8 @@
 //! What holds of every run.
 
-ghost use Rattle.hk_joint.specs.Moment.{MomentsAreFirst};
+ghost use Rattle.hk_joint.specs.Moment.{MomentsAreFirst, MomentsFollowCompletions};
 ghost use Rattle.hk_joint.specs.Joint.{KeysKeepTheirOrder};
+ghost use Rattle.hk_joint.specs.Placing.{PlacedAreJoint};
 ghost use Rattle.hk_joint.specs.Batch.{BatchesAreFound};
 ghost use Rattle.hk_joint.specs.Legal.{JointOrdersAreLegal};
 
@@ -11,6 +12,11 @@ use hk_safety::runs_are_legal;
 /// The moment of a stamp is the number of the first event after which an update of the key with a stamp of at least that one is complete.
 pub fn moments_are_first()
     ensures { MomentsAreFirst }
+{}
+
+/// A stamp's moment is that of the next stamp, unless its own update is complete before.
+pub fn moments_follow_completions()
+    ensures { MomentsFollowCompletions }
 {}
 
 /// The entries of each key in the joint order of a run are the key's printed order.
@@ -35,3 +41,11 @@ pub fn joint_orders_are_legal()
 pub fn batches_are_found()
     ensures { BatchesAreFound }
 {}
+
+/// The printed orders of all keys, one behind the other and then brought into the order of their events, are the joint order.
+pub fn placed_are_joint()
+    ensures { PlacedAreJoint }
+{
+    runs_keep_parts();
+    event_is_effects();
+}

@@ -6,10 +6,13 @@
 
 mod batch;
 mod laws;
+mod placing;
 mod worked;
 
 pub use batch::{BatchCalls, Batches, Batching, Reading};
 pub use laws::{
     batches_are_found, joint_orders_are_legal, keys_keep_their_order, moments_are_first,
+    moments_follow_completions, placed_are_joint,
 };
+pub use placing::{Placed, sort_by_event};
 pub use worked::worked_runs;
