@@ -165,7 +165,8 @@ fn reads_that_a_shard_shows_make_no_call(rt: HostRuntime) {
     // `yyy` has the shard and the cell of `k`.
     ask(&rt, alloc, &mut desk, b"yyy", &write_of(&rt, alloc, b"y"));
     assert_eq!(rt; finds(&rt, alloc, &mut desk, b"yyy", b"y"), (true, 4));
-    assert_eq!(rt; finds(&rt, alloc, &mut desk, b"k", b"hello"), (true, 5));
+    // What no cell shows is told from its row.
+    assert_eq!(rt; finds(&rt, alloc, &mut desk, b"k", b"hello"), (true, 4));
 }
 
 // A connection that notes whether all that was written to it so far is the text that is wanted.

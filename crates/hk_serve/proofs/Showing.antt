@@ -1,4 +1,4 @@
--- What a read is told from what a shard shows is what the part answers to it.
+-- What a read is told from what a shard shows, or from the row that it has, is what the part answers to it.
 use Rattle.std.proofs.Common.{◌≡◌, ◌≤◌, ◌+◌, ℕ, List, [], ◌∷◌, max, Bool, true, false, cond, Option, Some, None, is_some, unwrap_or, refl, sym, ap, ◌∙◌, subst}
 use Rattle.std.proofs.lemmas.Bool.{false≢true, le-ltb}
 use Rattle.std.specs.Prelude.{IfSome, nat_lt}
@@ -12,13 +12,20 @@ use Rattle.hk_base.specs.declared.call.State.{State}
 use Rattle.hk_base.specs.declared.call.State.TheVariants.{Valid, Invalid, Write, Replay, Trans}
 use Rattle.hk_base.specs.declared.call.Op.TheVariants.{Read}
 use Rattle.hk_base.specs.declared.call.Answer.{Answer}
+use Rattle.hk_base.specs.declared.call.Answer.TheVariants as told
+use Rattle.hk_base.specs.declared.call.CallNo.{CallNo}
+use Rattle.hk_base.specs.Register.{act}
+use Rattle.hk_base.specs.Stamp.{tag_of}
 use Rattle.hk_base.specs.declared.call.Why.TheVariants.{Lease}
 use Rattle.hk_key.specs.declared.row.Row.{Row}
 use Rattle.hk_key.specs.Sound.{IsSound}
-use Rattle.hk_node.specs.Rows.{find_row}
-use Rattle.hk_node.specs.Node.{members_of}
+use Rattle.hk_key.specs.Table.{first_row}
+use Rattle.hk_node.specs.declared.event.NodeEvent.TheVariants.{Call}
+use Rattle.hk_node.specs.Rows.{find_row, row_at}
+use Rattle.hk_node.specs.Node.{NodeState, members_of}
 use Rattle.hk_node.specs.Stepped.{Stepped}
-use Rattle.hk_node.specs.Calls.{lease_end}
+use Rattle.hk_node.specs.Steps.{node_step}
+use Rattle.hk_node.specs.Calls.{answers as gives, register_in, at_turn, at_state, at_lease, lease_end}
 use Rattle.hk_node.proofs.Order.{same_key, same_of, holds_found}
 use Rattle.hk_outside.specs.Desk.{answers}
 use Rattle.hk_snap.specs.declared.rule.Publication.{Publication}
@@ -32,12 +39,12 @@ use Rattle.hk_snap.specs.Ends.{End, Reader, names, seen_at, looked, writing_end,
 use Rattle.hk_snap.specs.Locals.{local_of, of_row}
 use Rattle.hk_shard.specs.Shown.{last_row}
 use Rattle.hk_shard.specs.Shard.{ShardState, IsShard}
-use Rattle.hk_shard.specs.Reading.{answer_of}
+use Rattle.hk_shard.specs.Reading.{answer_of, at_clock}
 use Rattle.hk_shard.proofs.Keeping.{part_is_node}
 use Rattle.hk_shard.proofs.Covering.{covers_over}
 use Rattle.hk_shard.proofs.Reading.{local_reads_are_reads}
 use Rattle.hk_serve.specs.Lone.{IsReadOf, ticked, within}
-use Rattle.hk_serve.specs.Showing.{answer_shown, in_state, with_content}
+use Rattle.hk_serve.specs.Showing.{answer_shown, answer_kept, in_state, with_content}
 
 inside : {A : Type 0} (x y : A) → Some x ≡ Some y → x ≡ y
 inside x y e = ap (λ o. unwrap_or o x) e
@@ -84,6 +91,13 @@ module _ (s : ShardState) (key : List ℕ) (is : IsShard s) where
   by_shown None last = tt
   by_shown (Some shown) last = by_key (bytes_eq shown.key key) shown refl last
 
+  pub row_in_limit : IfSome (find_row key s.part.rows) (λ row. row.stamp.version ≤ MAX_VERSION)
+  row_in_limit = by_found (find_row key s.part.rows) refl
+    where
+      by_found : (found : Option Row) → find_row key s.part.rows ≡ found → IfSome found (λ row. row.stamp.version ≤ MAX_VERSION)
+      by_found None e = tt
+      by_found (Some row) e = in_limit row e
+
   -- after a load of its cell
   pub glance_in_limit : (shown : Option Snapshot) → shown ≡ last_shown (seen_at s.ends (cell_of key)) → IfSome (glance_of shown key) IsInLimit
   glance_in_limit shown last = by_shown shown (sym last)
@@ -119,6 +133,35 @@ shown_is_read s key reading shown (Some answer) is runs last t = λ call.
     (subst (λ (o : Option Snapshot). answer_of (local_of o key (lease_end s.part) (max s.part.clock (within reading)) s.part.skew) ≡ Some answer) last
     (shown_is_local shown key (lease_end s.part) (max s.part.clock (within reading)) s.part.skew answer runs (sym t))))
 
+-- ---- a Valid row is told of as the part answers
+module _ (node : NodeState) (call : CallNo) (key : List ℕ) (answer : Answer) where
+  held : (content : Option Content) (row : Row) → row.content ≡ content → with_content row.stamp false content ≡ Some answer
+      → at_turn (act Read (register_in row) 0).changed node call key Read row ≡ gives node key call answer
+  held None row is e = rw is (ap (gives node key call) (inside told.Missing answer e))
+  held (Some content) row is e = rw is (ap (gives node key call) (inside (told.Found content (tag_of row.stamp)) answer e))
+
+  stands : (state : State) (row : Row) → row.state ≡ state → in_state state row.stamp false row.content ≡ Some answer → at_state state node call key Read row ≡ gives node key call answer
+  stands Valid row is e = held row.content row refl e
+  stands Invalid row is e = nothing answer e
+  stands Write row is e = nothing answer e
+  stands Replay row is e = nothing answer e
+  stands Trans row is e = nothing answer e
+
+row_stands : (node : NodeState) (now : ℕ) (call : CallNo) (key : List ℕ) (row : Row) (answer : Answer) → find_row key node.rows ≡ Some row → now + node.skew ≤ lease_end node
+    → in_state row.state row.stamp false row.content ≡ Some answer → node_step (at_clock now node) (Call call key Read) ≡ gives (at_clock now node) key call answer
+row_stands node now call key row answer found runs e =
+    let row_is : row_at key node.rows ≡ row = ap (λ o. unwrap_or o first_row) found in
+    ap (λ over. at_lease over (at_clock now node) call key Read) (le-ltb (lease_end node) (now + node.skew) runs)
+    ∙ subst (λ (r : Row). at_state r.state (at_clock now node) call key Read r ≡ gives (at_clock now node) key call answer) (sym row_is)
+    (stands (at_clock now node) call key answer row.state row refl e)
+
+pub kept_is_read : (node : NodeState) (key : List ℕ) (reading : ℕ) (found : Option Row) (told : Option Answer) → find_row key node.rows ≡ found → max node.clock (within reading) + node.skew ≤ lease_end node
+    → told ≡ answer_kept found → IfSome told (λ answer. IsReadOf (ticked reading node) key answer)
+kept_is_read node key reading found None is runs t = tt
+kept_is_read node key reading None (Some answer) is runs t = nothing answer (sym t)
+kept_is_read node key reading (Some row) (Some answer) is runs t = λ call.
+    ap (λ (stepped : Stepped). stepped.told) (row_stands node (max node.clock (within reading)) call key row answer is runs (sym t))
+
 -- ---- it suits a read
 content_suits : (stamp : Stamp) (large : Bool) (content : Option Content) → IfSome (with_content stamp large content) (λ answer. answers Read answer ≡ true)
 content_suits stamp true content = tt
@@ -138,3 +181,10 @@ shown_suits glance content told t = subst (λ (o : Option Answer). IfSome o (λ 
     at : (glance : Option Glance) → IfSome (answer_shown glance content) (λ answer. answers Read answer ≡ true)
     at None = tt
     at (Some glance) = state_suits glance.state glance.stamp glance.is_large content
+
+pub kept_suits : (found : Option Row) (told : Option Answer) → told ≡ answer_kept found → IfSome told (λ answer. answers Read answer ≡ true)
+kept_suits found told t = subst (λ (o : Option Answer). IfSome o (λ answer. answers Read answer ≡ true)) (sym t) (at found)
+  where
+    at : (found : Option Row) → IfSome (answer_kept found) (λ answer. answers Read answer ≡ true)
+    at None = tt
+    at (Some row) = state_suits row.state row.stamp false row.content

@@ -1,4 +1,4 @@
--- What a read is told by the row that a cell shows. It is private: no contract of a public call cites it.
+-- What a read is told by the row that a cell shows, or that the shard has. It is private: no contract of a public call cites it.
 use Rattle.std.specs.Prelude.{Bool, true, false, Option, Some, None}
 use Rattle.hk_base.specs.Stamp.{tag_of}
 use Rattle.hk_base.specs.declared.stamp.Stamp.{Stamp}
@@ -7,6 +7,7 @@ use Rattle.hk_base.specs.declared.call.State.{State}
 use Rattle.hk_base.specs.declared.call.State.TheVariants.{Valid}
 use Rattle.hk_base.specs.declared.call.Answer.{Answer}
 use Rattle.hk_base.specs.declared.call.Answer.TheVariants.{Found, Missing}
+use Rattle.hk_key.specs.declared.row.Row.{Row}
 use Rattle.hk_snap.specs.declared.snapshot.Glance.{Glance}
 
 -- by whether the content is too large to be shown, and by the content
@@ -24,3 +25,8 @@ in_state state stamp is_large content = None
 abbrev pub answer_shown : Option Glance → Option Content → Option Answer
 answer_shown None content = None
 answer_shown (Some glance) content = in_state glance.state glance.stamp glance.is_large content
+
+-- the key's row at the shard, if there is one
+abbrev pub answer_kept : Option Row → Option Answer
+answer_kept None = None
+answer_kept (Some row) = in_state row.state row.stamp false row.content

@@ -19,8 +19,8 @@ use std::alloc::Global;
 use std::sync::{Arc, Wait};
 
 /// A desk over the eight shards of a node, each of which is a group of its own, with this node as its only member. An ask goes to the
-/// shard of its key. A read is told from what the shard shows, if that can be; each other ask is a call of the shard, once its clock
-/// was set. The calls are numbered from 1 over all shards.
+/// shard of its key. A read is told from what the shard shows or from the key's row, if that can be; each other ask is a call of the
+/// shard, once its clock was set. The calls are numbered from 1 over all shards.
 #[derive(Drop)]
 pub struct FounderDesk<C: Clock + Send + Sync + Drop + 'static, R: Wait + Copy + Drop> {
     rt: R,
@@ -46,7 +46,7 @@ fn new_shards<R: Wait>(rt: &R, alloc: Global, skew: u64) -> Result<Vec<DeskShard
     Ok(shards)
 }
 
-// Answers a read from what the key's shard shows. None where the operation is no read, or the shard itself has to be asked.
+// Answers a read from what the key's shard shows or has. None where the operation is no read, or the shard itself has to be asked.
 fn read<R: Wait>(
     rt: &R,
     alloc: Global,

@@ -4,8 +4,10 @@ ghost use Rattle.std.specs.Prelude.{◌≡◌, ◌∷◌, [], IfOk};
 ghost use Rattle.hk_snap.specs.Ends.{names};
 ghost use Rattle.hk_serve.specs.Lone.{IsLone};
 
+use crate::kept::read_kept;
 use crate::shown::read_shown;
 use crate::step::{data_in, make_call, set_clock, trim};
+use crate::updated::Updated;
 use hk_base::{Answer, Key, MAX_TIME, Members, Memory, NodeId, Op, View};
 use hk_node::Node;
 use hk_shard::Shard;
@@ -23,6 +25,7 @@ pub struct DeskShard {
     /// By how many milliseconds other clocks may differ from the node's.
     skew: u64,
     reader: SnapReader,
+    updated: Updated,
     /// How many bytes of data its calls brought since the journal began.
     brought: usize,
     ghost lone: { IsLone shard.part },
@@ -65,11 +68,13 @@ impl DeskShard {
             shard,
             skew,
             reader,
+            updated: Updated::new(alloc)?,
             brought: 0,
         })
     }
 
-    /// Answers a read from what the shard shows. None where the shard itself has to be asked.
+    /// Answers a read from what the shard shows, where its cell may show the key, and else from the key's row. None where the shard
+    /// itself has to be asked.
     pub(crate) fn read<R: Wait>(
         &mut self,
         rt: &R,
@@ -81,6 +86,9 @@ impl DeskShard {
         ensures told { IfOk result (λ told. IfSome told (λ answer. IsReadOf (ticked reading self.old.shard.part) key.now answer)) }
         ensures suits { IfOk result (λ told. IfSome told (λ answer. answers Read answer ≡ true)) }
     {
+        if !self.updated.may_show(key) {
+            return read_kept(&self.shard, self.skew, reading, key);
+        }
         read_shown(
             rt,
             alloc,
@@ -114,6 +122,7 @@ impl DeskShard {
         let ticket = 2 * number;
         set_clock(rt, alloc, &mut self.shard, ticket - 1, reading)?;
         let answer = make_call(rt, alloc, &mut self.shard, ticket, number, key, op)?;
+        self.updated.note(key, op);
         self.brought = self.brought.saturating_add(data_in(op));
         trim(alloc, &mut self.shard, &mut self.brought);
         Ok(answer)

@@ -20,14 +20,14 @@ use std::alloc::Global;
 use std::sync::Wait;
 
 // The end of the node's lease.
-fn lease_end(node: &Node) -> u64
+pub(crate) fn lease_end(node: &Node) -> u64
     ensures { result ≡ lease_end node.now }
 {
     if node.ready() { node.granted() } else { 0 }
 }
 
 // Whether a lease to this end still runs on every clock.
-fn runs(end: u64, now: u64, skew: u64) -> bool
+pub(crate) fn runs(end: u64, now: u64, skew: u64) -> bool
     ensures { IsTrue result → now + skew ≤ end }
 {
     match now.checked_add(skew) {

@@ -16,8 +16,8 @@ use hk_shard::Shard;
 use std::alloc::Global;
 use std::sync::Wait;
 
-/// At so many entries a journal begins anew.
-const MAX_ENTRIES: usize = 4_096;
+/// At so many entries a journal begins anew. They are few, so that they stay in the processor's caches.
+const MAX_ENTRIES: usize = 64;
 
 /// At so many bytes of data that its calls brought, too.
 const MAX_DATA: usize = 16 * 1_048_576;
