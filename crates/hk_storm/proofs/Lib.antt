@@ -1,0 +1,4 @@
+mod Lists
+mod Calling
+mod Tallying
+mod Comparing
