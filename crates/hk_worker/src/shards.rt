@@ -8,6 +8,8 @@ ghost use Rattle.hk_base.specs.View.{IsView};
 ghost use Rattle.hk_node.specs.Node.{is_member};
 ghost use Rattle.hk_node.specs.Sound.{IsEvent};
 ghost use Rattle.hk_node.specs.Laws.{IsNoCall};
+ghost use Rattle.hk_node.specs.Made.{founder};
+ghost use Rattle.hk_shard.specs.Shard.{IsNew};
 ghost use Rattle.hk_locked.specs.Places.{node_names};
 ghost use Rattle.hk_locked.specs.Steps.{Ticks};
 ghost use Rattle.hk_worker.specs.Founding.{IsFoundedShard, IsShardNamed, names_of};
@@ -78,7 +80,8 @@ fn founder<R: Wait>(
     requires lease_end { lease_end ≤ MAX_TIME }
     requires skew { skew ≤ MAX_TIME }
     requires managers { managers ≤ 9 }
-    ensures { IfOk result (λ shard. IsFoundedShard skew shard) }
+    ensures founded { IfOk result (λ shard. IsFoundedShard skew shard) }
+    ensures new { IfOk result (λ shard. IsNew (founder node view.now lease_end skew managers) shard) }
 {
     let view = view.copy(alloc)?;
     let base = Node::founder(alloc, node, view, lease_end, skew, managers)?;
@@ -132,7 +135,8 @@ impl Founded {
 }
 
 impl<F: Completion + Copy + Drop, P: Places> Shards<F, P> {
-    /// Eight shards over founders of this number, with leases that end at `lease_end`, which is kept as the length of a lease, in milliseconds.
+    /// Eight shards at which nothing has happened yet, each over a founder of this number, with leases that end at `lease_end`, which is kept as the length of a
+    /// lease, in milliseconds.
     pub fn founders<R: Wait>(
         rt: &R,
         alloc: Global,
@@ -150,6 +154,7 @@ impl<F: Completion + Copy + Drop, P: Places> Shards<F, P> {
         requires managers { managers ≤ 9 }
         ensures node { IfOk result (λ founded. founded.node ≡ node) }
         ensures skew { IfOk result (λ founded. founded.skew ≡ skew) }
+        ensures founders { IfOk result (λ founded. AllByRecursion (IsNew (founder node view.now lease_end skew managers)) founded.shards) }
     {
         let of_0 = founder(rt, alloc, node, view, lease_end, skew, managers)?;
         let of_1 = founder(rt, alloc, node, view, lease_end, skew, managers)?;
