@@ -7,3 +7,5 @@ mod outside;
 mod send;
 #[cfg(test)]
 mod serve;
+#[cfg(test)]
+mod turns;
