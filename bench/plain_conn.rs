@@ -139,6 +139,60 @@ fn get(table: &Table, keys: &[&[u8]], replies: &mut Vec<u8>) {
     replies.extend_from_slice(b"END\r\n");
 }
 
+/// What is read and not yet answered, what is stored, and the replies to one piece.
+struct Conn {
+    buffer: Vec<u8>,
+    start: usize,
+    store: Option<Head>,
+    table: Table,
+    replies: Vec<u8>,
+}
+
+impl Conn {
+    fn new() -> Conn {
+        Conn { buffer: Vec::new(), start: 0, store: None, table: Table::new(), replies: Vec::new() }
+    }
+
+    fn take(&mut self, piece: &[u8]) {
+        if self.start * 2 > self.buffer.len() {
+            self.buffer.drain(..self.start);
+            self.start = 0;
+        }
+        self.buffer.extend_from_slice(piece);
+        self.replies.clear();
+        while self.answer_next() {}
+    }
+
+    /// Answers the next line or block, if it is there.
+    fn answer_next(&mut self) -> bool {
+        if let Some(head) = self.store.take() {
+            if self.buffer.len() - self.start < head.bytes + 2 {
+                self.store = Some(head);
+                return false;
+            }
+            let data = &self.buffer[self.start..self.start + head.bytes];
+            self.table.insert(head.key, Content { flags: head.flags, bytes: Arc::from(data) });
+            self.start += head.bytes + 2;
+            self.replies.extend_from_slice(b"STORED\r\n");
+            return true;
+        }
+        let Some(end) = line_end(&self.buffer[self.start..]) else { return false };
+        let line = &self.buffer[self.start..self.start + end];
+        self.start += end + 2;
+        let words: Vec<&[u8]> = line.split(|b| *b == b' ').filter(|word| !word.is_empty()).collect();
+        match words.as_slice() {
+            [b"get", keys @ ..] if !keys.is_empty() && keys.iter().all(|key| is_key(key)) => get(&self.table, keys, &mut self.replies),
+            [b"set", key, flags, expiry, bytes] if is_key(key) && number(expiry) == Some(0) => {
+                if let (Some(flags), Some(bytes)) = (number(flags), number(bytes)) {
+                    self.store = Some(Head { key: key.to_vec(), flags: flags as u32, bytes: bytes as usize });
+                }
+            }
+            _ => self.replies.extend_from_slice(b"ERROR\r\n"),
+        }
+        true
+    }
+}
+
 fn main() {
     let words: Vec<String> = std::env::args().collect();
     if words.len() == 4 && words[1] == "gen" {
@@ -149,49 +203,14 @@ fn main() {
     let mut source = input.as_slice();
     let mut written: Vec<u8> = Vec::new();
     let mut piece = [0u8; 16_384];
-    let mut buffer: Vec<u8> = Vec::new();
-    let mut start = 0;
-    let mut store: Option<Head> = None;
-    let mut table = Table::new();
-    let mut replies: Vec<u8> = Vec::new();
+    let mut conn = Conn::new();
     loop {
         let count = source.read(&mut piece).unwrap();
         if count == 0 {
             break;
         }
-        if start * 2 > buffer.len() {
-            buffer.drain(..start);
-            start = 0;
-        }
-        buffer.extend_from_slice(&piece[..count]);
-        replies.clear();
-        loop {
-            if let Some(head) = store.take() {
-                if buffer.len() - start < head.bytes + 2 {
-                    store = Some(head);
-                    break;
-                }
-                let data = &buffer[start..start + head.bytes];
-                table.insert(head.key, Content { flags: head.flags, bytes: Arc::from(data) });
-                start += head.bytes + 2;
-                replies.extend_from_slice(b"STORED\r\n");
-                continue;
-            }
-            let Some(end) = line_end(&buffer[start..]) else { break };
-            let line = &buffer[start..start + end];
-            start += end + 2;
-            let words: Vec<&[u8]> = line.split(|b| *b == b' ').filter(|word| !word.is_empty()).collect();
-            match words.as_slice() {
-                [b"get", keys @ ..] if !keys.is_empty() && keys.iter().all(|key| is_key(key)) => get(&table, keys, &mut replies),
-                [b"set", key, flags, expiry, bytes] if is_key(key) && number(expiry) == Some(0) => {
-                    if let (Some(flags), Some(bytes)) = (number(flags), number(bytes)) {
-                        store = Some(Head { key: key.to_vec(), flags: flags as u32, bytes: bytes as usize });
-                    }
-                }
-                _ => replies.extend_from_slice(b"ERROR\r\n"),
-            }
-        }
-        written.extend_from_slice(&replies);
+        conn.take(&piece[..count]);
+        written.extend_from_slice(&conn.replies);
     }
     std::io::stdout().lock().write_all(&written).unwrap();
 }

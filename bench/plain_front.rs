@@ -41,6 +41,60 @@ fn is_key(word: &[u8]) -> bool {
     (1..=250).contains(&word.len()) && word.iter().all(|b| *b >= 0x21 && *b != 0x7f)
 }
 
+/// What is read and not yet counted, and the counts.
+#[derive(Default)]
+struct Front {
+    buffer: Vec<u8>,
+    start: usize,
+    store: Option<Store>,
+    lines: u64,
+    requests: u64,
+    last: Option<Request>,
+}
+
+impl Front {
+    fn take(&mut self, piece: &[u8]) {
+        if self.start * 2 > self.buffer.len() {
+            self.buffer.drain(..self.start);
+            self.start = 0;
+        }
+        self.buffer.extend_from_slice(piece);
+        while self.count_next() {}
+    }
+
+    /// Counts the next line or block, if it is there.
+    fn count_next(&mut self) -> bool {
+        if let Some(head) = self.store.take() {
+            if self.buffer.len() - self.start < head.bytes + 2 {
+                self.store = Some(head);
+                return false;
+            }
+            self.last = Some(Request::Set(self.buffer[self.start..self.start + head.bytes].to_vec()));
+            self.start += head.bytes + 2;
+            self.requests += 1;
+            return true;
+        }
+        let Some(end) = self.buffer[self.start..].windows(2).position(|two| two == b"\r\n") else { return false };
+        let line = &self.buffer[self.start..self.start + end];
+        self.start += end + 2;
+        self.lines += 1;
+        let words: Vec<&[u8]> = line.split(|b| *b == b' ').filter(|word| !word.is_empty()).collect();
+        match words.as_slice() {
+            [b"get", keys @ ..] if !keys.is_empty() && keys.iter().all(|key| is_key(key)) => {
+                self.last = Some(Request::Get(keys.iter().map(|key| key.to_vec()).collect()));
+                self.requests += 1;
+            }
+            [b"set", key, flags, expiry, bytes] if is_key(key) && number(flags).is_some() && number(expiry) == Some(0) => {
+                if let Some(bytes) = number(bytes) {
+                    self.store = Some(Store { _key: key.to_vec(), bytes: bytes as usize });
+                }
+            }
+            _ => {}
+        }
+        true
+    }
+}
+
 fn main() {
     let words: Vec<String> = std::env::args().collect();
     if words.len() == 3 && words[1] == "gen" {
@@ -48,56 +102,18 @@ fn main() {
     }
     let mut input = std::io::stdin().lock();
     let mut piece = [0u8; 16_384];
-    let mut buffer: Vec<u8> = Vec::new();
-    let mut start = 0;
-    let mut store: Option<Store> = None;
-    let (mut lines, mut requests) = (0u64, 0u64);
-    let mut last: Option<Request> = None;
+    let mut front = Front::default();
     loop {
         let count = input.read(&mut piece).unwrap();
         if count == 0 {
             break;
         }
-        if start * 2 > buffer.len() {
-            buffer.drain(..start);
-            start = 0;
-        }
-        buffer.extend_from_slice(&piece[..count]);
-        loop {
-            if let Some(head) = store.take() {
-                if buffer.len() - start < head.bytes + 2 {
-                    store = Some(head);
-                    break;
-                }
-                last = Some(Request::Set(buffer[start..start + head.bytes].to_vec()));
-                start += head.bytes + 2;
-                requests += 1;
-                continue;
-            }
-            let Some(end) = buffer[start..].windows(2).position(|two| two == b"\r\n") else { break };
-            let line = &buffer[start..start + end];
-            start += end + 2;
-            lines += 1;
-            let words: Vec<&[u8]> = line.split(|b| *b == b' ').filter(|word| !word.is_empty()).collect();
-            match words.as_slice() {
-                [b"get", keys @ ..] if !keys.is_empty() && keys.iter().all(|key| is_key(key)) => {
-                    last = Some(Request::Get(keys.iter().map(|key| key.to_vec()).collect()));
-                    requests += 1;
-                }
-                [b"set", key, flags, expiry, bytes] if is_key(key) && number(flags).is_some() && number(expiry) == Some(0) => {
-                    if let Some(bytes) = number(bytes) {
-                        store = Some(Store { _key: key.to_vec(), bytes: bytes as usize });
-                    }
-                }
-                _ => {}
-            }
-        }
+        front.take(&piece[..count]);
     }
-    if let Some(Request::Get(keys)) = &last {
-        assert!(!keys.is_empty());
+    match &front.last {
+        Some(Request::Get(keys)) => assert!(!keys.is_empty()),
+        Some(Request::Set(data)) => assert!(data.len() <= 1_048_576),
+        None => {}
     }
-    if let Some(Request::Set(data)) = &last {
-        assert!(data.len() <= 1_048_576);
-    }
-    println!("lines {lines} requests {requests}");
+    println!("lines {} requests {}", front.lines, front.requests);
 }

@@ -2,12 +2,14 @@
 // was changed last. It proves nothing, and knows reads and writes alone. Its input and its output are those of the small program `bench_shard`.
 use std::collections::BTreeMap;
 use std::hint::black_box;
-use std::sync::atomic::{AtomicU64, Ordering, fence};
 use std::sync::{Arc, Mutex};
 use std::time::Instant;
 use std::{io, mem, thread};
 
-const WORDS: usize = 165;
+#[path = "plain_cell.rs"]
+mod plain_cell;
+
+use plain_cell::{Cell, Shown, WORDS, Words, cell_of, cells, data_in, shows_key, words_of};
 
 #[derive(Clone)]
 struct Content {
@@ -47,63 +49,12 @@ struct Entry {
     replies: Vec<(u64, Answer)>,
 }
 
-struct Cell {
-    count: AtomicU64,
-    words: [AtomicU64; WORDS],
-}
-
-impl Cell {
-    fn new() -> Cell {
-        Cell { count: AtomicU64::new(0), words: [const { AtomicU64::new(0) }; WORDS] }
-    }
-
-    fn store(&self, words: &[u64; WORDS]) {
-        let count = self.count.load(Ordering::Relaxed);
-        self.count.store(count + 1, Ordering::Relaxed);
-        fence(Ordering::Release);
-        for (to, from) in self.words.iter().zip(words) {
-            to.store(*from, Ordering::Relaxed);
-        }
-        self.count.store(count + 2, Ordering::Release);
-    }
-
-    fn load(&self, words: &mut [u64; WORDS]) {
-        loop {
-            let before = self.count.load(Ordering::Acquire);
-            for (to, from) in words.iter_mut().zip(&self.words) {
-                *to = from.load(Ordering::Relaxed);
-            }
-            fence(Ordering::Acquire);
-            if before % 2 == 0 && self.count.load(Ordering::Relaxed) == before {
-                return;
-            }
-        }
-    }
-}
-
-fn cell_of(key: &[u8]) -> usize {
-    key.iter().map(|byte| *byte as usize).sum::<usize>() / 8 % 32
-}
-
-fn pack(bytes: &[u8], words: &mut [u64]) {
-    for (word, eight) in words.iter_mut().zip(bytes.chunks(8)) {
-        let mut whole = [0; 8];
-        whole[..eight.len()].copy_from_slice(eight);
-        *word = u64::from_le_bytes(whole);
-    }
-}
-
-fn words_of(key: &[u8], row: &Row, ticket: u64) -> [u64; WORDS] {
-    let mut words = [0; WORDS];
-    let (shape, flags, data): (u64, u32, &[u8]) = match &row.content {
-        Some(content) if content.bytes.len() <= 1000 => (1, content.flags, &content.bytes),
-        Some(_) => (2, 0, &[]),
-        None => (3, 0, &[]),
+fn words_of_row(key: &[u8], row: &Row, ticket: u64) -> Words {
+    let (flags, data) = match &row.content {
+        Some(content) => (content.flags, Some(&content.bytes[..])),
+        None => (0, None),
     };
-    words[..8].copy_from_slice(&[shape, !row.valid as u64, row.version, row.node as u64, ticket, flags as u64, key.len() as u64, data.len() as u64]);
-    pack(key, &mut words[8..40]);
-    pack(data, &mut words[40..]);
-    words
+    words_of(key, &Shown { valid: row.valid, version: row.version, node: row.node, ticket, flags, data })
 }
 
 type Map = BTreeMap<Arc<[u8]>, Row>;
@@ -147,7 +98,7 @@ impl Shard {
         self.last += 1;
         if let Op::Write(_) = op {
             self.changing.push(self.journal.len());
-            self.cells[cell_of(&key)].store(&words_of(&key, &self.part[&key], self.last));
+            self.cells[cell_of(&key)].store(&words_of_row(&key, &self.part[&key], self.last));
         }
         let replies = vec![(1, answer.clone())];
         self.journal.push(Entry { ticket: self.last, call: 1, key, op, letters: Vec::new(), replies });
@@ -168,18 +119,12 @@ fn content() -> Content {
 }
 
 // What a read is told by the cell of its key.
-fn read_local(cells: &[Cell], words: &mut [u64; WORDS], key: &[u8]) -> Option<Content> {
+fn read_local(cells: &[Cell], words: &mut Words, key: &[u8]) -> Option<Content> {
     cells[cell_of(key)].load(words);
-    let mut packed = [0; 32];
-    pack(key, &mut packed);
-    if words[0] != 1 || words[1] != 0 || words[6] as usize != key.len() || words[8..40] != packed {
+    if !shows_key(words, key) || words[0] != 1 || words[1] != 0 {
         return None;
     }
-    let mut data = [0u8; 1000];
-    for (eight, word) in data.chunks_mut(8).zip(&words[40..]) {
-        eight.copy_from_slice(&word.to_le_bytes());
-    }
-    Some(Content { flags: words[5] as u32, bytes: Arc::from(&data[..words[7] as usize]) })
+    Some(Content { flags: words[5] as u32, bytes: Arc::from(data_in(words, &mut [0; 1000])) })
 }
 
 fn draw(state: u64) -> u64 {
@@ -193,7 +138,7 @@ fn main() {
     let numbers: Vec<u64> = words[1..].iter().map(|word| word.parse().unwrap()).collect();
     let (kind, threads, count, entries) = (words[0], numbers[0], numbers[1], numbers[3]);
     let keys: Arc<Vec<Arc<[u8]>>> = Arc::new((0..numbers[2]).map(|k| Arc::from(format!("key:{k}").as_bytes())).collect());
-    let cells: Arc<Vec<Cell>> = Arc::new((0..32).map(|_| Cell::new()).collect());
+    let cells: Arc<Vec<Cell>> = Arc::new(cells());
     let mut shard = Shard { base: Map::new(), part: Map::new(), journal: Vec::new(), changing: Vec::new(), last: 0, cells: cells.clone() };
     for key in keys.iter() {
         shard.apply(key, &Op::Write(content()));

@@ -88,17 +88,19 @@ impl Frame {
         }
     }
 
+    fn inv(&mut self, random: &mut Random) {
+        self.key(&random.key());
+        self.stamp(random);
+        let kind = random.below(3) as u64;
+        self.number(1, kind);
+        if kind < 2 {
+            self.content(random, None);
+        }
+    }
+
     fn body(&mut self, random: &mut Random, kind: u64) {
         match kind {
-            1 => {
-                self.key(&random.key());
-                self.stamp(random);
-                let kind = random.below(3) as u64;
-                self.number(1, kind);
-                if kind < 2 {
-                    self.content(random, None);
-                }
-            }
+            1 => self.inv(random),
             2 | 3 => {
                 self.key(&random.key());
                 self.stamp(random);

@@ -1,5 +1,5 @@
-//! Reads two numbers from standard input, keeps as many watches of one key as the first says, looks as often as the second says, by one watch after the other, and
-//! prints how many of the looks told a watcher. `bench/watch` measures it.
+//! Reads three numbers from standard input, keeps as many watches of one key as the first says, and looks as often as the third says, by the first watches of all, as
+//! many as the second says, in turn. Prints how many of the looks told a watcher. `bench/watch` measures it.
 #![tactic(auto)]
 
 use hk_base::{Key, Memory, Stamp};
@@ -9,6 +9,17 @@ use hk_watching::KeyWriter;
 use std::alloc::Global;
 use std::io;
 use std::sync::Wait;
+
+// What is to be done.
+#[derive(Clone, Copy, Debug)]
+struct Plan {
+    // How many watches are kept.
+    count: u64,
+    // How many of them look in turn.
+    looking: u64,
+    // How often one of them looks.
+    looks: u64,
+}
 
 // Gives notice of what it is told.
 #[derive(Drop)]
@@ -43,41 +54,39 @@ fn keep_all(watches: &mut Watches<Noting>, key: &Key, count: u64) -> Result<(), 
     Ok(())
 }
 
-// Looks so often, by one of so many watches after the other, and counts the looks that fired.
+// Looks as the plan says, and counts the looks that fired.
 fn look_in_turn<R: Wait>(
     rt: &R,
     alloc: Global,
     watches: &mut Watches<Noting>,
     reader: &mut SnapReader,
-    count: u64,
-    looks: u64,
+    plan: Plan,
 ) -> Result<u64, Memory> {
     let mut fired: u64 = 0;
     let mut watch: u64 = 0;
-    for _look in 0..looks {
+    for _look in 0..plan.looks {
         if let Look::Fired(_) = watches.look(rt, alloc, reader, watch)? {
             fired = fired.saturating_add(1);
         }
         watch = watch.saturating_add(1);
-        if watch >= count {
+        if watch >= plan.looking {
             watch = 0;
         }
     }
     Ok(fired)
 }
 
-// The looks that fired, of so many watches of the key.
+// The looks that fired, of watches of the key.
 fn looked<R: Wait>(
     rt: &R,
     alloc: Global,
     key: &Key,
     mut reader: SnapReader,
-    count: u64,
-    looks: u64,
+    plan: Plan,
 ) -> Result<u64, Memory> {
     let mut watches = Watches::new(alloc);
-    match keep_all(&mut watches, key, count) {
-        Ok(()) => look_in_turn(rt, alloc, &mut watches, &mut reader, count, looks),
+    match keep_all(&mut watches, key, plan.count) {
+        Ok(()) => look_in_turn(rt, alloc, &mut watches, &mut reader, plan),
         Err(_) => Err(Memory),
     }
 }
@@ -97,16 +106,15 @@ fn looked_behind<R: Wait>(
     rt: &R,
     alloc: Global,
     writer: &mut KeyWriter,
-    count: u64,
-    looks: u64,
+    plan: Plan,
 ) -> Result<u64, Memory> {
     let reader = reader_behind(rt, alloc, writer)?;
-    looked(rt, alloc, &writer.key, reader, count, looks)
+    looked(rt, alloc, &writer.key, reader, plan)
 }
 
-fn measured<R: Wait>(rt: &R, alloc: Global, count: u64, looks: u64) -> Result<u64, Memory> {
+fn measured<R: Wait>(rt: &R, alloc: Global, plan: Plan) -> Result<u64, Memory> {
     let mut writer = KeyWriter::new(rt, alloc)?;
-    looked_behind(rt, alloc, &mut writer, count, looks)
+    looked_behind(rt, alloc, &mut writer, plan)
 }
 
 // The number on the next line of the input, 0 where there is none.
@@ -117,9 +125,12 @@ fn read_number<R: Input + Alloc>(rt: &R) -> io::Result<u64> {
 }
 
 fn main(rt: HostRuntime) -> io::Result<()> {
-    let count = read_number(&rt)?;
-    let looks = read_number(&rt)?;
-    match measured(&rt, rt.alloc(), count, looks) {
+    let plan = Plan {
+        count: read_number(&rt)?,
+        looking: read_number(&rt)?,
+        looks: read_number(&rt)?,
+    };
+    match measured(&rt, rt.alloc(), plan) {
         Ok(fired) => println!(rt; "fired {fired}"),
         Err(_) => println!(rt; "no memory"),
     }

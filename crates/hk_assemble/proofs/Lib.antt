@@ -6,3 +6,4 @@ mod Least
 mod Turns
 mod Assembling
 mod Tickets
+mod Single

@@ -1,5 +1,5 @@
 -- Tickets that rise from one to the next rise.
-use Rattle.std.proofs.Common.{◌≡◌, ◌<◌, ℕ, zero, suc, List, [], ◌∷◌, Bool, true, false, ◌&&◌, Option, Some, None, refl, arith, nat_lt, slice_get, if◌then◌else◌}
+use Rattle.std.proofs.Common.{◌≡◌, ◌<◌, ℕ, zero, suc, List, [], ◌∷◌, Bool, true, false, ◌&&◌, Option, Some, None, refl, ap, ◌∙◌, arith, nat_lt, slice_get, if◌then◌else◌}
 use Rattle.std.specs.List.{AllByRecursion, list_all}
 use Rattle.std.proofs.lemmas.Bool.{ltb-true, false≢true}
 use Rattle.hk_base.specs.declared.stamp.NodeId.{NodeId}
@@ -44,3 +44,30 @@ each_rises (j ∷ journals) (suc n) all = each_rises journals n (by_test (rises_
 
 pub journals_rise : (journals : JournalList) → list_all (rises_above None) journals ≡ true → (node : NodeId) → Rises (journal_of journals node)
 journals_rise journals all node = each_rises journals node.0 all
+
+-- ---- and what rises passes
+rises_on : (last : Option ℕ) (entries : List JournalEntry) → AllByRecursion (λ (e : JournalEntry). is_above last e.ticket ≡ true) entries → Rises entries → rises_above last entries ≡ true
+rises_on last [] above rises = refl
+rises_on last (e ∷ entries) above rises =
+    ap (λ (b : Bool). if b then rises_above (Some e.ticket) entries else false) above.0 ∙ rises_on (Some e.ticket) entries (tested e.ticket entries rises.0) rises.1
+  where
+    tested : (low : ℕ) (es : List JournalEntry) → AllByRecursion (λ (x : JournalEntry). low < x.ticket) es → AllByRecursion (λ (x : JournalEntry). is_above (Some low) x.ticket ≡ true) es
+    tested low [] all = tt
+    tested low (x ∷ es) all = (less_is low x.ticket all.0, tested low es all.1)
+      where
+        less_is : (a b : ℕ) → a < b → nat_lt a b ≡ true
+        less_is a b less = grind arith
+
+rises_first : (entries : List JournalEntry) → Rises entries → rises_above None entries ≡ true
+rises_first entries rises = rises_on None entries (any entries) rises
+  where
+    any : (es : List JournalEntry) → AllByRecursion (λ (x : JournalEntry). is_above None x.ticket ≡ true) es
+    any [] = tt
+    any (x ∷ es) = (refl, any es)
+
+all_pass : (journals : JournalList) → ((n : ℕ) → Rises (journal_or (slice_get journals n))) → list_all (rises_above None) journals ≡ true
+all_pass [] rises = refl
+all_pass (j ∷ journals) rises = ap (λ (b : Bool). b && list_all (rises_above None) journals) (rises_first j (rises 0)) ∙ all_pass journals (λ n. rises (suc n))
+
+pub rising_journals : (journals : JournalList) → ((node : NodeId) → Rises (journal_of journals node)) → list_all (rises_above None) journals ≡ true
+rising_journals journals rises = all_pass journals (λ n. rises (record { 0 = n }))

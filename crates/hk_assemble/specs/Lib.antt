@@ -8,3 +8,4 @@ pub mod Stepping
 pub mod Courses
 pub mod Checking
 pub mod Rising
+pub mod Single

@@ -18,6 +18,6 @@ mod taking;
 mod whole;
 
 pub use gap::{Gap, Given};
-pub use laws::letters_stay_known;
+pub use laws::{answers_are_one, letters_stay_known};
 pub use rising::tickets_rise;
 pub use whole::assemble;

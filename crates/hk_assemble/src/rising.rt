@@ -1,6 +1,6 @@
 //! Whether the tickets of journals rise.
 
-ghost use Rattle.std.specs.Prelude.{◌≡◌, None, true};
+ghost use Rattle.std.specs.Prelude.{◌≡◌, ◌↔◌, None, IsTrue};
 ghost use Rattle.std.specs.List.{list_all};
 ghost use Rattle.hk_base.specs.declared.stamp.NodeId.{NodeId};
 ghost use Rattle.hk_merge.specs.Merged.{Rises, journal_of};
@@ -38,7 +38,7 @@ fn all_rise(journals: &[Journal]) -> bool
 
 /// Whether the tickets of each journal rise, as [`crate::assemble`] asks.
 pub fn tickets_rise(journals: &[Journal]) -> bool
-    ensures { result ≡ true → (node : NodeId) → Rises (journal_of journals.now node) }
+    ensures { IsTrue result ↔ ((node : NodeId) → Rises (journal_of journals.now node)) }
 {
     all_rise(journals)
 }

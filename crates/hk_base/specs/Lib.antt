@@ -1,5 +1,6 @@
 pub mod KeyBytes
 pub mod Key
+pub mod KeyFront
 pub mod KeyFaults
 pub mod Stamp
 pub mod Register

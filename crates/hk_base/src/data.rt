@@ -1,11 +1,13 @@
 //! The data that a key holds.
 
-ghost use Rattle.std.specs.Prelude.{◌≡◌, IfOk};
+ghost use Rattle.std.specs.Prelude.{◌≡◌, IfOk, nat_eq};
+ghost use Rattle.std.specs.Cmp.Lexicographic.{pointwise, nat_list_eq_equiv};
+ghost use Rattle.std.specs.Cmp.{partial_equiv_from_equiv};
 
 use crate::memory::Memory;
-use bytes::Bytes;
 use std::alloc::Global;
 use std::marker::Model;
+use std::sync::ArcSlice;
 
 /// The greatest length of data, in bytes.
 pub const MAX_DATA_LEN: usize = 1_048_576;
@@ -20,9 +22,9 @@ pub enum DataFault {
 }
 
 /// Data of at most 1,048,576 bytes, whatever they are. Contracts see its bytes.
-#[derive(PartialEq, Eq, Drop)]
+#[derive(Drop)]
 pub struct Data {
-    bytes: Bytes,
+    bytes: ArcSlice<u8>,
 }
 
 impl Model for Data {
@@ -30,13 +32,26 @@ impl Model for Data {
 
     ghost Value = { List ℕ };
 
+    ghost use Rattle.std.specs.Arc.{arc_slice_items};
     ghost use Rattle.hk_base.specs.Key.{IsData};
 
-    ghost view = { λ d. d.bytes };
+    ghost view = { λ d. arc_slice_items d.bytes };
 
-    ghost invariant = { λ d. IsData d.bytes };
+    ghost invariant = { λ d. IsData (arc_slice_items d.bytes) };
+}
 
-    ghost inverse = { λ v. record { bytes = v } };
+impl PartialEq for Data {
+    ghost eq = { pointwise nat_eq };
+
+    ghost laws = { partial_equiv_from_equiv nat_list_eq_equiv };
+
+    fn eq(&self, other: &Data) -> bool {
+        self.bytes() == other.bytes()
+    }
+}
+
+impl Eq for Data {
+    ghost laws = { nat_list_eq_equiv };
 }
 
 impl Data {
@@ -50,7 +65,7 @@ impl Data {
         if bytes.len() > MAX_DATA_LEN {
             return Err(DataFault::TooLarge { len: bytes.len() });
         }
-        match Bytes::copy_from_slice(alloc, bytes) {
+        match ArcSlice::from_slice(alloc, bytes) {
             Ok(bytes) => Ok(Data { bytes }),
             Err(_) => Err(DataFault::Memory),
         }

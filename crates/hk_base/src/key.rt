@@ -2,11 +2,14 @@
 
 ghost use Rattle.std.specs.Prelude.{◌≡◌, position, IfOk};
 ghost use Rattle.hk_base.specs.KeyBytes.{is_bad_byte};
+ghost use Rattle.hk_base.specs.KeyFront.{front_of};
 
 use crate::memory::Memory;
-use bytes::Bytes;
 use std::alloc::Global;
 use std::marker::Model;
+use std::sync::ArcSlice;
+
+mod order;
 
 /// The greatest length of a key, in bytes.
 pub const MAX_KEY_LEN: usize = 250;
@@ -31,11 +34,26 @@ fn first_bad_byte(bytes: &[u8]) -> Option<usize>
     bytes.iter().position(|byte| *byte < 0x21 || *byte == 0x7f)
 }
 
+// The first eight bytes as one number, the first of them the most significant; a zero stands for each that is not there.
+#[tactic(auto, unfolding(crate::specs::KeyFront::front_of))]
+fn front_of(bytes: &[u8]) -> u64
+    ensures { result ≡ front_of bytes.now }
+{
+    let mut front = 0;
+    for place in 0..8 {
+        let byte = bytes.get(place).copied().unwrap_or(0);
+        front = front * 256 + byte as u64;
+    }
+    front
+}
+
 /// A key: 1 to 250 bytes, none below `0x21` and none `0x7f`, as memcached's `protocol.txt` has it.
 /// Contracts see its bytes. Keys are ordered as their bytes are, from the first on.
-#[derive(PartialEq, Eq, PartialOrd, Ord, Drop)]
+#[derive(Drop)]
 pub struct Key {
-    bytes: Bytes,
+    // Its first eight bytes: most keys are ordered by them alone, with no look at memory elsewhere.
+    front: u64,
+    bytes: ArcSlice<u8>,
 }
 
 impl Model for Key {
@@ -43,13 +61,12 @@ impl Model for Key {
 
     ghost Value = { List ℕ };
 
-    ghost use Rattle.hk_base.specs.Key.{IsKey};
+    ghost use Rattle.std.specs.Arc.{arc_slice_items};
+    ghost use Rattle.hk_base.specs.KeyFront.{IsFronted};
 
-    ghost view = { λ k. k.bytes };
+    ghost view = { λ k. arc_slice_items k.bytes };
 
-    ghost invariant = { λ k. IsKey k.bytes };
-
-    ghost inverse = { λ v. record { bytes = v } };
+    ghost invariant = { λ k. IsFronted k.front (arc_slice_items k.bytes) };
 }
 
 impl Key {
@@ -69,8 +86,9 @@ impl Key {
         if let Some(at) = first_bad_byte(bytes) {
             return Err(KeyFault::BadByte { at });
         }
-        match Bytes::copy_from_slice(alloc, bytes) {
-            Ok(bytes) => Ok(Key { bytes }),
+        let front = front_of(bytes);
+        match ArcSlice::from_slice(alloc, bytes) {
+            Ok(bytes) => Ok(Key { front, bytes }),
             Err(_) => Err(KeyFault::Memory),
         }
     }
@@ -88,6 +106,9 @@ impl Key {
         ensures { IfOk result (λ key. key ≡ self.now) }
     {
         let bytes = self.bytes.clone()?;
-        Ok(Key { bytes })
+        Ok(Key {
+            front: self.front,
+            bytes,
+        })
     }
 }

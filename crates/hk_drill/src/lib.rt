@@ -20,4 +20,5 @@ pub use course::MAX_LETTERS;
 pub use generate::generate as generate_run;
 pub use line::{MAX_LINE_LEN, MAX_LINES};
 pub use stop::Stop;
+pub use text::put_answer;
 pub use top::drill;

@@ -9,7 +9,8 @@ mod views;
 ghost use Rattle.std.specs.Prelude.{◌≡◌, ◌++◌, OnOk, Some, None};
 ghost use Rattle.hk_drill.specs.Text.{refused_text, reply_text, replies_text, call_text, view_line_text, shown_text, end_text};
 
-use answers::{put_answer, put_refusal};
+pub use answers::put_answer;
+use answers::put_refusal;
 use hk_base::{CallNo, Memory, NodeId, Reply, View};
 use hk_script::{put_number, put_text};
 use hk_world::{Refused, Shown};

@@ -1,3 +1,3 @@
 mod Options
 mod Finding
-mod Followed
+pub mod Followed

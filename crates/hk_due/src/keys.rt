@@ -1,11 +1,13 @@
 //! The keys of open rows.
 
-ghost use Rattle.std.specs.Prelude.{◌≡◌, ◌⊎◌, [], true, map, Some, None, OnOk, OnErr};
+ghost use Rattle.std.specs.Prelude.{◌≡◌, ◌⊎◌, [], true, map, Some, None, IsTrue, IfOk, OnOk, OnErr};
 ghost use Rattle.std.specs.List.{find, filter};
 ghost use Rattle.std.specs.Option.{option_map, option_copied};
 ghost use Rattle.hk_node.specs.Index.{is_open_at};
+ghost use Rattle.hk_due.specs.Due.{due_key, due_of};
 ghost use Rattle.hk_due.specs.Keys.{since_of, AreOthersSame, IsKept, IsMissed, IsLetGo, IsNoted, AreNoted, is_later, is_due, next_due};
 
+use crate::due::{Due, due_at};
 use hk_base::{Key, Memory, State};
 use hk_node::{Former, Node};
 use std::alloc::Global;
@@ -135,6 +137,38 @@ impl OpenKeys {
             Some(after) => due_behind(&self.since, after, before),
             None => first_due(&self.since, before),
         }
+    }
+
+    // The same. Where keys are missing, it is the least one whose row is open.
+    fn due_key<'a>(&'a self, part: &'a Node, after: Option<&Key>, before: u64) -> Option<&'a Key>
+        ensures { option_copied result ≡ due_key (option_copied after.entry) before self.now part.now.rows }
+    {
+        if self.whole {
+            self.next_due(after, before)
+        } else {
+            part.open(after)
+        }
+    }
+
+    /// What is to be sent again of the least key behind this one, or of all, that is open at the node since a step of a ticket up to `before`. It looks at no row
+    /// but that key's, unless keys are missing.
+    pub fn due(&self, part: &Node, after: Option<&Key>, before: u64) -> Result<Option<Due>, Memory>
+        ensures { IfOk result (λ due. due ≡ due_of (option_copied after.entry) before self.now part.now.rows) }
+    {
+        match self.due_key(part, after, before) {
+            Some(key) => {
+                let due = due_at(part, key)?;
+                Ok(Some(due))
+            }
+            None => Ok(None),
+        }
+    }
+
+    /// Whether no row is open: no key is here, and none is missing.
+    pub fn is_empty(&self) -> bool
+        ensures { IsTrue result → (self.now.since ≡ []) × (self.now.whole ≡ true) }
+    {
+        self.whole && self.since.is_empty()
     }
 
     /// Whether no key is missing.

@@ -1,5 +1,6 @@
 -- A stable sort by events gathers the entries event by event.
 use Rattle.std.proofs.Common.{◌≡◌, ◌⊎◌, ℕ, suc, Bool, true, false, cond, ◌+◌, ◌&&◌, not, List, [], ◌∷◌, ◌++◌, map, length, get_or, ◌<◌, ◌≤◌, ◌∙◌, sym, refl, ap, ap₂, subst, inl, inr, ⊎_elim, arith, eqb, ltb, None, Less, Equal, Greater}
+use Rattle.std.proofs.lemmas.List.{map-append}
 use Rattle.std.specs.List.{filter, flat_map, range_with_len}
 use Rattle.std.specs.List.Sorted.{IsSortedByKey, IsStableByKey}
 use Rattle.std.specs.Ordering.{nat_cmp, is_lt}
@@ -12,7 +13,7 @@ use Rattle.hk_effects.specs.Laws.{EventIsEffects}
 use Rattle.hk_effects.specs.Runs.{RunsKeepParts}
 use Rattle.hk_safety.specs.Run.{RunState, named}
 use Rattle.hk_safety.proofs.Traces.{run_kept}
-use Rattle.hk_joint.specs.declared.placing.Placed.{Placed}
+use Rattle.hk_safety.specs.declared.placed.Placed.{Placed}
 use Rattle.hk_joint.specs.Joint.{Standing, standings, standings_at, moments, joint_order, entries_of}
 use Rattle.hk_joint.specs.Placing.{by_event, IsByEvent, placed, placed_in, PlacedAreJoint}
 use Rattle.hk_joint.proofs.Chain.{moments_of_run}
@@ -92,13 +93,9 @@ filter_map_in {X} {Y} f p (x ∷ xs) = by_test (p (f x)) (filter_map_in f p xs)
     by_test true more = ap (λ (l : List Y). f x ∷ l) more
     by_test false more = more
 
-map_both : {X Y : Type 0} (f : X → Y) (xs ys : List X) → map f (xs ++ ys) ≡ map f xs ++ map f ys
-map_both f [] ys = refl
-map_both {X} {Y} f (x ∷ xs) ys = ap (λ (l : List Y). f x ∷ l) (map_both f xs ys)
-
 flat_map_in : {X Y Z : Type 0} (g : Y → Z) (f : X → List Y) (xs : List X) → flat_map (λ x. map g (f x)) xs ≡ map g (flat_map f xs)
 flat_map_in g f [] = refl
-flat_map_in {X} {Y} {Z} g f (x ∷ xs) = ap (λ (l : List Z). map g (f x) ++ l) (flat_map_in g f xs) ∙ sym (map_both g (f x) (flat_map f xs))
+flat_map_in {X} {Y} {Z} g f (x ∷ xs) = ap (λ (l : List Z). map g (f x) ++ l) (flat_map_in g f xs) ∙ sym (map-append g (f x) (flat_map f xs))
 
 entries_placed : (js : List Standing) → map (λ (p : Placed). p.entry) (map placed js) ≡ entries_of js
 entries_placed [] = refl

@@ -1,5 +1,5 @@
 -- The traces of a key at the moments of a run: each goes on from the one before.
-use Rattle.std.proofs.Common.{◌≡◌, ℕ, List, [], ◌∷◌, ◌++◌, ◌≤◌, ◌∙◌, sym, refl, ap, subst, inl, inr, ⊎_elim, Ok}
+use Rattle.std.proofs.Common.{append_assoc, ◌≡◌, ℕ, List, [], ◌∷◌, ◌++◌, ◌≤◌, ◌∙◌, sym, refl, ap, subst, inl, inr, ⊎_elim, Ok}
 use Rattle.std.specs.Prelude.{⊤}
 use Rattle.hk_register.specs.Machine.{In, Mark, Update, Item, State}
 use Rattle.hk_register.specs.Facts.{Complete}
@@ -20,7 +20,7 @@ use Rattle.hk_effects.proofs.Legality.{own_agrees}
 use Rattle.hk_effects.proofs.Runs.{world_is}
 use Rattle.hk_effects.proofs.WorldKept.{next_kept}
 use Rattle.hk_safety.specs.Run.{RunState, AreAccepted, IsRun, trace_with, trace_from, trace_of}
-use Rattle.hk_joint.specs.Moment.{traces_after, traces}
+use Rattle.hk_safety.specs.Moment.{traces_after, traces}
 use Rattle.hk_joint.proofs.Served.{Above, Goes, effect_goes, effects_go, above_less}
 use Rattle.hk_joint.proofs.Earlier.{IsEarlier}
 
@@ -131,10 +131,6 @@ pub record IsMomentOf (key : List ℕ) (last t : Trace) : Type 0 where
   pub grows : (s : ℕ) → Complete (Views t) (view key t) s → Complete (Views last) (view key last) s
   pub begun : (u : Update) → In t.begun u → In last.begun u
 
-append_of : {X : Type 0} (a b c : List X) → (a ++ b) ++ c ≡ a ++ (b ++ c)
-append_of [] b c = refl
-append_of (x ∷ a) b c = ap (λ (l : List _). x ∷ l) (append_of a b c)
-
 itself_moment : (key : List ℕ) (t : Trace) → IsKept key t → IsMomentOf key t t
 itself_moment key t kept = record {
   kept = kept;
@@ -149,7 +145,7 @@ before_step key last t u kept step m = record {
   earlier = record {
     parts = kept_parts key t kept;
     newer = m.earlier.newer ++ step.items;
-    history = m.earlier.history ∙ ap (λ (l : List Item). m.earlier.newer ++ l) step.history ∙ sym (append_of m.earlier.newer step.items t.history);
+    history = m.earlier.history ∙ ap (λ (l : List Item). m.earlier.newer ++ l) step.history ∙ sym (append_assoc m.earlier.newer step.items t.history);
     later = λ i h.
         ⊎_elim
         (λ (k : In m.earlier.newer i). above_less (Views t) (Views u) (view key t) (view key u) step.grows i (m.earlier.later i k))

@@ -17,7 +17,8 @@ use Rattle.hk_register.proofs.Once.{place_within, one_place}
 use Rattle.hk_register.proofs.Folding.{stands_in}
 use Rattle.hk_register.proofs.Orders.{the_update}
 use Rattle.hk_register.proofs.Tests.{any_in, in_any}
-use Rattle.hk_joint.proofs.Complete.{complete_is, is_complete_from}
+use Rattle.hk_safety.proofs.Complete.{complete_is, is_complete_from}
+pub use Rattle.hk_safety.proofs.Replied.{RepliedBy, replied_is}
 use Rattle.hk_joint.proofs.Served.{Above}
 
 -- ---- the tests
@@ -65,36 +66,6 @@ look_replies (i ∷ items) x (inl e) =
     in_any (is_reply x.call) (events_of items ++ item_events i) reply
     (in_right (events_of items) (item_events i) reply (subst (λ (j : Item). In (item_events j) reply) e own)) (eq-eqb x.call x.call refl)
 
-item_replies : (i : Item) (c : ℕ) (line : Line) → In (item_events i) line → is_reply c line ≡ true → IsReply i × (call_of i ≡ c)
-item_replies (Called d s op) c line (inl e) r = absurd (false≢true (subst (λ (l : Line). is_reply c l ≡ true) e r))
-item_replies (Called d s op) c line (inr h) r = absurd h
-item_replies (Answered d s a) c line (inl e) r = (tt, eqb-true d c (subst (λ (l : Line). is_reply c l ≡ true) e r))
-item_replies (Answered d s a) c line (inr h) r = absurd h
-item_replies (Dropped d s a) c line (inl e) r = (tt, eqb-true d c (subst (λ (l : Line). is_reply c l ≡ true) e r))
-item_replies (Dropped d s a) c line (inr h) r = absurd h
-item_replies (Looked d s op held a) c line (inl e) r = absurd (false≢true (subst (λ (l : Line). is_reply c l ≡ true) e r))
-item_replies (Looked d s op held a) c line (inr (inl e)) r = (tt, eqb-true d c (subst (λ (l : Line). is_reply c l ≡ true) e r))
-item_replies (Looked d s op held a) c line (inr (inr h)) r = absurd h
-item_replies (Missed d op a) c line (inl e) r = absurd (false≢true (subst (λ (l : Line). is_reply c l ≡ true) e r))
-item_replies (Missed d op a) c line (inr (inl e)) r = (tt, eqb-true d c (subst (λ (l : Line). is_reply c l ≡ true) e r))
-item_replies (Missed d op a) c line (inr (inr h)) r = absurd h
-
-pub record RepliedBy (items : List Item) (c : ℕ) : Type 0 where
-  pub item : Item
-  pub there : In items item
-  pub reply : IsReply item
-  pub call : call_of item ≡ c
-
-pub replied_is : (items : List Item) (c : ℕ) → list_any (is_reply c) (events_of items) ≡ true → RepliedBy items c
-replied_is items c e = let t = any_in (is_reply c) (events_of items) e in by_items items t.0 t.1 t.2
-  where
-    by_items : (items : List Item) (line : Line) → In (events_of items) line → is_reply c line ≡ true → RepliedBy items c
-    by_items [] line h r = absurd h
-    by_items (i ∷ items) line h r = ⊎_elim
-        (λ (k : In (events_of items) line). let t = by_items items line k r in record { item = t.item; there = inr t.there; reply = t.reply; call = t.call })
-        (λ (k : In (item_events i) line). let t = item_replies i c line k r in record { item = i; there = inl refl; reply = t.0; call = t.1 })
-        (in_either (events_of items) (item_events i) line h)
-
 -- a call has one reply
 pub one_reply : (items : List Item) → OneReply items → (i j : Item) → In items i → In items j → IsReply i → IsReply j → call_of i ≡ call_of j → i ≡ j
 one_reply [] one i j h k ri rj same = absurd h
@@ -104,7 +75,7 @@ one_reply (x ∷ items) one i j (inl e) (inr k) ri rj same = absurd (one.0 (subs
 one_reply (x ∷ items) one i j (inr h) (inl d) ri rj same = absurd (one.0 (subst IsReply d rj) i h ri (same ∙ ap call_of d))
 
 -- ---- places
-at_place : (items : List Item) (i : Item) → In items i → (k : ℕ) × StandsAt items k i
+pub at_place : (items : List Item) (i : Item) → In items i → (k : ℕ) × StandsAt items k i
 at_place [] i h = absurd h
 at_place (x ∷ items) i (inl e) = (length items + 1, inl (e, refl))
 at_place (x ∷ items) i (inr h) = let t = at_place items i h in (t.0, inr t.1)

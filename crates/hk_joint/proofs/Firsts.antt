@@ -10,8 +10,9 @@ use Rattle.hk_effects.specs.View.{Trace, view}
 use Rattle.hk_effects.specs.Orders.{family}
 use Rattle.hk_effects.specs.Runs.{start_trace}
 use Rattle.hk_safety.specs.Run.{RunState, trace_with, trace_from, trace_of}
-use Rattle.hk_joint.specs.Moment.{traces_after, traces, is_reached, moment, up_to, IsReached, MomentsAreFirst}
-use Rattle.hk_joint.proofs.Lists.{found_within}
+use Rattle.hk_safety.specs.Moment.{traces_after, traces, is_reached, moment, up_to, IsReached, MomentsAreFirst}
+use Rattle.hk_safety.proofs.Places.{found_within}
+pub use Rattle.hk_safety.proofs.Events.{traces_len}
 use Rattle.hk_joint.proofs.Earlier.{reached_with, reached_is}
 use Rattle.hk_joint.proofs.Chain.{last_of, last_is}
 
@@ -21,10 +22,6 @@ at_moment key t [] zero d l = refl
 at_moment key t (x ∷ xs) zero d l = refl
 at_moment key t [] (suc m) d l = absurd (omega (arith, l))
 at_moment key t (x ∷ xs) (suc m) d l = at_moment key (trace_with key t x (world_step t.world x)) xs m d (omega (arith, l))
-
-pub traces_len : (key : List ℕ) (t : Trace) (events : List Event) → length (traces_after key t events) ≡ length events
-traces_len key t [] = refl
-traces_len key t (x ∷ xs) = let more = traces_len key (trace_with key t x (world_step t.world x)) xs in omega (arith, more)
 
 last_in : (t : Trace) (ts : List Trace) → In (t ∷ ts) (last_of t ts)
 last_in t [] = inl refl

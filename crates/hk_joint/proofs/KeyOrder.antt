@@ -17,9 +17,10 @@ use Rattle.hk_effects.specs.Runs.{IsKept, RunsKeepParts}
 use Rattle.hk_effects.proofs.Order.{same_of, same_not, cases_key}
 use Rattle.hk_safety.specs.Run.{RunState, IsRun, trace_of, printed, named}
 use Rattle.hk_safety.proofs.Traces.{run_kept}
-use Rattle.hk_joint.specs.Moment.{traces, is_reached, moment, replied_at}
+use Rattle.hk_safety.specs.Moment.{traces, is_reached, moment, replied_at}
 use Rattle.hk_joint.specs.Joint.{Standing, slots, event_of, standing, standings, standings_at, moments, joint_order, entries_of, entries_at, KeysKeepTheirOrder}
-use Rattle.hk_joint.proofs.Lists.{of_map, of_filter, flat_same, filter_flat, filter_all, filter_none, no_later, Rising, gathered}
+use Rattle.hk_safety.proofs.Places.{no_later}
+use Rattle.hk_joint.proofs.Lists.{of_map, of_filter, flat_same, filter_flat, filter_all, filter_none, Rising, gathered}
 use Rattle.hk_joint.proofs.Earlier.{look_of, look_replies, reached_with, change_change, change_look, look_change, look_look}
 use Rattle.hk_joint.proofs.Chain.{Views, kept_parts, IsMomentOf, moments_of_run}
 use Rattle.hk_joint.proofs.Firsts.{first_within}

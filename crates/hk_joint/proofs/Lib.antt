@@ -1,5 +1,4 @@
 pub mod Lists
-pub mod Complete
 pub mod Served
 pub mod Earlier
 pub mod Chain
@@ -17,4 +16,4 @@ pub mod Together
 pub mod Legality
 pub mod OneByOne
 pub mod ByEvent
-pub mod Completions
+pub mod Standings

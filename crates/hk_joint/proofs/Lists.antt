@@ -1,4 +1,4 @@
--- Lists whose elements stand by their events, and first places in lists.
+-- Lists whose elements stand by their events.
 use Rattle.std.proofs.Common.{◌≡◌, ◌⊎◌, ℕ, zero, suc, Bool, true, false, cond, ◌+◌, ◌||◌, not, List, [], ◌∷◌, ◌++◌, map, length, ◌<◌, ◌≤◌, ◌∙◌, sym, refl, ap, ap₂, subst, inl, inr, ⊎_elim, arith, eqb}
 use Rattle.std.specs.Prelude.{⊤}
 use Rattle.std.specs.List.{filter, flat_map, list_any, position_or_len, range_with_len}
@@ -70,27 +70,6 @@ filter_all {X} p (x ∷ xs) all = rw (all x (inl refl)) (ap (λ (l : List X). x 
 pub filter_none : {X : Type 0} (p : X → Bool) (xs : List X) → ((x : X) → In xs x → p x ≡ false) → filter p xs ≡ []
 filter_none p [] none = refl
 filter_none p (x ∷ xs) none = rw (none x (inl refl)) (filter_none p xs (λ y h. none y (inr h)))
-
--- ---- first places
--- what passes no later than another test
-pub no_later : {X : Type 0} (p q : X → Bool) (xs : List X) → ((x : X) → In xs x → q x ≡ true → p x ≡ true) → position_or_len p xs ≤ position_or_len q xs
-no_later p q [] more = omega arith
-no_later p q (x ∷ xs) more = by_tests (p x) refl (q x) refl (no_later p q xs (λ y h. more y (inr h)))
-  where
-    by_tests : (b : Bool) → p x ≡ b → (c : Bool) → q x ≡ c → position_or_len p xs ≤ position_or_len q xs →
-        cond (not b) (1 + position_or_len p xs) 0 ≤ cond (not c) (1 + position_or_len q xs) 0
-    by_tests true e c f up = omega arith
-    by_tests false e true f up = absurd (false≢true (sym e ∙ more x (inl refl) f))
-    by_tests false e false f up = omega (arith, up)
-
-pub found_within : {X : Type 0} (p : X → Bool) (xs : List X) (x : X) → In xs x → p x ≡ true → position_or_len p xs < length xs
-found_within p [] x h e = absurd h
-found_within {X} p (y ∷ xs) x h e = by_test (p y) refl h (found_within p xs x)
-  where
-    by_test : (b : Bool) → p y ≡ b → In (y ∷ xs) x → (In xs x → p x ≡ true → position_or_len p xs < length xs) → cond (not b) (1 + position_or_len p xs) 0 < length (y ∷ xs)
-    by_test true t h more = omega arith
-    by_test false t (inl is) more = absurd (false≢true (sym t ∙ subst (λ (z : X). p z ≡ true) is e))
-    by_test false t (inr h) more = let up = more h e in omega (arith, up)
 
 -- ---- elements that stand by their events
 module _ {X : Type 0} (event : X → ℕ) where

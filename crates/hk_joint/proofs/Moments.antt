@@ -18,7 +18,7 @@ use Rattle.hk_register.proofs.Folding.{unlike, stands_in}
 use Rattle.hk_register.proofs.Histories.{answer_is}
 use Rattle.hk_register.proofs.Once.{own_slot, look_slot, answered_not_void}
 use Rattle.hk_register.proofs.Tests.{any_in, in_any}
-use Rattle.hk_joint.proofs.Earlier.{reached, replied, look_of, replied_is, reached_is, reached_by, IsEarlier, there_or_later, in_last, look_there}
+use Rattle.hk_joint.proofs.Earlier.{reached, replied, look_of, replied_is, reached_is, reached_by, IsEarlier, there_or_later, in_last, look_there, at_place}
 use Rattle.hk_joint.proofs.Served.{Above}
 
 -- an item that begins a call stands for the call's line
@@ -35,11 +35,6 @@ called_there items c s op h = begins_call items (Called c s op) c (L.Call (recor
 
 pub looked_there : (items : List Item) (x : Slot) → In items (look_of x) → list_any (is_call x.call) (events_of items) ≡ true
 looked_there items x h = begins_call items (look_of x) x.call (L.Call (record { 0 = x.call }) x.op) h (inl refl) (eq-eqb x.call x.call refl)
-
-at_place : (items : List Item) (i : Item) → In items i → (k : ℕ) × StandsAt items k i
-at_place [] i h = absurd h
-at_place (x ∷ items) i (inl e) = (length items + 1, inl (e, refl))
-at_place (x ∷ items) i (inr h) = let t = at_place items i h in (t.0, inr t.1)
 
 module _ (U V : ℕ → List ℕ) (x last : State) (parts : Parts V last) (calls : CallParts last) (is : IsEarlier U x last) (grows : (s : ℕ) → Complete U x s → Complete V last s)
     (slots : List Slot) (printed : IsPrinted V last slots) where

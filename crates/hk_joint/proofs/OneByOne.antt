@@ -1,22 +1,15 @@
 -- Batches are found one by one.
-use Rattle.std.proofs.Common.{◌≡◌, Bool, true, false, cond, List, [], ◌∷◌, ◌++◌, map, ◌∙◌, sym, refl, ap, Option, Some, None}
+use Rattle.std.proofs.Common.{append_assoc, ◌≡◌, Bool, true, false, cond, List, [], ◌∷◌, ◌++◌, map, ◌∙◌, sym, refl, ap, Option, Some, None}
+use Rattle.std.proofs.lemmas.List.{map-append}
 use Rattle.hk_base.specs.declared.call.CallNo.{CallNo}
 use Rattle.hk_world.specs.Start.{start}
 use Rattle.hk_joint.specs.declared.batch.Reading.{Reading}
 use Rattle.hk_joint.specs.Batch.{readings_from, goes_on, closed, batches_from, calls_of, BatchingState, no_batch, ended, noted, noted_all, BatchesAreFound}
 
-append_of : {X : Type 0} (a b c : List X) → (a ++ b) ++ c ≡ a ++ (b ++ c)
-append_of [] b c = refl
-append_of (x ∷ a) b c = ap (λ (l : List _). x ∷ l) (append_of a b c)
-
-map_both : {X Y : Type 0} (f : X → Y) (xs ys : List X) → map f (xs ++ ys) ≡ map f xs ++ map f ys
-map_both f [] ys = refl
-map_both f (x ∷ xs) ys = ap (λ (l : List _). f x ∷ l) (map_both f xs ys)
-
 closes : (s : BatchingState) (rest : List (List Reading)) → ended s ++ map calls_of rest ≡ s.made ++ map calls_of (closed s.open_batch ++ rest)
 closes s rest =
-    append_of s.made (map calls_of (closed s.open_batch)) (map calls_of rest)
-    ∙ ap (λ (l : List (List CallNo)). s.made ++ l) (sym (map_both calls_of (closed s.open_batch) rest))
+    append_assoc s.made (map calls_of (closed s.open_batch)) (map calls_of rest)
+    ∙ ap (λ (l : List (List CallNo)). s.made ++ l) (sym (map-append calls_of (closed s.open_batch) rest))
 
 found_from : (rest : List (Option Reading)) (s : BatchingState) → ended (noted_all s rest) ≡ s.made ++ map calls_of (batches_from s.open_batch rest)
 found_from [] s = refl

@@ -44,7 +44,7 @@ use Rattle.hk_effects.proofs.Worlds.{the_some}
 use Rattle.hk_effects.proofs.WorldKept.{calls_after}
 use Rattle.hk_safety.proofs.Acting.{next_call, IsStep, IsMadeBy, is_made_by}
 use Rattle.hk_safety.proofs.Making.{found}
-use Rattle.hk_joint.specs.Moment.{is_reached}
+use Rattle.hk_safety.specs.Moment.{is_reached}
 use Rattle.hk_joint.specs.Batch.{is_told}
 use Rattle.hk_joint.proofs.Chain.{Views, kept_parts}
 use Rattle.hk_joint.proofs.Earlier.{reached_is, reached_by}

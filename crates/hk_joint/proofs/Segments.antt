@@ -1,5 +1,5 @@
 -- A batch is of Reads of events that follow each other.
-use Rattle.std.proofs.Common.{◌≡◌, ℕ, zero, suc, Bool, true, false, cond, ◌+◌, List, [], ◌∷◌, ◌++◌, map, length, take, get_or, ◌<◌, ◌≤◌, ◌∙◌, sym, refl, ap, subst, inl, inr, ⊎_elim, arith, Option, Some, None, Result, Ok, Err, is_some}
+use Rattle.std.proofs.Common.{append_assoc, ◌≡◌, ℕ, zero, suc, Bool, true, false, cond, ◌+◌, List, [], ◌∷◌, ◌++◌, map, length, take, get_or, ◌<◌, ◌≤◌, ◌∙◌, sym, refl, ap, subst, inl, inr, ⊎_elim, arith, Option, Some, None, Result, Ok, Err, is_some}
 use Rattle.std.specs.Prelude.{nat_lt}
 use Rattle.std.proofs.lemmas.Bool.{false≢true}
 use Rattle.std.proofs.lemmas.List.{get_or_append_left, get_or-append-add}
@@ -15,10 +15,6 @@ use Rattle.hk_world.specs.Steps.{Accepted, world_step}
 use Rattle.hk_safety.specs.Run.{world_with, world_from}
 use Rattle.hk_joint.specs.declared.batch.Reading.{Reading}
 use Rattle.hk_joint.specs.Batch.{reading_by, reading_at, readings_from, goes_on, closed, batches_from}
-
-append_of : {X : Type 0} (a b c : List X) → (a ++ b) ++ c ≡ a ++ (b ++ c)
-append_of [] b c = refl
-append_of (x ∷ a) b c = ap (λ (l : List _). x ∷ l) (append_of a b c)
 
 pub record IsSegment (all : List (Option Reading)) (batch : List Reading) : Type 0 where
   pub before : List (Option Reading)
@@ -40,7 +36,7 @@ behind : (front rest : List (Option Reading)) (b : List Reading) → IsSegment r
 behind front rest b s = record {
   before = front ++ s.before;
   after = s.after;
-  is = ap (λ (l : List (Option Reading)). front ++ l) s.is ∙ sym (append_of front s.before (map Some b ++ s.after));
+  is = ap (λ (l : List (Option Reading)). front ++ l) s.is ∙ sym (append_assoc front s.before (map Some b ++ s.after));
 }
 
 one_more : (batch : List Reading) (r : Reading) (rest : List (Option Reading)) → map Some (batch ++ r ∷ []) ++ rest ≡ map Some batch ++ Some r ∷ rest

@@ -1,5 +1,5 @@
 -- What is complete when a call is served: a change is begun above it all, and a call that changes nothing finds no less.
-use Rattle.std.proofs.Common.{◌≡◌, ℕ, List, [], ◌∷◌, ◌++◌, ◌<◌, ◌≤◌, ◌∙◌, sym, refl, ap, subst, inl, inr, ⊎_elim, arith, Some, None}
+use Rattle.std.proofs.Common.{append_assoc, ◌≡◌, ℕ, List, [], ◌∷◌, ◌++◌, ◌<◌, ◌≤◌, ◌∙◌, sym, refl, ap, subst, inl, inr, ⊎_elim, arith, Some, None}
 use Rattle.std.specs.Prelude.{⊤}
 use Rattle.hk_base.specs.declared.call.Answer.{Answer}
 use Rattle.hk_base.specs.declared.call.Reply.{Reply}
@@ -20,10 +20,6 @@ use Rattle.hk_register.proofs.Runs.{effect_kept}
 next_above : (kind : Kind) (b n : ℕ) → b < next_stamp kind b n
 next_above Plain b n = omega arith
 next_above Rmw b n = omega arith
-
-append_of : {X : Type 0} (a b c : List X) → (a ++ b) ++ c ≡ a ++ (b ++ c)
-append_of [] b c = refl
-append_of (x ∷ a) b c = ap (λ (l : List _). x ∷ l) (append_of a b c)
 
 -- what is complete stays complete where marks do
 pub complete_marks : (V : ℕ → List ℕ) (old new : State) → ((k : Mark) → Marked old k → Marked new k) → (s : ℕ) → Complete V old s → Complete V new s
@@ -126,7 +122,7 @@ module _ (V : ℕ → List ℕ) where
   pub both_go : (old mid new : State) → Goes old mid → Goes mid new → Goes old new
   both_go old mid new f g = record {
     items = g.items ++ f.items;
-    history = g.history ∙ ap (λ (is : List Item). g.items ++ is) f.history ∙ sym (append_of g.items f.items old.history);
+    history = g.history ∙ ap (λ (is : List Item). g.items ++ is) f.history ∙ sym (append_assoc g.items f.items old.history);
     grows = λ s c. g.grows s (f.grows s c);
     begun = λ u h. g.begun u (f.begun u h);
     above = λ i h.

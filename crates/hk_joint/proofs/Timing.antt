@@ -23,7 +23,7 @@ use Rattle.hk_safety.specs.Run.{RunState, AreAccepted, IsRun, trace_of, history,
 use Rattle.hk_safety.specs.Kept.{called_from}
 use Rattle.hk_safety.proofs.Named.{called_append}
 use Rattle.hk_safety.proofs.Traces.{run_kept}
-use Rattle.hk_joint.specs.Moment.{traces, is_reached, moment, replied_at, up_to}
+use Rattle.hk_safety.specs.Moment.{traces, is_reached, moment, replied_at, up_to}
 use Rattle.hk_joint.specs.Joint.{Standing, slots, event_of, standing, standings, standings_at, moments, joint_order, entries_of}
 use Rattle.hk_joint.specs.Legal.{joint_history}
 use Rattle.hk_joint.proofs.AllKeys.{call_no, is_on, IsOn, on_line, history_on, same_answer}

@@ -30,7 +30,7 @@ use Rattle.hk_effects.specs.Runs.{IsKept, RunsKeepParts}
 use Rattle.hk_safety.specs.Run.{RunState, world_of, IsRun, trace_of, history, printed}
 use Rattle.hk_safety.specs.Kept.{called_from}
 use Rattle.hk_safety.proofs.Traces.{run_kept, step_at, trace_then}
-use Rattle.hk_joint.specs.Moment.{is_reached, moment, replied_at, up_to}
+use Rattle.hk_safety.specs.Moment.{is_reached, moment, replied_at, up_to}
 use Rattle.hk_joint.specs.Joint.{Standing, slots, event_of, joint_order, entries_at}
 use Rattle.hk_joint.specs.declared.batch.Reading.{Reading}
 use Rattle.hk_joint.specs.Batch.{is_told, reading_by, readings_from, batches}

@@ -7,7 +7,7 @@ use Rattle.hk_register.specs.Printed as register
 use Rattle.hk_effects.specs.View.{view, is_same_key}
 use Rattle.hk_effects.specs.Orders.{family}
 use Rattle.hk_safety.specs.Run.{RunState, IsRun, trace_of, printed, named}
-use Rattle.hk_joint.specs.Moment.{moment, replied_at}
+use Rattle.hk_safety.specs.Moment.{moment, replied_at}
 
 -- a slot of a key's printed order, and the event at which it stands
 pub record Standing : Type 0 where

@@ -1,4 +1,3 @@
-pub mod Moment
 pub mod Joint
 pub mod Placing
 pub mod Batch

@@ -4,7 +4,7 @@ use Rattle.std.specs.List.{filter, flat_map, range_with_len}
 use Rattle.hk_register.specs.Machine.{In}
 use Rattle.hk_register.specs.Printed.{entry_of}
 use Rattle.hk_safety.specs.Run.{RunState, IsRun, named}
-use Rattle.hk_joint.specs.declared.placing.Placed.{Placed}
+use Rattle.hk_safety.specs.declared.placed.Placed.{Placed}
 use Rattle.hk_joint.specs.Joint.{Standing, standings, joint_order, entries_of}
 
 -- by events below n, those of one event in the order that they had

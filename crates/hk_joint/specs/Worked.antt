@@ -7,7 +7,7 @@ use Rattle.hk_world.specs.declared.event.Event.{Event}
 use Rattle.hk_world.specs.declared.event.Event.TheVariants.{Call}
 use Rattle.hk_world.specs.Worked.{group, node, take}
 use Rattle.hk_safety.specs.Run.{RunState}
-use Rattle.hk_joint.specs.Moment.{moment}
+use Rattle.hk_safety.specs.Moment.{moment}
 use Rattle.hk_joint.specs.Joint.{joint_order, entries_of}
 use Rattle.hk_joint.specs.Batch.{calls_of, batches}
 

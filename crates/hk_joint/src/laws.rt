@@ -1,6 +1,6 @@
 //! What holds of every run.
 
-ghost use Rattle.hk_joint.specs.Moment.{MomentsAreFirst, MomentsFollowCompletions};
+ghost use Rattle.hk_safety.specs.Moment.{MomentsAreFirst, MomentsFollowCompletions};
 ghost use Rattle.hk_joint.specs.Joint.{KeysKeepTheirOrder};
 ghost use Rattle.hk_joint.specs.Placing.{PlacedAreJoint};
 ghost use Rattle.hk_joint.specs.Batch.{BatchesAreFound};

@@ -4,14 +4,7 @@ ghost use Rattle.std.specs.Prelude.{OnOk};
 ghost use Rattle.hk_joint.specs.Placing.{IsByEvent};
 
 use hk_base::Memory;
-use hk_history::Entry;
-
-/// An entry of an order, and the event at which it stands.
-#[derive(Clone, Copy, Debug, PartialEq, Eq)]
-pub struct Placed {
-    pub event: u64,
-    pub entry: Entry,
-}
+use hk_safety::Placed;
 
 /// Brings the entries into the order of their events. Those of one event stay in the order that they have.
 pub fn sort_by_event(placed: &mut Vec<Placed>) -> Result<(), Memory>

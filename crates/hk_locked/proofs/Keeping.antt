@@ -1,8 +1,8 @@
 -- What stands under a shard's lock is kept by each step.
-use Rattle.std.proofs.Common.{◌≡◌, ◌≢◌, ◌⊎◌, inl, inr, ⊎_elim, ℕ, ◌<◌, List, [], ◌∷◌, ◌++◌, map, drop, slice_index_or, Bool, true, false, Option, Some, None, refl, sym, ap, ◌∙◌, subst}
+use Rattle.std.proofs.Common.{◌≡◌, ◌≢◌, ◌⊎◌, inl, inr, ⊎_elim, ℕ, ◌<◌, List, [], ◌∷◌, ◌++◌, map, drop, slice_index_or, Bool, true, false, is_some, if◌then◌else◌, Option, Some, None, refl, sym, ap, ◌∙◌, subst}
 use Rattle.std.proofs.lemmas.Bool.{false≢true}
 use Rattle.std.specs.BTreeMap.{is_at}
-use Rattle.std.specs.Option.{option_or}
+use Rattle.std.specs.Option.{option_or, IfSome}
 use Rattle.hk_base.specs.declared.stamp.NodeId.{NodeId}
 use Rattle.hk_base.specs.declared.call.CallNo.{CallNo}
 use Rattle.hk_base.specs.declared.call.Op.{Op}
@@ -33,7 +33,7 @@ use Rattle.hk_node.proofs.Ranged.{letters_in_range}
 use Rattle.hk_told.specs.declared.ask.Ask.{Ask}
 use Rattle.hk_told.specs.Lists.{last_row}
 use Rattle.hk_told.specs.Held.{Asks, IsHeld, Delivers, heard, Grow, Show, AreFewer, IsNewAsk, IsWith}
-use Rattle.hk_told.specs.Kept.{asks_in, AreOthersSame}
+use Rattle.hk_told.specs.Kept.{asks_in, given_up, unwanted_ask, AreOthersSame}
 use Rattle.hk_told.proofs.Apart.{fewer_itself}
 use Rattle.hk_told.proofs.Calling.{steps_keep_asks, calls_keep_asks}
 use Rattle.hk_told.proofs.Holding.{drops_keep_asks, none_are_held, cases_call}
@@ -45,7 +45,7 @@ use Rattle.hk_told.proofs.Telling.{calls_begin_in_lists}
 use Rattle.hk_locked.specs.Places.{NodeNames, node_names, shard_names}
 use Rattle.hk_told.specs.Shown.{BeginsIn}
 use Rattle.hk_locked.specs.Locked.{lists_in, LockedState, IsLocked}
-use Rattle.hk_locked.specs.Steps.{AreOneOrNone, HasCalled, Begins, replies_with}
+use Rattle.hk_locked.specs.Steps.{GivesUp, IsLeft, AreOneOrNone, HasCalled, Begins, replies_with}
 
 -- ---- a shard's lists show its rows
 same_last : (key : List ℕ) (list : List Publication) (row : Option Row) → last_row key list row ≡ last_shown_row key list row
@@ -235,3 +235,16 @@ module _ (places : List NodeNames) (node : NodeId) (number skew : ℕ) where
     part = part;
     held = none_are_held s.part.rows (lists_in s.ends) s.last (asks_in asks) (λ key. rw no_rows refl) (λ call. rw none refl);
   }
+
+-- ---- an ask that is given up
+left_of : (o : Option Ask) → IfSome (given_up o) (λ ask. ask.wanted ≡ false)
+left_of None = tt
+left_of (Some ask) = by ask.told
+  where
+    by : (told : Option Answer) → IfSome (if is_some told then None else Some (unwanted_ask ask)) (λ ask. ask.wanted ≡ false)
+    by None = refl
+    by (Some answer) = tt
+
+-- nobody waits for what its call is told
+pub given_up_is_left : (call : CallNo) (old new : LockedState) → GivesUp call old new → IsLeft call new
+given_up_is_left call old new g = subst (λ (o : Option Ask). IfSome o (λ ask. ask.wanted ≡ false)) (sym g.left) (left_of (asks_in old.asks call))

@@ -1,6 +1,8 @@
 -- What readers see under a shard's lock.
-use Rattle.std.proofs.Common.{◌≡◌, ◌≢◌, ◌⊎◌, inl, inr, ℕ, ◌+◌, ◌<◌, ◌≤◌, List, [], ◌∷◌, length, Option, Some, None, refl, sym, ap, ◌∙◌, subst, arith, le_refl, slice_index_or, slice_set}
-use Rattle.std.specs.Option.{IsSomeAnd}
+use Rattle.std.proofs.Common.{◌≡◌, ◌≢◌, ◌⊎◌, inl, inr, ℕ, ◌+◌, ◌/◌, ◌<◌, ◌≤◌, List, [], ◌∷◌, length, sum, Option, Some, None, Result, Ok, Err, refl, sym, ap, ◌∙◌, subst, arith, le_refl, slice_index_or, slice_set}
+use Rattle.std.specs.Prelude.{IfOk}
+use Rattle.std.specs.Option.{IsSomeAnd, IfSome}
+use Rattle.std.proofs.lemmas.Nat.{mod_below}
 use Rattle.std.proofs.lemmas.List.{get_or-set_same, get_or-set_other}
 use Rattle.std.proofs.Math.Seq.{map-set_same}
 use mathlib.Core.List.{IsPrefix}
@@ -11,7 +13,9 @@ use Rattle.hk_base.specs.declared.call.Reply.{Reply}
 use Rattle.hk_node.specs.Calls.{lease_end}
 use Rattle.hk_outside.specs.declared.desk.DeskReply.TheVariants.{Told as TellsTold, Unknown as TellsNothing}
 use Rattle.hk_snap.specs.declared.rule.Publication.{Publication}
-use Rattle.hk_snap.specs.Snapshots.{cell_of}
+use Rattle.hk_snap.specs.declared.local.Local.{Local}
+use Rattle.hk_snap.specs.Locals.{local_of}
+use Rattle.hk_snap.specs.Snapshots.{cell_of, last_shown}
 use Rattle.hk_snap.specs.Ends.{End, Reader, at, names, seen_at, looked, Loads, writing_end, no_name}
 use Rattle.hk_snap.specs.Leases.{Lease, Looks as LooksAtLease}
 use Rattle.hk_snap.proofs.Lists.{same_long}
@@ -26,7 +30,7 @@ use Rattle.hk_told.specs.Shown.{BeginsIn, Starts, Looks, LooksAt, LooksOn}
 use Rattle.hk_told.proofs.Telling.{asks_are_shown, looks_are_joined, at_once_is_shown, after_looks_is_shown, unknown_is_shown}
 use Rattle.hk_locked.specs.Places.{NodeNames, node_names, shard_names}
 use Rattle.hk_locked.specs.Locked.{lists_in, LockedState, IsLocked, ReaderState, IsReader}
-use Rattle.hk_locked.specs.Steps.{end_at, IsSameBut, IsLaterLease, IsGrown, Meets, MeetsLease, Begins, replies_with, StartsAt, LooksOnce, LooksFor}
+use Rattle.hk_locked.specs.Steps.{end_at, IsSameBut, IsLaterLease, IsGrown, Meets, MeetsLease, Reads, Begins, replies_with, StartsAt, LooksOnce, LooksFor}
 
 -- ---- the reader stays the same one
 pub same_itself : (key : List ℕ) (r : ReaderState) → IsSameBut key r r
@@ -213,3 +217,55 @@ met_inside places s now r old key cell cells same_shard same_reader locked reads
     subst (λ (x : LockedState). Meets x key old (record { node = r.node; number = r.number; skew = r.skew; cells = cells; lease = r.lease })) same_shard
     (subst (λ (x : ReaderState). Meets s key x (record { node = r.node; number = r.number; skew = r.skew; cells = cells; lease = r.lease })) same_reader
     (met s key cell r cells one.skew is below (same_long r.cells.ends s.shard.ends one.cells ∙ long) looks loads))
+
+-- ---- a read without the lock
+module _ (key : List ℕ) (r old : ReaderState) (cells : Reader) (lease : Lease) (same_reader : r ≡ old) (long : length r.cells.ends ≡ 32) (loads : Loads r.cells (cell_of key) cells) (looks : LooksAtLease r.lease lease) where
+  abbrev after : ReaderState
+  after = record { node = r.node; number = r.number; skew = r.skew; cells = cells; lease = lease }
+
+  below : cell_of key < length r.cells.ends
+  below = let short = mod_below (sum key / 8) 32 (omega arith) in omega (arith, short, long)
+
+  here : at cells.ends (cell_of key) ≡ record { name = (at r.cells.ends (cell_of key)).name; seen = loads.0; loads = (at r.cells.ends (cell_of key)).loads + 1 }
+  here = ap (λ (c : Reader). at c.ends (cell_of key)) loads.2 ∙ get_or-set_same r.cells.ends (cell_of key) _ (writing_end no_name []) below
+
+  same_but : IsSameBut key r after
+  same_but = record {
+    node = refl;
+    number = refl;
+    skew = refl;
+    others = λ other apart. ap (λ (c : Reader). at c.ends other) loads.2 ∙ get_or-set_other r.cells.ends (cell_of key) other _ (writing_end no_name []) apart;
+  }
+
+  seen_more : IsPrefix (end_at key r).seen (end_at key after).seen
+  seen_more = subst (IsPrefix (end_at key r).seen) (sym (ap (λ (e : End). e.seen) here)) loads.1
+
+  once_more : (end_at key after).loads ≡ (end_at key r).loads + 1
+  once_more = ap (λ (e : End). e.loads) here
+
+  shows_last : cells.shown ≡ last_shown (end_at key after).seen
+  shows_last = ap (λ (c : Reader). c.shown) loads.2 ∙ ap last_shown (sym (ap (λ (e : End). e.seen) here))
+
+  pub grown_freely : IsGrown key old after
+  grown_freely = subst (λ (o : ReaderState). IsGrown key o after) same_reader (record {
+    same = same_but;
+    seen = seen_more;
+    loads = let e = once_more in omega (arith, e);
+    lease = lease_looked r.lease lease looks;
+  })
+
+  pub reads_freely : {E : Type 0} (reading : Option ℕ) (result : Result Local E)
+      → IfOk result (λ l. (now : ℕ) × IfSome reading (λ time. now ≡ time) × (l ≡ local_of cells.shown key lease.end now r.skew))
+      → IfOk result (λ l. (now : ℕ) × IfSome reading (λ time. now ≡ time) × Reads key now old after l)
+  reads_freely reading (Ok l) told = (
+    told.0,
+    told.1,
+    subst (λ (o : ReaderState). Reads key told.0 o after l) same_reader (record {
+      same = same_but;
+      seen = seen_more;
+      loads = once_more;
+      lease = looks;
+      told_by = told.2 ∙ ap (λ s. local_of s key lease.end told.0 r.skew) shows_last;
+    }),
+  )
+  reads_freely reading (Err e) told = tt

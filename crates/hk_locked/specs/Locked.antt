@@ -1,5 +1,5 @@
 -- What contracts see of a shard under its lock and of a reader of it, and what each keeps.
-use Rattle.std.specs.Prelude.{◌≡◌, ℕ, List}
+use Rattle.std.specs.Prelude.{◌≡◌, ℕ, List, length}
 use Rattle.hk_base.specs.declared.stamp.NodeId.{NodeId}
 use Rattle.hk_base.specs.declared.call.CallNo.{CallNo}
 use Rattle.hk_snap.specs.Snapshots.{cell_of}
@@ -39,8 +39,9 @@ pub record ReaderState : Type 0 where
   pub cells : Reader
   pub lease : Lease
 
--- its cells and its skew are those that the list of names has for the shard
+-- Its 32 cells and its skew are those that the list of names has for the shard.
 pub record IsReader (places : List NodeNames) (r : ReaderState) : Type 0 where
   pub cells : names r.cells.ends ≡ (shard_names places r.node r.number).cells
+  pub long : length r.cells.ends ≡ 32
   pub lease : r.lease.name ≡ (shard_names places r.node r.number).lease
   pub skew : r.skew ≡ (node_names places r.node).skew

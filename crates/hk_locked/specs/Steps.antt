@@ -1,5 +1,6 @@
 -- What a reader has seen after the calls that are made with it under a shard's lock.
-use Rattle.std.specs.Prelude.{◌≡◌, ◌≢◌, ◌⊎◌, ⊤, ℕ, ◌+◌, ◌<◌, ◌≤◌, List, [], ◌∷◌, length, Option, Some, None}
+use Rattle.std.specs.Prelude.{◌≡◌, ◌≢◌, ◌⊎◌, ⊤, ℕ, ◌+◌, ◌<◌, ◌≤◌, false, List, [], ◌∷◌, length, Option, Some, None}
+use Rattle.std.specs.Option.{IfSome}
 use Rattle.atomic_table.specs.Seated.{TableId}
 use mathlib.Core.List.{IsPrefix}
 use Rattle.hk_base.specs.declared.call.CallNo.{CallNo}
@@ -7,7 +8,9 @@ use Rattle.hk_base.specs.declared.call.Op.{Op}
 use Rattle.hk_base.specs.declared.call.Answer.{Answer}
 use Rattle.hk_base.specs.declared.call.Reply.{Reply}
 use Rattle.hk_node.specs.Calls.{lease_end}
-use Rattle.hk_snap.specs.Snapshots.{cell_of}
+use Rattle.hk_snap.specs.declared.local.Local.{Local}
+use Rattle.hk_snap.specs.Locals.{local_of}
+use Rattle.hk_snap.specs.Snapshots.{cell_of, last_shown}
 use Rattle.hk_snap.specs.Ends.{End, at, seen_at}
 use Rattle.hk_snap.specs.Leases.{Lease, Looks as LooksAtLease}
 use Rattle.hk_node.specs.declared.event.NodeEvent.TheVariants.{Call}
@@ -19,6 +22,7 @@ use Rattle.hk_told.specs.declared.asks.Look.{Look}
 use Rattle.hk_told.specs.declared.asks.Look.TheVariants.{Gone, Waits, Told}
 use Rattle.hk_told.specs.declared.ask.Ask.{Ask}
 use Rattle.hk_told.specs.Held.{Asks, IsNewAsk, IsWith}
+use Rattle.hk_told.specs.Kept.{asks_in, given_up, AreOthersSame}
 use Rattle.hk_told.specs.Shown.{BeginsIn, Starts, Looks}
 use Rattle.hk_locked.specs.Locked.{LockedState, ReaderState, lists_in}
 
@@ -75,6 +79,14 @@ pub record Ticks (now : ℕ) (old new : ReaderState) : Type 0 where
   pub looked : LooksAtLease old.lease new.lease
   pub clock : now ≤ new.lease.now
 
+-- A read of the key without the lock, by one load of its cell and one of the lease, at a reading of the clock: it is told by what was seen.
+pub record Reads (key : List ℕ) (now : ℕ) (old new : ReaderState) (told : Local) : Type 0 where
+  pub same : IsSameBut key old new
+  pub seen : IsPrefix (end_at key old).seen (end_at key new).seen
+  pub loads : (end_at key new).loads ≡ (end_at key old).loads + 1
+  pub lease : LooksAtLease old.lease new.lease
+  pub told_by : told ≡ local_of (last_shown (end_at key new).seen) key new.lease.end now new.skew
+
 -- The journal is handed out, and begins anew, where it has so many entries at least; else nothing is.
 abbrev pub Trims : ℕ → LockedState → LockedState → Option (List JournalEntry) → Type 0
 Trims entries old new None = (length old.shard.journal < entries) × (new ≡ old)
@@ -120,3 +132,20 @@ abbrev pub LooksFor : List ℕ → ℕ → ReaderState → ReaderState → Look 
 LooksFor key ticket old new Gone = ⊤
 LooksFor key ticket old new Waits = LooksOnce key ticket old new None
 LooksFor key ticket old new (Told answer) = LooksOnce key ticket old new (Some answer)
+
+-- no ask of this call and this key is kept that began under the ticket
+abbrev pub HasNoAsk : CallNo → List ℕ → ℕ → LockedState → Type 0
+HasNoAsk call key ticket s = (ask : Ask) → asks_in s.asks call ≡ Some ask → ask.key ≡ key → ask.ticket ≢ ticket
+
+-- Nobody waits any more for what the call is told: its ask is gone where it was told something. Nothing else changes.
+pub record GivesUp (call : CallNo) (old new : LockedState) : Type 0 where
+  pub node : new.node ≡ old.node
+  pub number : new.number ≡ old.number
+  pub skew : new.skew ≡ old.skew
+  pub shard : new.shard ≡ old.shard
+  pub left : asks_in new.asks call ≡ given_up (asks_in old.asks call)
+  pub others : AreOthersSame call (asks_in old.asks) (asks_in new.asks)
+
+-- nobody waits for what the call is told
+abbrev pub IsLeft : CallNo → LockedState → Type 0
+IsLeft call s = IfSome (asks_in s.asks call) (λ ask. ask.wanted ≡ false)

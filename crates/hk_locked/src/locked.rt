@@ -16,7 +16,8 @@ ghost use Rattle.hk_node.specs.declared.event.NodeEvent.TheVariants.{Call};
 ghost use Rattle.hk_node.specs.Stepped.{replies_of};
 ghost use Rattle.hk_node.specs.Steps.{node_step};
 ghost use Rattle.hk_locked.specs.Places.{shard_names, node_names};
-ghost use Rattle.hk_locked.specs.Steps.{IsGrown, Meets, MeetsLease, Ticks, Trims, Begins, StartsAt, LooksFor, HasCalled, AreOneOrNone, replies_with};
+ghost use Rattle.hk_locked.specs.Steps.{IsGrown, Meets, MeetsLease, Ticks, Trims, Begins, StartsAt, LooksFor, GivesUp, HasNoAsk, HasCalled, AreOneOrNone, replies_with};
+ghost use Rattle.hk_told.specs.declared.asks.Look.TheVariants.{Gone};
 
 use crate::places::Places;
 use crate::reader::ShardReader;
@@ -385,6 +386,7 @@ impl<F: Completion + Copy + Drop, P: Places> LockedShard<F, P> {
         ticket: u64,
     ) -> Result<Look, Memory>
         ensures looks { IfOk result (λ look. LooksFor key.now ticket reader.old reader.new look) }
+        ensures gone { IfOk result (λ look. look ≡ Gone → HasNoAsk call key.now ticket self.old) }
         ensures grown { IsGrown key.now reader.old reader.new }
     {
         self.meet(rt, key, reader)?;
@@ -394,7 +396,20 @@ impl<F: Completion + Copy + Drop, P: Places> LockedShard<F, P> {
         Ok(self.asks.look(call, ticket))
     }
 
-    /// Raises the clock to a reading, which the reader sees by one load of the lease. Where it answers `Memory` the clock may have risen.
+    // Raises the clock to a reading, where it is below that.
+    fn raise<R: Wait>(&mut self, rt: &R, alloc: Global, ticket: u64, now: u64) -> Result<(), Memory>
+        requires ticket { self.old.shard.last < ticket }
+        requires now { now ≤ MAX_TIME }
+        ensures { OnOk result (now ≤ self.new.shard.part.clock) }
+    {
+        if self.shard.part().now() >= now {
+            return Ok(());
+        }
+        self.apply(rt, alloc, ticket, NodeEvent::Tick { now })?;
+        Ok(())
+    }
+
+    /// Raises the clock to a reading, where it is below that, and the reader sees it by one load of the lease. Where it answers `Memory` the clock may have risen.
     pub fn tick<R: Wait>(
         &mut self,
         rt: &R,
@@ -408,18 +423,22 @@ impl<F: Completion + Copy + Drop, P: Places> LockedShard<F, P> {
         ensures ticks { OnOk result (Ticks now reader.old reader.new) }
         ensures err { OnErr result (reader.new ≡ reader.old) }
     {
-        self.apply(rt, alloc, ticket, NodeEvent::Tick { now })?;
+        self.raise(rt, alloc, ticket, now)?;
         self.meet_lease(rt, reader)?;
+        reader.ticked = now;
         Ok(())
     }
 
     /// Nobody waits any more for what the call is told. It takes no memory.
-    pub fn give_up(&mut self, call: CallNo) {
+    pub fn give_up(&mut self, call: CallNo)
+        ensures { GivesUp call self.old self.new }
+    {
         self.asks.give_up(call);
     }
 
     /// Another reader of the shard, which has seen nothing yet.
     pub fn reader<R: Wait>(&mut self, rt: &R, alloc: Global) -> Result<ShardReader<P>, Memory> {
+        keeps(&self.shard);
         let (cells, lease) = self.shard.reader(rt, alloc)?;
         Ok(ShardReader::new(self.node, self.number, self.skew, cells, lease))
     }

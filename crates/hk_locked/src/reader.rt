@@ -1,13 +1,18 @@
 //! What reads a shard without its lock.
 
-ghost use Rattle.std.specs.Prelude.{◌≡◌};
+ghost use Rattle.std.specs.Prelude.{◌≡◌, ◌≤◌, ℕ, length, IfOk};
+ghost use Rattle.std.specs.Option.{IfSome};
+ghost use Rattle.hk_locked.specs.Steps.{IsGrown, Reads};
 ghost use Rattle.hk_snap.specs.Ends.{names};
 ghost use Rattle.hk_locked.specs.Places.{shard_names, node_names};
 
 use crate::places::Places;
-use hk_base::NodeId;
-use hk_snap::{LeaseCell, SnapReader};
+use hk_base::{Key, Memory, NodeId};
+use hk_outside::Clock;
+use hk_snap::{LeaseCell, Local, SnapReader, read_local};
+use std::alloc::Global;
 use std::marker::{Model, PhantomData};
+use std::sync::Wait;
 
 /// Reads what a shard shows: its cells and its lease cell. Contracts see which shard of which node it is, the node's skew, and what it has seen. It is of the
 /// cells that the list of names has for this shard.
@@ -18,18 +23,20 @@ pub struct ShardReader<P: Places> {
     pub(crate) skew: u64,
     pub(crate) cells: SnapReader,
     pub(crate) lease: LeaseCell,
+    // A reading of a clock to which the shard was ticked, and which was seen of it since.
+    pub(crate) ticked: u64,
     of: PhantomData<P>,
 }
 
 impl<P: Places> Model for ShardReader<P> {
-    ghost use Rattle.std.specs.Prelude.{◌≡◌};
+    ghost use Rattle.std.specs.Prelude.{◌≡◌, ◌≤◌};
     ghost use Rattle.hk_locked.specs.Locked.{ReaderState, IsReader};
 
     ghost Value = { ReaderState };
 
     ghost view = { λ r. record { node = r.node; number = r.number; skew = r.skew; cells = r.cells; lease = r.lease } };
 
-    ghost invariant = { λ r. IsReader P.places (record { node = r.node; number = r.number; skew = r.skew; cells = r.cells; lease = r.lease }) };
+    ghost invariant = { λ r. IsReader P.places (record { node = r.node; number = r.number; skew = r.skew; cells = r.cells; lease = r.lease }) × (r.ticked ≤ r.lease.now) };
 }
 
 impl<P: Places> ShardReader<P> {
@@ -42,6 +49,7 @@ impl<P: Places> ShardReader<P> {
         lease: LeaseCell,
     ) -> ShardReader<P>
         requires cells { names cells.ends ≡ (shard_names P.places node number).cells }
+        requires long { length cells.ends ≡ 32 }
         requires lease { lease.name ≡ (shard_names P.places node number).lease }
         requires skew { skew ≡ (node_names P.places node).skew }
         ensures { result ≡ record { node = node; number = number; skew = skew; cells = cells; lease = lease } }
@@ -52,6 +60,7 @@ impl<P: Places> ShardReader<P> {
             skew,
             cells,
             lease,
+            ticked: 0,
             of: PhantomData,
         }
     }
@@ -68,6 +77,35 @@ impl<P: Places> ShardReader<P> {
         ensures { result ≡ self.now.number }
     {
         self.number
+    }
+
+    /// The last reading to which the shard was ticked with this reader, in milliseconds, 0 before there was one. The clock that it has seen is not below.
+    pub fn ticked(&self) -> u64
+        ensures { result ≤ self.now.lease.now }
+    {
+        self.ticked
+    }
+
+    /// Answers a read of the key from what the shard shows, without its lock: by one load of the lease, one of the key's cell, and then a reading of the clock.
+    pub fn read_local<C: Clock, R: Wait>(
+        &mut self,
+        rt: &R,
+        alloc: Global,
+        clock: &C,
+        key: &Key,
+    ) -> Result<Local, Memory>
+        ensures told { IfOk result (λ local. (now : ℕ) × IfSome (C.reading clock.now) (λ time. now ≡ time) × Reads key.now now self.old self.new local) }
+        ensures grown { IsGrown key.now self.old self.new }
+    {
+        read_local(
+            rt,
+            alloc,
+            &mut self.cells,
+            &mut self.lease,
+            clock,
+            self.skew,
+            key,
+        )
     }
 
     /// What reads the cells, and what looks at the lease cell.

@@ -1,11 +1,14 @@
 //! What lets a loop go on.
 
-ghost use Rattle.std.specs.Prelude.{◌≡◌, Bool, not};
+ghost use Rattle.std.specs.Prelude.{◌≡◌, ⊤, Bool, not};
 
 /// Asked by a loop before each turn, and before it puts a parcel.
 pub trait Gate {
     /// Whether the last `pass` was answered false.
     ghost closed: { Self → Bool };
+
+    /// What `keeps` answers of a gate, and what becomes of that, where the gate tells it.
+    ghost answers: { Self → Bool → Self → Type 0 } = { λ before kept after. ⊤ };
 
     /// Whether the turn of this number, counted from 0, may be made. False closes the loop.
     fn pass(&mut self, turn: u64) -> bool
@@ -13,5 +16,6 @@ pub trait Gate {
 
     /// Whether a parcel is put. Where it is not, it is lost.
     fn keeps(&mut self) -> bool
-        ensures { closed self.new ≡ closed self.old };
+        ensures same { closed self.new ≡ closed self.old }
+        ensures told { answers self.old result self.new };
 }

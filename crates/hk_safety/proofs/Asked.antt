@@ -1,5 +1,5 @@
 -- What is asked of a run is what is kept of the key.
-use Rattle.std.proofs.Common.{◌≡◌, ℕ, List, [], ◌∷◌, ◌++◌, ◌∙◌, sym, subst, Option, Some, None, unwrap_or, Result, Ok, Err, IfOk}
+use Rattle.std.proofs.Common.{◌≡◌, ℕ, ◌+◌, length, List, [], ◌∷◌, ◌++◌, map, ◌∙◌, sym, ap, subst, Option, Some, None, unwrap_or, Result, Ok, Err, IfOk}
 use Rattle.std.specs.List.Sorted.{IsStrictlySortedBy}
 use Rattle.std.specs.Ordering.{nat_cmp}
 use Rattle.std.specs.Map.{keys_of}
@@ -10,7 +10,9 @@ use Rattle.hk_world.specs.Sound.{IsEvent}
 use Rattle.hk_world.proofs.Viewed.{sorted_nil}
 use Rattle.hk_effects.specs.Runs.{RunsKeepParts}
 use Rattle.hk_safety.specs.Run.{RunState, IsRun, trace_of, history, printed}
-use Rattle.hk_safety.specs.Kept.{KeyState, KeptState, IsKeyOf, IsKeptOf, first_key, find_key, kept_order}
+use Rattle.hk_safety.specs.Kept.{KeyState, KeptState, IsKeyOf, IsKeptOf, HasEvents, first_key, find_key, kept_order}
+use Rattle.hk_safety.specs.Placed.{entry_placed, placed, kept_placed, at_moments}
+use Rattle.hk_safety.proofs.Moments.{placed_whole}
 use Rattle.hk_safety.specs.declared.kept.Unmade.{Unmade}
 use Rattle.hk_safety.specs.Noted.{IsMadeBy}
 use Rattle.hk_safety.proofs.Pushed.{made_pushed}
@@ -43,11 +45,23 @@ module _ (k : KeptState) (run : RunState) (kept : IsKeptOf k run) (key : List �
   pub order_unfound : RunsKeepParts → IsRun run → find_key key k.keys ≡ None → [] ≡ printed run key
   order_unfound runs ok none = kept_is_printed key first_key (trace_of key run) (unfound_is none) sorted_nil (run_kept runs key run ok)
 
+module _ (k : KeptState) (run : RunState) (kept : IsKeptOf k run) (key : List ℕ) (runs : RunsKeepParts) (ok : IsRun run) (last : ℕ) (counted : last ≡ length run.events) where
+  -- the events of its entries
+  pub placed_found : (state : KeyState) → find_key key k.keys ≡ Some state → IsStrictlySortedBy nat_cmp (keys_of state.stamps) → at_moments last (kept_placed state) ≡ placed run key
+  placed_found state found sorted =
+      let had : HasEvents run key state = subst (λ (o : Option KeyState). HasEvents run key (unwrap_or o first_key)) found (kept.events key) in
+      ap (λ (n : ℕ). at_moments n (kept_placed state)) counted
+      ∙ placed_whole run key state (run_kept runs key run ok) (found_is k run kept key state found) had sorted
+      ∙ ap (map (entry_placed run key)) (order_found k run kept key runs ok state found sorted)
+
+  pub placed_unfound : find_key key k.keys ≡ None → [] ≡ placed run key
+  placed_unfound none = ap (map (entry_placed run key)) (order_unfound k run kept key runs ok none)
+
 -- ---- an event that is made
-pub made_then : RunsKeepParts → (old new : KeptState) (h : Header) (es es' : List Event) (event : Event) (r : Result Shown Unmade) (shown : Shown) → r ≡ Ok shown →
-    IsKeptOf old (record { header = h; events = es }) → IsRun (record { header = h; events = es }) → IsEvent event → IsMadeBy r old new event → es' ≡ es ++ event ∷ [] →
+pub made_then : RunsKeepParts → (n : ℕ) (old new : KeptState) (h : Header) (es es' : List Event) (event : Event) (r : Result Shown Unmade) (shown : Shown) → r ≡ Ok shown → n ≡ length es + 1 →
+    IsKeptOf old (record { header = h; events = es }) → IsRun (record { header = h; events = es }) → IsEvent event → IsMadeBy n r old new event → es' ≡ es ++ event ∷ [] →
     IsRun (record { header = h; events = es' }) × IsKeptOf new (record { header = h; events = es' })
-made_then runs old new h es es' event r shown is kept ok event_ok made last =
+made_then runs n old new h es es' event r shown is counted kept ok event_ok made last =
     let run : RunState = record { header = h; events = es } in
-    let pushed = made_pushed runs old new run event shown kept ok event_ok (subst (λ (q : Result Shown Unmade). IsMadeBy q old new event) is made) in
+    let pushed = made_pushed runs n old new run event shown counted kept ok event_ok (subst (λ (q : Result Shown Unmade). IsMadeBy n q old new event) is made) in
     subst (λ (l : List Event). IsRun (record { header = h; events = l }) × IsKeptOf new (record { header = h; events = l })) (sym last) (pushed.1, pushed.2)

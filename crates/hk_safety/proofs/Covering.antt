@@ -32,9 +32,10 @@ use Rattle.hk_safety.specs.declared.evidence.Cover.{Cover}
 use Rattle.hk_safety.specs.declared.evidence.Evidence.{Evidence}
 use Rattle.hk_safety.specs.declared.key_run.AtStamp.{AtStamp}
 use Rattle.hk_safety.specs.Kept.{KeyState, Keys, covers_in, is_ready_mark, ready_in, at_stamp, find_key, key_at}
-use Rattle.hk_safety.specs.Grown.{IsKnownBy, mark_by, with_mark, stamp_in, IsCoveredAt, IsCovered, Touch, tags_at, AreCovered, wait_touches, row_touches, touches_now, former_waits, changed_touches, is_open, AreOpenCovered}
+use Rattle.hk_safety.specs.Grown.{IsKnownBy, IsSinceThen, mark_by, with_mark, stamp_in, IsCoveredAt, IsCovered, Touch, tags_at, AreCovered, wait_touches, row_touches, touches_now, former_waits, changed_touches, is_open, AreOpenCovered}
 use Rattle.hk_safety.proofs.Puts.{IsPutAt, put_stays, put_here, put_others, found_at, not_there, turn}
 use Rattle.hk_safety.proofs.Known.{TellSame, same_known, shown_known}
+use Rattle.hk_safety.proofs.Since.{since_same, since_both, since_shown}
 
 -- ---- one key
 twice : (a b : Bool) → (a || (a || b)) ≡ (a || b)
@@ -56,6 +57,7 @@ module _ (v : View) (c : Cover) where
     known = λ V fits marks s some k.
         subst (λ (b : Bool). IsKnownBy V (with_mark b (mark_by c v s) marks) s (at_stamp s new).evidence) (sym (none s some))
         (subst (λ (j : KeyState). IsKnownBy V marks s (at_stamp s j).evidence) (sym same) k);
+    since = λ s. since_same c.event (at_stamp s old).evidence (at_stamp s new).evidence (ap (λ (k : KeyState). (at_stamp s k).evidence) same);
   }
 
   with_both : (V : ℕ → List ℕ) (marks : List Mark) (s : ℕ) (ev : Evidence) (a b : Bool) →
@@ -82,6 +84,7 @@ module _ (v : View) (c : Cover) where
         subst (λ (x : Bool). IsKnownBy V (with_mark x (mark_by c v s) marks) s (at_stamp s new).evidence) (sym (in_both s a b))
         (with_both V marks s (at_stamp s new).evidence (is_in s a) (is_in s b)
         (second.known V fits (with_mark (is_in s a) (mark_by c v s) marks) s some (first.known V fits marks s some k)));
+    since = λ s. since_both c.event (at_stamp s old).evidence (at_stamp s mid).evidence (at_stamp s new).evidence (first.since s) (second.since s);
   }
 
   -- the cover of one stamp
@@ -91,8 +94,14 @@ module _ (v : View) (c : Cover) where
     update = λ t. update t (eqb t s) refl;
     looks = λ t. looks t (eqb t s) refl;
     known = λ V fits marks t some k. known V fits marks t (eqb t s) refl k;
+    since = λ t. since t (eqb t s) refl;
   }
     where
+      since : (t : ℕ) (b : Bool) → eqb t s ≡ b → IsSinceThen c.event (at_stamp t old).evidence (at_stamp t new).evidence
+      since t true is = subst (λ (u : ℕ). IsSinceThen c.event (stamp_in u old.stamps).evidence (stamp_in u new.stamps).evidence) (sym (eqb-true t s is))
+          (since_shown v c (stamp_in s old.stamps).evidence (stamp_in s new.stamps).evidence at.shown)
+      since t false is = since_same c.event (at_stamp t old).evidence (at_stamp t new).evidence (ap (λ (a : AtStamp). a.evidence) (at.there t is))
+
       update : (t : ℕ) (b : Bool) → eqb t s ≡ b → (at_stamp t new).update ≡ (at_stamp t old).update
       update t true is = subst (λ (u : ℕ). (stamp_in u new.stamps).update ≡ (stamp_in u old.stamps).update) (sym (eqb-true t s is)) at.update
       update t false is = ap (λ (a : AtStamp). a.update) (at.there t is)
@@ -220,6 +229,7 @@ module _ (v : View) (c : Cover) where
     looks = covered.looks;
     known = λ V fits marks s some k.
         subst (λ (t : Bool). IsKnownBy V (with_mark t (mark_by c v s) marks) s (at_stamp s new).evidence) (sym (alike s)) (covered.known V fits marks s some k);
+    since = covered.since;
   }
 
   pub are_again : (old new : Keys) (t : Touch) → AreCovered v c old new (t ∷ []) → AreCovered v c old new (t ∷ t ∷ [])

@@ -74,11 +74,11 @@ module _ (V : ℕ → List ℕ) (st : State) (parts : Parts V st) (s : ℕ) wher
       )
 
   pub known_by : (ev : Evidence) → IsKnown V st s ev → IsKnownBy V st.marks s ev
-  known_by E.Complete k = complete_by V st s k
+  known_by (E.Complete event) k = complete_by V st s k
   known_by (Covers groups) k = (λ c. k.0 (complete_in c), k.1)
 
   pub known_of : (ev : Evidence) → IsKnownBy V st.marks s ev → IsKnown V st s ev
-  known_of E.Complete k = complete_in k
+  known_of (E.Complete event) k = complete_in k
   known_of (Covers groups) k = (λ c. k.0 (complete_by V st s c), k.1)
 
 -- ---- more agreed views tell nothing of the epochs in which nodes were before
@@ -92,7 +92,7 @@ module _ (U V : ℕ → List ℕ) (marks : List Mark) (same : (m : Mark) → In 
 
 pub known_also : (U V : ℕ → List ℕ) (marks : List Mark) (same : (m : Mark) → In marks m → U m.epoch ≡ V m.epoch) (s : ℕ) (ev : Evidence) →
     IsKnownBy U marks s ev → IsKnownBy V marks s ev
-known_also U V marks same s E.Complete k = complete_also U V marks same s k
+known_also U V marks same s (E.Complete event) k = complete_also U V marks same s k
 known_also U V marks same s (Covers groups) k = (λ c. k.0 (complete_also V U marks (λ m h. sym (same m h)) s c), k.1)
 
 abbrev pub Before : Trace → ℕ → List ℕ

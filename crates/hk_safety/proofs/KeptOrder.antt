@@ -31,13 +31,14 @@ use Rattle.hk_safety.specs.declared.evidence.Evidence.{Evidence}
 use Rattle.hk_safety.specs.declared.evidence.Evidence.TheVariants.{Covers}
 use Rattle.hk_safety.specs.declared.evidence.Evidence.TheVariants as E
 use Rattle.hk_safety.specs.declared.key_run.AtStamp.{AtStamp}
-use Rattle.hk_safety.specs.Kept.{KeyState, no_stamp, at_stamp, looks_at, call_of, update_at, IsKnown, IsKeyOf}
+use Rattle.hk_safety.specs.declared.key_run.Look.{Look}
+use Rattle.hk_safety.specs.Kept.{KeyState, no_stamp, at_stamp, looks_at, calls_in, call_of, update_at, IsKnown, IsKeyOf}
 use Rattle.hk_safety.specs.Kept.{is_complete, update_entry, look_entry, entries_at, kept_order}
 use Rattle.hk_safety.proofs.Slots.{look_at, look_of, look_slots_at, looks_have, has_stamp, slot_if, found_is, is_found}
 use Rattle.hk_safety.proofs.Slots.{Row, update_part, look_part, row_slots, slots_of, Rising, AreRows, rows_are_printed}
 
 -- ---- what an ordered map has at a stamp
-abbrev Kept : Type 0
+abbrev pub Kept : Type 0
 Kept = ℕ × AtStamp
 
 at_true : (s t : ℕ) → is_at (nat_cmp s) t ≡ true → s ≡ t
@@ -65,17 +66,17 @@ above_from s (q ∷ rows) all p (inl is) = let less = less_is s q.0 all.0 in ome
 above_from s (q ∷ rows) all p (inr h) = above_from s rows all.1 p h
 
 -- each stamp is below those behind it
-abbrev Ordered : List Kept → Type 0
+abbrev pub Ordered : List Kept → Type 0
 Ordered rows = IsStrictlySortedBy nat_cmp (keys_of rows)
 
-above_head : (q : Kept) (rows : List Kept) → Ordered (q ∷ rows) → Above q.0 rows
+pub above_head : (q : Kept) (rows : List Kept) → Ordered (q ∷ rows) → Above q.0 rows
 above_head q rows ordered = above_from q.0 rows (sorted_head nat_cmp q.0 (keys_of rows) ordered)
 
-ordered_rest : (q : Kept) (rows : List Kept) → Ordered (q ∷ rows) → Ordered rows
+pub ordered_rest : (q : Kept) (rows : List Kept) → Ordered (q ∷ rows) → Ordered rows
 ordered_rest q rows ordered = sorted_tail nat_cmp q.0 (keys_of rows) ordered
 
 -- what stands in an ordered map is found
-found_at : (rows : List Kept) → Ordered rows → (p : Kept) → In rows p → lookup (is_at (nat_cmp p.0)) rows ≡ Some p.1
+pub found_at : (rows : List Kept) → Ordered rows → (p : Kept) → In rows p → lookup (is_at (nat_cmp p.0)) rows ≡ Some p.1
 found_at [] ordered p h = absurd h
 found_at (q ∷ rows) ordered p (inl is) =
     let here : lookup (is_at (nat_cmp q.0)) (q ∷ rows) ≡ Some q.1 = rw (at_itself q.0) refl in
@@ -95,7 +96,7 @@ stands_from s (q ∷ rows) a e = by_test (is_at (nat_cmp s) q.0) refl e (stands_
     by_test false t e more = inr (more e)
 
 -- where something is kept of a stamp, it stands there
-stands_or_nothing : (k : KeyState) (s : ℕ) → In k.stamps (s, at_stamp s k) ⊎ (at_stamp s k ≡ no_stamp)
+pub stands_or_nothing : (k : KeyState) (s : ℕ) → In k.stamps (s, at_stamp s k) ⊎ (at_stamp s k ≡ no_stamp)
 stands_or_nothing k s = by_option (lookup (is_at (nat_cmp s)) k.stamps) refl
   where
     by_option : (o : Option AtStamp) → lookup (is_at (nat_cmp s)) k.stamps ≡ o → In k.stamps (s, unwrap_or o no_stamp) ⊎ (unwrap_or o no_stamp ≡ no_stamp)
@@ -148,15 +149,22 @@ update_entries complete s us = entry_if complete s (find (has_stamp s) us) (λ u
 no_tag : (n s : ℕ) → tag_at (n + 1) s ≡ None
 no_tag n s = subst (λ (k : ℕ). tag_at k s ≡ None) {x = suc n} {y = n + 1} (omega arith) refl
 
-look_entries : (s : ℕ) (items : List Item) → entries (look_slots_at s items) ≡ map look_entry (looks_at s items)
+abbrev call_entry : CallNo → Entry
+call_entry call = record { call = call; tag = None }
+
+calls_entries : (looks : List Look) → map call_entry (calls_in looks) ≡ map look_entry looks
+calls_entries [] = refl
+calls_entries (l ∷ looks) = ap (λ (es : List Entry). look_entry l ∷ es) (calls_entries looks)
+
+look_entries : (s : ℕ) (items : List Item) → entries (look_slots_at s items) ≡ map call_entry (looks_at s items)
 look_entries s [] = refl
 look_entries s (Looked c t op held a ∷ items) =
     let new : List Slot = look_at s (length items + 1) (Looked c t op held a) in
     let calls : List CallNo = if t == s then record { 0 = c } ∷ [] else [] in
-    joined (look_slots_at s items) new (map look_entry (looks_at s items)) (map look_entry calls) (look_entries s items) (by_test (eqb t s))
-    ∙ sym (map-append look_entry (looks_at s items) calls)
+    joined (look_slots_at s items) new (map call_entry (looks_at s items)) (map call_entry calls) (look_entries s items) (by_test (eqb t s))
+    ∙ sym (map-append call_entry (looks_at s items) calls)
   where
-    by_test : (b : Bool) → entries (cond b (look_slot (length items + 1) c t op held a ∷ []) []) ≡ map look_entry (cond b (record { 0 = c } ∷ []) [])
+    by_test : (b : Bool) → entries (cond b (look_slot (length items + 1) c t op held a ∷ []) []) ≡ map call_entry (cond b (record { 0 = c } ∷ []) [])
     by_test true = ap (λ (tag : Option ℕ). record { call = record { 0 = c }; tag = tag } ∷ []) (no_tag (length items) t)
     by_test false = refl
 look_entries s (Called c t op ∷ items) = ap entries (append-nil (look_slots_at s items)) ∙ look_entries s items
@@ -167,14 +175,14 @@ look_entries s (Missed c op a ∷ items) = ap entries (append-nil (look_slots_at
 -- a stamp has what the items and the updates tell of it
 record Has (us : List Update) (items : List Item) (p : Kept) : Type 0 where
   update : p.1.update ≡ update_at p.0 us
-  looks : p.1.looks ≡ looks_at p.0 items
+  looks : calls_in p.1.looks ≡ looks_at p.0 items
 
 module _ (us : List Update) (items : List Item) where
   row_entries : (p : Kept) → Has us items p → entries (row_slots us items (row_of p)) ≡ entries_at p
   row_entries p has =
       let complete : Bool = is_complete p.1.evidence in
       let update = update_entries complete p.0 us ∙ ap (update_entry complete p.0) (sym has.update) in
-      let looks = look_entries p.0 items ∙ ap (map look_entry) (sym has.looks) in
+      let looks = look_entries p.0 items ∙ ap (map call_entry) (sym has.looks) ∙ calls_entries p.1.looks in
       joined (update_part us (row_of p)) (look_part items (row_of p)) (update_entry complete p.0 p.1.update) (map look_entry p.1.looks) update looks
 
   all_entries : (rows : List Kept) → ((p : Kept) → In rows p → Has us items p) → entries (slots_of us items (rows_of rows)) ≡ flat_map (entries_at) rows
@@ -185,7 +193,7 @@ module _ (us : List Update) (items : List Item) where
       joined (row_slots us items (row_of q)) (slots_of us items (rows_of rows)) (entries_at q) (flat_map (entries_at) rows) first rest
 
 -- ---- the rows of a key's stamps are its rows
-some_stamp : (kind : Kind) (base n : ℕ) → 1 ≤ next_stamp kind base n
+pub some_stamp : (kind : Kind) (base n : ℕ) → 1 ≤ next_stamp kind base n
 some_stamp Plain base n = omega arith
 some_stamp Rmw base n = omega arith
 
@@ -200,15 +208,15 @@ no_entry (s ∷ slots) x e h = clash (entry_of s) (entries slots) e
 record IsOf (V : ℕ → List ℕ) (k : KeyState) (st : State) : Type 0 where
   ordered : Ordered k.stamps
   update : (s : ℕ) → (at_stamp s k).update ≡ update_at s st.begun
-  looks : (s : ℕ) → (at_stamp s k).looks ≡ looks_at s st.history
+  looks : (s : ℕ) → calls_in (at_stamp s k).looks ≡ looks_at s st.history
   known : (s : ℕ) → 1 ≤ s → IsKnown V st s (at_stamp s k).evidence
 
 complete_of : (V : ℕ → List ℕ) (st : State) (s : ℕ) (ev : Evidence) → IsKnown V st s ev → is_complete ev ≡ true → Complete V st s
-complete_of V st s E.Complete k e = k
+complete_of V st s (E.Complete event) k e = k
 complete_of V st s (Covers groups) k e = absurd (false≢true e)
 
 is_complete_by : (V : ℕ → List ℕ) (st : State) (s : ℕ) (ev : Evidence) → IsKnown V st s ev → Complete V st s → is_complete ev ≡ true
-is_complete_by V st s E.Complete k c = refl
+is_complete_by V st s (E.Complete event) k c = refl
 is_complete_by V st s (Covers groups) k c = absurd (k.0 c)
 
 module _ (V : ℕ → List ℕ) (st : State) (parts : Parts V st) (k : KeyState) (is : IsOf V k st) where
@@ -218,7 +226,7 @@ module _ (V : ℕ → List ℕ) (st : State) (parts : Parts V st) (k : KeyState)
   has : (p : Kept) → In k.stamps p → Has st.begun st.history p
   has p h =
       let at = here p h in
-      record { update = sym (ap (λ (a : AtStamp). a.update) at) ∙ is.update p.0; looks = sym (ap (λ (a : AtStamp). a.looks) at) ∙ is.looks p.0 }
+      record { update = sym (ap (λ (a : AtStamp). a.update) at) ∙ is.update p.0; looks = sym (ap (λ (a : AtStamp). calls_in a.looks) at) ∙ is.looks p.0 }
 
   some : (u : Update) → In st.begun u → 1 ≤ u.stamp
   some u begun = subst (λ (s : ℕ). 1 ≤ s) (sym (parts.updates u begun).next) (some_stamp u.kind u.base u.who)
@@ -248,8 +256,8 @@ module _ (V : ℕ → List ℕ) (st : State) (parts : Parts V st) (k : KeyState)
   look_row x stands = ⊎_elim
       (λ (h : In k.stamps (x.stamp, at_stamp x.stamp k)). (is_complete (at_stamp x.stamp k).evidence, row_in k.stamps (x.stamp, at_stamp x.stamp k) h))
       (λ (e : at_stamp x.stamp k ≡ no_stamp).
-      let none : looks_at x.stamp st.history ≡ [] = sym (is.looks x.stamp) ∙ ap (λ (a : AtStamp). a.looks) e in
-      absurd (no_entry (look_slots_at x.stamp st.history) x (look_entries x.stamp st.history ∙ ap (map look_entry) none) (looks_have st.history x stands)))
+      let none : looks_at x.stamp st.history ≡ [] = sym (is.looks x.stamp) ∙ ap (λ (a : AtStamp). calls_in a.looks) e in
+      absurd (no_entry (look_slots_at x.stamp st.history) x (look_entries x.stamp st.history ∙ ap (map call_entry) none) (looks_have st.history x stands)))
       (stands_or_nothing k x.stamp)
 
   are_rows : AreRows V st (rows_of k.stamps)

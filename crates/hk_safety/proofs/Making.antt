@@ -52,7 +52,7 @@ use Rattle.hk_effects.proofs.Rests.{node_holds}
 use Rattle.hk_effects.proofs.Worlds.{the_some}
 use Rattle.hk_safety.specs.declared.evidence.Cover.{Cover}
 use Rattle.hk_safety.specs.Run.{with_named}
-use Rattle.hk_safety.specs.Kept.{KeyState, Keys, KeptState, at_stamp, find_key, key_at, called_from, looks_at, IsKnown, IsKeyOf}
+use Rattle.hk_safety.specs.Kept.{KeyState, Keys, KeptState, at_stamp, find_key, key_at, called_from, looks_at, calls_in, IsKnown, IsKeyOf}
 use Rattle.hk_safety.specs.Noted.{MayMake, IsMade}
 use Rattle.hk_safety.specs.Grown.{AreTold, IsNamed, IsTurned, is_answer, with_lines, former_tag, is_new_in, is_new, turn_of, IsCallKept, IsKeptAfter, IsKnownBy, AreCovered, AreTouched, AreTouchedIn, AreTouchedBy, AreTouchedAt, cover_by, IsFormer, AreFormer}
 use Rattle.hk_safety.specs.Shows.{lines_at, reply_line}
@@ -60,15 +60,16 @@ use Rattle.hk_safety.proofs.Acting.{next_call, IsNoCall, IsStep, IsBeside, is_at
 use Rattle.hk_safety.proofs.Covering.{are_joined, waits_within}
 use Rattle.hk_safety.proofs.Following.{events_append, looks_append, update_append, After, known_of, known_before, agrees_before}
 use Rattle.hk_safety.proofs.Noting.{begun_at, lines_told, IsSaid, said_quiet, IsToldOf, said_call}
+use Rattle.hk_safety.proofs.Going.{goes_on}
 use Rattle.hk_safety.proofs.Touched.{AreChanges, changes_of, IsSeen, touches_of, seen_known, unseen_known}
 
 -- ---- what the code kept, part after part
-pub kept_after : (old new : KeptState) (named told : Keys) (calls : List (List ℕ)) (replies : List Reply) (event : Event)
-    (shown : Shown) → IsCallKept old.keys named old.world event shown →
+pub kept_after : (n : ℕ) (old new : KeptState) (named told : Keys) (calls : List (List ℕ)) (replies : List Reply) (event : Event)
+    (shown : Shown) → IsCallKept n old.keys named old.world event shown →
     new.calls ≡ old.calls ++ called_from (event ∷ []) → calls ≡ new.calls → replies ≡ shown.replies → AreTold named told (λ key. lines_at key calls replies) →
-    AreTouchedAt shown.acted told new.keys old.world shown.letters →
-    IsKeptAfter old (record { world = old.world; keys = new.keys; calls = new.calls }) event shown
-kept_after old new named told calls replies event shown call more same given lines covers = record {
+    AreTouchedAt n shown.acted told new.keys old.world shown.letters →
+    IsKeptAfter n old (record { world = old.world; keys = new.keys; calls = new.calls }) event shown
+kept_after n old new named told calls replies event shown call more same given lines covers = record {
   world = refl;
   calls = more;
   named = named;
@@ -200,7 +201,7 @@ abbrev numbered_call : ℕ → CallNo
 numbered_call n = record { 0 = n }
 
 module _ (w : WorldState) (own : IsOwn w) (a : Accepted) (id : NodeId) (x : NodeState) (ok : IsNode x) (found : node_at id.0 w.processes ≡ Some x)
-    (keys named : Keys) (key : List ℕ) where
+    (n : ℕ) (keys named : Keys) (key : List ℕ) where
   -- what is said of the key of an event, of which this node made this
   abbrev SaidBy : Event → Stepped → Type 0
   SaidBy event o =
@@ -231,7 +232,7 @@ module _ (w : WorldState) (own : IsOwn w) (a : Accepted) (id : NodeId) (x : Node
     rows : AreChanges r.report.rows x.rows o.node.rows
 
   own_said : (i : NodeId) (k : List ℕ) (op : Op) (r : Acted) → key ≡ k → IsCalled k op (called x (next_call w) k op) r →
-      IsNamed keys named k (turn_of a.world id k a.shown) op → SaidBy (Call i k op) (called x (next_call w) k op)
+      IsNamed keys named k (turn_of n a.world id k a.shown) op → SaidBy (Call i k op) (called x (next_call w) k op)
   own_said i k op r e s call =
       let o : Stepped = called x (next_call w) k op in
       let was : Node = key_node k (Some x) in
@@ -245,22 +246,22 @@ module _ (w : WorldState) (own : IsOwn w) (a : Accepted) (id : NodeId) (x : Node
       let answered : is_answer a.shown.replies ≡ is_answer rs = ap is_answer (s.replies ∙ call_only w id.0 x k op own found ok) in
       let items : (key_at k named).items ≡ (key_at k keys).items ++ L.Call (next_call w) op ∷ [] = call.here.items
       ∙ ap (λ (c : CallNo). (key_at k keys).items ++ L.Call c op ∷ []) number in
-      let turned : IsTurned (not (eqb now.stamp was.stamp)) (is_answer rs) (key_at k keys).stamps (key_at k named).stamps now.stamp (next_call w) =
-      subst (λ (c : CallNo). IsTurned (not (eqb now.stamp was.stamp)) (is_answer rs) (key_at k keys).stamps (key_at k named).stamps now.stamp c) number
-      (subst (λ (t : ℕ). IsTurned (not (eqb now.stamp was.stamp)) (is_answer rs) (key_at k keys).stamps (key_at k named).stamps t (record { 0 = a.world.calls })) tag
-      (subst (λ (b : Bool). IsTurned b (is_answer rs) (key_at k keys).stamps (key_at k named).stamps there.stamp (record { 0 = a.world.calls })) began
-      (subst (λ (c : Bool). IsTurned (is_new a.shown.acted k there.stamp) c (key_at k keys).stamps (key_at k named).stamps there.stamp (record { 0 = a.world.calls }))
+      let turned : IsTurned (not (eqb now.stamp was.stamp)) (is_answer rs) (key_at k keys).stamps (key_at k named).stamps now.stamp (next_call w) n =
+      subst (λ (c : CallNo). IsTurned (not (eqb now.stamp was.stamp)) (is_answer rs) (key_at k keys).stamps (key_at k named).stamps now.stamp c n) number
+      (subst (λ (t : ℕ). IsTurned (not (eqb now.stamp was.stamp)) (is_answer rs) (key_at k keys).stamps (key_at k named).stamps t (record { 0 = a.world.calls }) n) tag
+      (subst (λ (b : Bool). IsTurned b (is_answer rs) (key_at k keys).stamps (key_at k named).stamps there.stamp (record { 0 = a.world.calls }) n) began
+      (subst (λ (c : Bool). IsTurned (is_new a.shown.acted k there.stamp) c (key_at k keys).stamps (key_at k named).stamps there.stamp (record { 0 = a.world.calls }) n)
       answered call.here.stamps))) in
       let said : IsSaid (key_at k keys) (key_at k named) (map reply_line rs) (call_items (eqb now.stamp was.stamp) (w.calls + 1) op was now rs)
       (updates_of id.0 was (call_items (eqb now.stamp was.stamp) (w.calls + 1) op was now rs)) =
-      said_call (key_at k keys) (key_at k named) id.0 was now (next_call w) op rs items turned (call_at_most w id.0 x k op own found ok) in
+      said_call (key_at k keys) (key_at k named) id.0 was now n (next_call w) op rs items turned (call_at_most w id.0 x k op own found ok) in
       subst (λ (j : List ℕ). SaidOf i j k op o) (sym e)
       (subst (λ (c : Bool). IsSaid (key_at k keys) (key_at k named) (map reply_line rs)
       (cond c (call_items (eqb now.stamp was.stamp) (w.calls + 1) op was now rs) [])
       (updates_of id.0 was (cond c (call_items (eqb now.stamp was.stamp) (w.calls + 1) op was now rs) [])))
       (sym (same_itself k)) said)
 
-  other_said : (i : NodeId) (k : List ℕ) (op : Op) → key ≢ k → IsNamed keys named k (turn_of a.world id k a.shown) op →
+  other_said : (i : NodeId) (k : List ℕ) (op : Op) → key ≢ k → IsNamed keys named k (turn_of n a.world id k a.shown) op →
       SaidBy (Call i k op) (called x (next_call w) k op)
   other_said i k op ne call =
       let o : Stepped = called x (next_call w) k op in
@@ -274,20 +275,20 @@ module _ (w : WorldState) (own : IsOwn w) (a : Accepted) (id : NodeId) (x : Node
       (updates_of id.0 (key_node key (Some x)) is)) (sym items)
       (subst (λ (rs : List Reply). IsSaid (key_at key keys) (key_at key named) (map reply_line rs) [] []) (sym none) said)
 
-  called_said : (i : NodeId) (k : List ℕ) (op : Op) (o : Stepped) (r : Acted) → IsCalled k op o r → IsNamed keys named k (turn_of a.world id k a.shown) op →
+  called_said : (i : NodeId) (k : List ℕ) (op : Op) (o : Stepped) (r : Acted) → IsCalled k op o r → IsNamed keys named k (turn_of n a.world id k a.shown) op →
       SaidBy (Call i k op) o
   called_said i k op o r s call = subst (λ (p : Stepped). SaidBy (Call i k op) p) (sym s.step)
       (⊎_elim (λ (e : key ≡ k). own_said i k op r e (subst (λ (p : Stepped). IsCalled k op p r) s.step s) call)
       (λ (ne : key ≢ k). other_said i k op ne call) (cases_key key k))
 
 module _ (w : WorldState) (own : IsOwn w) (a : Accepted) (id : NodeId) (ok : (event : Event) (st : IsStep w event a id) → IsNode st.x)
-    (keys named : Keys) (key : List ℕ) where
-  pub said_at : (event : Event) → IsEvent event → (st : IsStep w event a id) → is_at event id → IsCallKept keys named a.world event a.shown →
-      SaidBy w own a id st.x (ok event st) (found w event a id st) keys named key event st.o
+    (n : ℕ) (keys named : Keys) (key : List ℕ) where
+  pub said_at : (event : Event) → IsEvent event → (st : IsStep w event a id) → is_at event id → IsCallKept n keys named a.world event a.shown →
+      SaidBy w own a id st.x (ok event st) (found w event a id st) n keys named key event st.o
   said_at (Call i k op) within st named_at call =
       let e : N.Call (next_call w) k op ≡ st.how.0 = the_some _ _ st.how.1 in
-      let mine : IsNamed keys named k (turn_of a.world id k a.shown) op = subst (λ (j : NodeId). IsNamed keys named k (turn_of a.world j k a.shown) op) named_at call in
-      called_said w own a id st.x (ok (Call i k op) st) (found w (Call i k op) a id st) keys named key i k op st.o (acted_by w (Call i k op) a id st)
+      let mine : IsNamed keys named k (turn_of n a.world id k a.shown) op = subst (λ (j : NodeId). IsNamed keys named k (turn_of n a.world j k a.shown) op) named_at call in
+      called_said w own a id st.x (ok (Call i k op) st) (found w (Call i k op) a id st) n keys named key i k op st.o (acted_by w (Call i k op) a id st)
       (record {
         step = st.how.2 ∙ ap (node_step st.x) (sym e);
         there = found_now w (Call i k op) a id st;
@@ -296,17 +297,17 @@ module _ (w : WorldState) (own : IsOwn w) (a : Accepted) (id : NodeId) (ok : (ev
         acted = acted_is w (Call i k op) a id st;
         rows = changes w (Call i k op) a id st own within (ok (Call i k op) st);
       }) mine
-  said_at event within st named_at call = quiet_said w own a id st.x (ok event st) (found w event a id st) keys named key st.o
+  said_at event within st named_at call = quiet_said w own a id st.x (ok event st) (found w event a id st) n keys named key st.o
       (told_lone w own st.x (ok event st) st.o event within st.how key) call
 
 -- ---- all together
-uncalled : (m n : Keys) (w : WorldState) (event : Event) (shown : Shown) → IsNoCall event → IsCallKept m n w event shown → n ≡ m
-uncalled m n w (Call id key op) shown none h = absurd none
-uncalled m n w event shown none h = h
+uncalled : (at : ℕ) (m n : Keys) (w : WorldState) (event : Event) (shown : Shown) → IsNoCall event → IsCallKept at m n w event shown → n ≡ m
+uncalled at m n w (Call id key op) shown none h = absurd none
+uncalled at m n w event shown none h = h
 
-call_keys : (m n : Keys) (w : WorldState) (event : Event) (shown : Shown) → IsCallKept m n w event shown → keys_of n ≡ with_named event (keys_of m)
-call_keys m n w (Call i k op) shown h = h.keys
-call_keys m n w event shown h = ap keys_of h
+call_keys : (at : ℕ) (m n : Keys) (w : WorldState) (event : Event) (shown : Shown) → IsCallKept at m n w event shown → keys_of n ≡ with_named event (keys_of m)
+call_keys at m n w (Call i k op) shown h = h.keys
+call_keys at m n w event shown h = ap keys_of h
 
 -- ---- what the covers leave as it was
 pub record IsSameBut (old new : KeyState) : Type 0 where
@@ -334,35 +335,35 @@ module _ (key : List ℕ) (t : Trace) (event : Event) (a : Accepted) (id : NodeI
     items = same.items ∙ ap (λ (k : KeyState). k.items) e ∙ s.items ∙ ap (λ (l : List Line). l ++ events_of said) is.items ∙ sym (events_append said t.history);
     update = λ u. same.update u ∙ ap (λ (k : KeyState). (at_stamp u k).update) e ∙ s.update u
         ∙ ap (begun_at u (updates_of id.0 was said)) (is.update u) ∙ sym (update_append u (updates_of id.0 was said) t.begun);
-    looks = λ u. same.looks u ∙ ap (λ (k : KeyState). (at_stamp u k).looks) e ∙ s.looks u
+    looks = λ u. ap calls_in (same.looks u) ∙ ap (λ (k : KeyState). calls_in (at_stamp u k).looks) e ∙ s.looks u
         ∙ ap (λ (l : List CallNo). l ++ looks_at u said) (is.looks u) ∙ sym (looks_append u said t.history);
     known = known;
   }
 
 -- the keys that are kept stay so
-touched_there : (by : Option Acted) (told new : Keys) (w : WorldState) (letters : List Wire) → AreTouchedAt by told new w letters → (key : List ℕ) →
+touched_there : (n : ℕ) (by : Option Acted) (told new : Keys) (w : WorldState) (letters : List Wire) → AreTouchedAt n by told new w letters → (key : List ℕ) →
     is_some (find_key key new) ≡ is_some (find_key key told)
-touched_there None told new w letters h key = ap (λ (ks : Keys). is_some (find_key key ks)) h
-touched_there (Some r) told new w letters h key = by_node (node_at r.node.0 w.processes) h
+touched_there n None told new w letters h key = ap (λ (ks : Keys). is_some (find_key key ks)) h
+touched_there n (Some r) told new w letters h key = by_node (node_at r.node.0 w.processes) h
   where
-    by_view : (x : NodeState) (o : Option View) → AreTouchedIn o told new x r letters → is_some (find_key key new) ≡ is_some (find_key key told)
+    by_view : (x : NodeState) (o : Option View) → AreTouchedIn n o told new x r letters → is_some (find_key key new) ≡ is_some (find_key key told)
     by_view x None h = ap (λ (ks : Keys). is_some (find_key key ks)) h
     by_view x (Some v) h = h.of_acks.there key ∙ h.of_open.covered.there key ∙ h.of_changed.there key
 
-    by_node : (o : Option NodeState) → AreTouchedBy o told new r letters → is_some (find_key key new) ≡ is_some (find_key key told)
+    by_node : (o : Option NodeState) → AreTouchedBy n o told new r letters → is_some (find_key key new) ≡ is_some (find_key key told)
     by_node None h = ap (λ (ks : Keys). is_some (find_key key ks)) h
     by_node (Some x) h = by_view x x.view h
 
-touched_keys : (by : Option Acted) (told new : Keys) (w : WorldState) (letters : List Wire) → AreTouchedAt by told new w letters →
+touched_keys : (n : ℕ) (by : Option Acted) (told new : Keys) (w : WorldState) (letters : List Wire) → AreTouchedAt n by told new w letters →
     keys_of new ≡ keys_of told
-touched_keys None told new w letters h = ap keys_of h
-touched_keys (Some r) told new w letters h = by_node (node_at r.node.0 w.processes) h
+touched_keys n None told new w letters h = ap keys_of h
+touched_keys n (Some r) told new w letters h = by_node (node_at r.node.0 w.processes) h
   where
-    by_view : (x : NodeState) (o : Option View) → AreTouchedIn o told new x r letters → keys_of new ≡ keys_of told
+    by_view : (x : NodeState) (o : Option View) → AreTouchedIn n o told new x r letters → keys_of new ≡ keys_of told
     by_view x None h = ap keys_of h
     by_view x (Some v) h = h.of_acks.keys ∙ h.of_open.covered.keys ∙ h.of_changed.keys
 
-    by_node : (o : Option NodeState) → AreTouchedBy o told new r letters → keys_of new ≡ keys_of told
+    by_node : (o : Option NodeState) → AreTouchedBy n o told new r letters → keys_of new ≡ keys_of told
     by_node None h = ap keys_of h
     by_node (Some x) h = by_view x x.view h
 
@@ -428,15 +429,15 @@ module _ (key : List ℕ) (t : Trace) (event : Event) (within : IsEvent event) (
         fits = own_agrees a.world kept_next.own v agreed;
       }
 
-  module _ (told new : Keys) (there : is_some (find_key key told) ≡ true) where
+  module _ (n : ℕ) (told new : Keys) (there : is_some (find_key key told) ≡ true) where
     -- what is known once all is covered
     abbrev KnownOn : Type 0
     KnownOn = IsSameBut (key_at key told) (key_at key new) × ((u : ℕ) → 1 ≤ u → IsKnownBy V t.marks u (at_stamp u (key_at key told)).evidence →
         IsKnownBy V (step_marks id.0 was now (letters_of key a.shown.letters) ++ t.marks) u (at_stamp u (key_at key new)).evidence)
 
-    viewed : (v : View) → st.o.node.view ≡ Some v → AreTouched told new st.o.node v r a.shown.letters → KnownOn
+    viewed : (v : View) → st.o.node.view ≡ Some v → AreTouched n told new st.o.node v r a.shown.letters → KnownOn
     viewed v view_is touched =
-        let c : Cover = cover_by r st.o.node in
+        let c : Cover = cover_by n r st.o.node in
         let seen = touched.of_open.seen in
         let all : AreCovered v c told new (touches_of st.o.node v r seen a.shown.letters) =
         are_joined v c told touched.opened new _ _ (are_joined v c told touched.changed touched.opened _ _ touched.of_changed touched.of_open.covered) touched.of_acks in
@@ -453,24 +454,24 @@ module _ (key : List ℕ) (t : Trace) (event : Event) (within : IsEvent event) (
           (at_stamp u (key_at key new)).evidence (subst (λ (ks : Keys). IsKnownBy V t.marks u (at_stamp u (key_at key ks)).evidence) (sym same) k),
     )
 
-    by_view : (o : Option View) → st.o.node.view ≡ o → AreTouchedIn o told new st.o.node r a.shown.letters → KnownOn
+    by_view : (o : Option View) → st.o.node.view ≡ o → AreTouchedIn n o told new st.o.node r a.shown.letters → KnownOn
     by_view None e h = unviewed e h
     by_view (Some v) e h = viewed v e h
 
-    covered_on : AreTouchedAt a.shown.acted told new a.world a.shown.letters → KnownOn
+    covered_on : AreTouchedAt n a.shown.acted told new a.world a.shown.letters → KnownOn
     covered_on h = by_view st.o.node.view refl
-        (subst (λ (o : Option NodeState). AreTouchedBy o told new r a.shown.letters) (found_now t.world event a id st)
-        (subst (λ (b : Option Acted). AreTouchedAt b told new a.world a.shown.letters) (acted_is t.world event a id st) h))
+        (subst (λ (o : Option NodeState). AreTouchedBy n o told new r a.shown.letters) (found_now t.world event a id st)
+        (subst (λ (b : Option Acted). AreTouchedAt n b told new a.world a.shown.letters) (acted_is t.world event a id st) h))
 
-  pub acted_follows : (keys named told new : Keys) (calls : List (List ℕ)) →
-      ((k : List ℕ) (q : Reply) → In a.told (k, q) → numbered q.call.0 calls ≡ Some k) → IsCallKept keys named a.world event a.shown →
-      AreTold named told (λ key. lines_at key calls a.shown.replies) → is_some (find_key key told) ≡ true → AreTouchedAt a.shown.acted told new a.world a.shown.letters →
+  pub acted_follows : (n : ℕ) (keys named told new : Keys) (calls : List (List ℕ)) →
+      ((k : List ℕ) (q : Reply) → In a.told (k, q) → numbered q.call.0 calls ≡ Some k) → IsCallKept n keys named a.world event a.shown →
+      AreTold named told (λ key. lines_at key calls a.shown.replies) → is_some (find_key key told) ≡ true → AreTouchedAt n a.shown.acted told new a.world a.shown.letters →
       IsKeyOf key (key_at key keys) t → IsKeyOf key (key_at key new) next
-  acted_follows keys named told new calls numbers call lines there2 covers is0 =
+  acted_follows n keys named told new calls numbers call lines there2 covers is0 =
       let rs : List Reply = told_at key a.told in
       let same_told : a.told ≡ st.o.told = told_is t.world event a id st in
       let there1 : is_some (find_key key named) ≡ true = sym (lines.there key) ∙ there2 in
-      let given0 = said_at t.world kept.own a id ok_of keys named key event within st named_at call in
+      let given0 = said_at t.world kept.own a id ok_of n keys named key event within st named_at call in
       let given : IsSaid (key_at key keys) (key_at key named) (map reply_line rs) (items_of key event (t.world.calls + 1) was now rs)
       (updates_of id.0 was (items_of key event (t.world.calls + 1) was now rs)) =
       subst (λ (l : List (List ℕ × Reply)). IsSaid (key_at key keys) (key_at key named) (map reply_line (told_at key l))
@@ -480,7 +481,7 @@ module _ (key : List ℕ) (t : Trace) (event : Event) (within : IsEvent event) (
       ap (lines_at key calls) (replies_are t.world event a id st ∙ ap (map (λ t. t.1)) (sym same_told)) ∙ lines_told key calls a.told numbers in
       let told_with : key_at key told ≡ with_lines (key_at key named) (map reply_line rs) =
       lines.each key there1 ∙ ap (with_lines (key_at key named)) replied in
-      let on = covered_on told new there2 covers in
+      let on = covered_on n told new there2 covers in
       followed_by key t event a id was now (key_at key keys) (key_at key named) (key_at key told) (key_at key new) (map reply_line rs) is0 given told_with on.0
       (λ u some.
       let ev_same : (at_stamp u (key_at key told)).evidence ≡ (at_stamp u (key_at key keys)).evidence =
@@ -507,8 +508,8 @@ beside_follows key t event a e kept kept_now old new same is =
     })
 
 -- ---- an event
-module _ (old : KeptState) (event : Event) (may : MayMake old event) (a : Accepted) (made : world_step old.world event ≡ Ok a) (new : KeptState)
-    (kept : IsKeptAfter (with_world old a.world) new event a.shown) where
+module _ (n : ℕ) (old : KeptState) (event : Event) (may : MayMake old event) (a : Accepted) (made : world_step old.world event ≡ Ok a) (new : KeptState)
+    (kept : IsKeptAfter n (with_world old a.world) new event a.shown) where
   abbrev calls : List (List ℕ)
   calls = old.calls ++ called_from (event ∷ [])
 
@@ -518,7 +519,7 @@ module _ (old : KeptState) (event : Event) (may : MayMake old event) (a : Accept
     made_t = ap (λ (w : WorldState). world_step w event) world ∙ made
 
     there2 : is_some (find_key key kept.told) ≡ true
-    there2 = sym (touched_there a.shown.acted kept.told new.keys a.world a.shown.letters kept.covers key) ∙ there
+    there2 = sym (touched_there n a.shown.acted kept.told new.keys a.world a.shown.letters kept.covers key) ∙ there
 
     acted_case : (id : NodeId) → IsStep t.world event a id → is_at event id → IsKept key (traced key t event a) →
         IsKeyOf key (key_at key new.keys) (traced key t event a)
@@ -526,7 +527,7 @@ module _ (old : KeptState) (event : Event) (may : MayMake old event) (a : Accept
         let next = added key t event a id.0 (key_node key (node_at id.0 t.world.processes)) (key_node key (node_at id.0 a.world.processes)) in
         let next_at : traced key t event a ≡ next = ap (traced_by key t event a) (acting_is t.world event a id st) in
         let kept_next : IsKept key next = subst (IsKept key) next_at kept_now in
-        let result = acted_follows key t event may.event a made_t id st named_at kept_t kept_next old.keys kept.named kept.told new.keys calls
+        let result = acted_follows key t event may.event a made_t id st named_at kept_t kept_next n old.keys kept.named kept.told new.keys calls
         (λ k q h. may.told a made k q h) kept.call kept.replies there2 kept.covers is in
         subst (IsKeyOf key (key_at key new.keys)) (sym next_at) (subst (IsKeyOf key (key_at key new.keys))
         (sym (next_is key t event may.event a made_t id st named_at kept_t kept_next)) result)
@@ -535,10 +536,10 @@ module _ (old : KeptState) (event : Event) (may : MayMake old event) (a : Accept
     none_case b kept_now =
         let unacted : a.shown.acted ≡ None = by_option a.shown.acted b.acting in
         let there1 : is_some (find_key key kept.named) ≡ true = sym (kept.replies.there key) ∙ there2 in
-        let named : kept.named ≡ old.keys = uncalled old.keys kept.named a.world event a.shown b.no_call kept.call in
+        let named : kept.named ≡ old.keys = uncalled n old.keys kept.named a.world event a.shown b.no_call kept.call in
         let told : key_at key kept.told ≡ key_at key kept.named =
         kept.replies.each key there1 ∙ ap (λ (rs : List Reply). with_lines (key_at key kept.named) (lines_at key calls rs)) b.replies ∙ with_none (key_at key kept.named) in
-        let covers : new.keys ≡ kept.told = subst (λ (o : Option Acted). AreTouchedAt o kept.told new.keys a.world a.shown.letters) unacted kept.covers in
+        let covers : new.keys ≡ kept.told = subst (λ (o : Option Acted). AreTouchedAt n o kept.told new.keys a.world a.shown.letters) unacted kept.covers in
         let same : key_at key new.keys ≡ key_at key old.keys = ap (key_at key) covers ∙ told ∙ ap (key_at key) named in
         let next_at : traced key t event a ≡ traced_by key t event a None = ap (traced_by key t event a) b.acting in
         subst (IsKeyOf key (key_at key new.keys)) (sym next_at)
@@ -555,13 +556,14 @@ module _ (old : KeptState) (event : Event) (may : MayMake old event) (a : Accept
         by_way (inl s) = acted_case s.0 s.1 s.2 kept_now
         by_way (inr b) = none_case b kept_now
 
-  pub is_made : IsMade old new event a
+  pub is_made : IsMade n old new event a
   is_made = record {
     made = made;
     world = kept.world;
     calls = kept.calls;
-    keys = touched_keys a.shown.acted kept.told new.keys a.world a.shown.letters kept.covers ∙ kept.replies.keys ∙ call_keys old.keys kept.named a.world event a.shown kept.call;
+    keys = touched_keys n a.shown.acted kept.told new.keys a.world a.shown.letters kept.covers ∙ kept.replies.keys ∙ call_keys n old.keys kept.named a.world event a.shown kept.call;
     followed = λ key there t world kept_t kept_now is. followed key there t world kept_t is kept_now;
+    goes = λ key there. goes_on n old.keys kept.named kept.told new.keys a.world event a.shown calls kept.call kept.replies kept.covers key (sym (touched_there n a.shown.acted kept.told new.keys a.world a.shown.letters kept.covers key) ∙ there);
   }
 
 -- ---- what is known of what an event shows

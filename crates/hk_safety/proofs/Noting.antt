@@ -2,6 +2,7 @@
 use Rattle.std.proofs.Common.{◌≡◌, ◌≢◌, ◌⊎◌, ℕ, List, [], ◌∷◌, ◌++◌, map, append-nil, append_assoc, Bool, true, false, cond, not, Option, Some, None, refl, sym, ap, subst, ◌∙◌, inl, inr, eqb}
 use Rattle.std.specs.Option.{option_map}
 use Rattle.std.proofs.lemmas.Bool.{false≢true, eq-eqb, eqb-true, ne_eqb}
+use Rattle.std.proofs.lemmas.List.{map-append}
 use Rattle.hk_base.specs.declared.call.CallNo.{CallNo}
 use Rattle.hk_base.specs.declared.call.Op.{Op}
 use Rattle.hk_base.specs.declared.call.Reply.{Reply}
@@ -19,7 +20,8 @@ use Rattle.hk_effects.specs.View.{is_same_key, told_at, reply_item, look_item, c
 use Rattle.hk_effects.proofs.Replies.{replies_begin_none}
 use Rattle.hk_register.specs.Machine.{In}
 use Rattle.hk_safety.specs.declared.key_run.AtStamp.{AtStamp}
-use Rattle.hk_safety.specs.Kept.{KeyState, at_stamp, looks_at, call_of, update_at}
+use Rattle.hk_safety.specs.declared.key_run.Look.{Look}
+use Rattle.hk_safety.specs.Kept.{KeyState, at_stamp, looks_at, calls_in, call_of, update_at}
 use Rattle.hk_safety.specs.Grown.{Stamps, stamp_in, IsBegunAt, IsLookedAt, IsTurned, is_answer}
 use Rattle.hk_safety.specs.Shows.{reply_line, line_at, lines_at}
 use Rattle.hk_safety.proofs.Acting.{IsLone}
@@ -71,7 +73,7 @@ begun_at s us old = elim (update_at s us) [ None ↦ old | Some call ↦ Some ca
 pub record IsSaid (old new : KeyState) (lines : List Line) (said : List Item) (us : List Update) : Type 0 where
   pub items : new.items ++ lines ≡ old.items ++ events_of said
   pub update : (s : ℕ) → (at_stamp s new).update ≡ begun_at s us (at_stamp s old).update
-  pub looks : (s : ℕ) → (at_stamp s new).looks ≡ (at_stamp s old).looks ++ looks_at s said
+  pub looks : (s : ℕ) → calls_in (at_stamp s new).looks ≡ calls_in (at_stamp s old).looks ++ looks_at s said
   pub evidence : (s : ℕ) → (at_stamp s new).evidence ≡ (at_stamp s old).evidence
 
 -- replies alone
@@ -81,8 +83,8 @@ said_quiet old new id z s rs lone same = record {
   items = ap (λ (k : KeyState). k.items ++ map reply_line rs) same
       ∙ ap (λ (l : List Line). old.items ++ l) (sym (ap events_of (sym (append-nil (map (reply_item s) rs))) ∙ said_behind s rs [] lone));
   update = λ t. ap (λ (k : KeyState). (at_stamp t k).update) same ∙ ap (λ (us : List Update). begun_at t us (at_stamp t old).update) (sym none);
-  looks = λ t. ap (λ (k : KeyState). (at_stamp t k).looks) same ∙ sym (append-nil (at_stamp t old).looks)
-      ∙ ap (λ (l : List CallNo). (at_stamp t old).looks ++ l) (sym (ap (looks_at t) (sym (append-nil (map (reply_item s) rs))) ∙ replies_found_none t s rs []));
+  looks = λ t. ap (λ (k : KeyState). calls_in (at_stamp t k).looks) same ∙ sym (append-nil (calls_in (at_stamp t old).looks))
+      ∙ ap (λ (l : List CallNo). calls_in (at_stamp t old).looks ++ l) (sym (ap (looks_at t) (sym (append-nil (map (reply_item s) rs))) ∙ replies_found_none t s rs []));
   evidence = λ t. ap (λ (k : KeyState). (at_stamp t k).evidence) same;
 }
   where
@@ -114,8 +116,8 @@ said_begun old new id z s call op rs lone items begun = record {
       ∙ ap (λ (l : List Line). old.items ++ l) (sym (said_behind s rs (Called call.0 s op ∷ []) lone));
   update = λ t. by_stamp t (eqb s t) refl ∙ ap (λ (us : List Update). begun_at t us (at_stamp t old).update)
       (sym (replies_begin_none id z s rs (Called call.0 s op ∷ [])));
-  looks = λ t. by_looks t (eqb t s) refl ∙ sym (append-nil (at_stamp t old).looks)
-      ∙ ap (λ (l : List CallNo). (at_stamp t old).looks ++ l) (sym (replies_found_none t s rs (Called call.0 s op ∷ [])));
+  looks = λ t. ap calls_in (by_looks t (eqb t s) refl) ∙ sym (append-nil (calls_in (at_stamp t old).looks))
+      ∙ ap (λ (l : List CallNo). calls_in (at_stamp t old).looks ++ l) (sym (replies_found_none t s rs (Called call.0 s op ∷ [])));
   evidence = λ t. by_evidence t (eqb t s) refl;
 }
   where
@@ -151,12 +153,12 @@ module _ (old new : KeyState) (id : ℕ) (z was : Node) (call : CallNo) (op : Op
   said_missed same = record {
     items = said_item (Missed call.0 op r.answer) refl;
     update = λ t. ap (λ (l : Stamps). (stamp_in t l).update) same;
-    looks = λ t. ap (λ (l : Stamps). (stamp_in t l).looks) same ∙ sym (append-nil (at_stamp t old).looks);
+    looks = λ t. ap (λ (l : Stamps). calls_in (stamp_in t l).looks) same ∙ sym (append-nil (calls_in (at_stamp t old).looks));
     evidence = λ t. ap (λ (l : Stamps). (stamp_in t l).evidence) same;
   }
 
-  said_looked : IsLookedAt old.stamps new.stamps was.stamp call → IsSaid old new (reply_line r ∷ []) (Looked call.0 was.stamp op was.content r.answer ∷ []) []
-  said_looked looked = record {
+  said_looked : (n : ℕ) → IsLookedAt old.stamps new.stamps was.stamp (record { call = call; event = n }) → IsSaid old new (reply_line r ∷ []) (Looked call.0 was.stamp op was.content r.answer ∷ []) []
+  said_looked n looked = record {
     items = said_item (Looked call.0 was.stamp op was.content r.answer) refl;
     update = λ t. by_update t (eqb t was.stamp) refl;
     looks = λ t. by_looks t (eqb was.stamp t) refl;
@@ -173,46 +175,47 @@ module _ (old new : KeyState) (id : ℕ) (z was : Node) (call : CallNo) (op : Op
           (ap (λ (a : AtStamp). a.evidence) looked.here)
       by_evidence t false e = ap (λ (a : AtStamp). a.evidence) (looked.there t e)
 
-      by_looks : (t : ℕ) (b : Bool) → eqb was.stamp t ≡ b → (at_stamp t new).looks ≡ (at_stamp t old).looks ++ ([] ++ cond b (call ∷ []) [])
-      by_looks t true e = subst (λ (u : ℕ). (at_stamp u new).looks ≡ (at_stamp u old).looks ++ call ∷ []) (eqb-true was.stamp t e)
-          (ap (λ (a : AtStamp). a.looks) looked.here)
+      by_looks : (t : ℕ) (b : Bool) → eqb was.stamp t ≡ b → calls_in (at_stamp t new).looks ≡ calls_in (at_stamp t old).looks ++ ([] ++ cond b (call ∷ []) [])
+      by_looks t true e = subst (λ (u : ℕ). calls_in (at_stamp u new).looks ≡ calls_in (at_stamp u old).looks ++ call ∷ []) (eqb-true was.stamp t e)
+          (ap (λ (a : AtStamp). calls_in a.looks) looked.here
+          ∙ map-append (λ (l : Look). l.call) (at_stamp was.stamp old).looks (record { call = call; event = n } ∷ []))
       by_looks t false e =
-          ap (λ (a : AtStamp). a.looks) (looked.there t (ne_eqb t was.stamp (λ (is : t ≡ was.stamp). false≢true (sym e ∙ eq-eqb was.stamp t (sym is)))))
-          ∙ sym (append-nil (at_stamp t old).looks)
+          ap (λ (a : AtStamp). calls_in a.looks) (looked.there t (ne_eqb t was.stamp (λ (is : t ≡ was.stamp). false≢true (sym e ∙ eq-eqb was.stamp t (sym is)))))
+          ∙ sym (append-nil (calls_in (at_stamp t old).looks))
 
   -- by whether its answer is one
-  pub said_answered : IsTurned false (not (is_void (Some r.answer))) old.stamps new.stamps was.stamp call →
+  pub said_answered : (n : ℕ) → IsTurned false (not (is_void (Some r.answer))) old.stamps new.stamps was.stamp call n →
       IsSaid old new (reply_line r ∷ []) (look_item call.0 op was r ∷ []) (updates_of id z (look_item call.0 op was r ∷ []))
-  said_answered turned = by_void (is_void (Some r.answer)) turned
+  said_answered n turned = by_void (is_void (Some r.answer)) turned
     where
-      by_void : (b : Bool) → IsTurned false (not b) old.stamps new.stamps was.stamp call →
+      by_void : (b : Bool) → IsTurned false (not b) old.stamps new.stamps was.stamp call n →
           IsSaid old new (reply_line r ∷ []) (cond b (Missed call.0 op r.answer) (Looked call.0 was.stamp op was.content r.answer) ∷ [])
           (updates_of id z (cond b (Missed call.0 op r.answer) (Looked call.0 was.stamp op was.content r.answer) ∷ []))
       by_void true turned = said_missed turned
-      by_void false turned = said_looked turned
+      by_void false turned = said_looked n turned
 
 -- what a call is told: a reply of its own, or nothing where its row has a new stamp
 abbrev pub IsToldOf : List Reply → CallNo → Node → Node → Type 0
 IsToldOf rs call was now = ((r : Reply) × (rs ≡ r ∷ []) × (r.call ≡ call)) ⊎ ((rs ≡ []) × (now.stamp ≢ was.stamp))
 
-pub said_call : (old new : KeyState) (id : ℕ) (was now : Node) (call : CallNo) (op : Op) (rs : List Reply) → new.items ≡ old.items ++ L.Call call op ∷ [] →
-    IsTurned (not (eqb now.stamp was.stamp)) (is_answer rs) old.stamps new.stamps now.stamp call → IsToldOf rs call was now →
+pub said_call : (old new : KeyState) (id : ℕ) (was now : Node) (n : ℕ) (call : CallNo) (op : Op) (rs : List Reply) → new.items ≡ old.items ++ L.Call call op ∷ [] →
+    IsTurned (not (eqb now.stamp was.stamp)) (is_answer rs) old.stamps new.stamps now.stamp call n → IsToldOf rs call was now →
     IsSaid old new (map reply_line rs) (call_items (eqb now.stamp was.stamp) call.0 op was now rs)
     (updates_of id was (call_items (eqb now.stamp was.stamp) call.0 op was now rs))
-said_call old new id was now call op rs items turned told = by_same (eqb now.stamp was.stamp) refl turned told
+said_call old new id was now n call op rs items turned told = by_same (eqb now.stamp was.stamp) refl turned told
   where
-    looked : (r : Reply) → r.call ≡ call → now.stamp ≡ was.stamp → IsTurned false (not (is_void (Some r.answer))) old.stamps new.stamps now.stamp call →
+    looked : (r : Reply) → r.call ≡ call → now.stamp ≡ was.stamp → IsTurned false (not (is_void (Some r.answer))) old.stamps new.stamps now.stamp call n →
         IsSaid old new (map reply_line (r ∷ [])) (call_items true call.0 op was now (r ∷ [])) (updates_of id was (call_items true call.0 op was now (r ∷ [])))
-    looked r own same turned = said_answered old new id was was call op r own items
-        (subst (λ (s : ℕ). IsTurned false (not (is_void (Some r.answer))) old.stamps new.stamps s call) same turned)
+    looked r own same turned = said_answered old new id was was call op r own items n
+        (subst (λ (s : ℕ). IsTurned false (not (is_void (Some r.answer))) old.stamps new.stamps s call n) same turned)
 
-    by_same : (b : Bool) → eqb now.stamp was.stamp ≡ b → IsTurned (not b) (is_answer rs) old.stamps new.stamps now.stamp call → IsToldOf rs call was now →
+    by_same : (b : Bool) → eqb now.stamp was.stamp ≡ b → IsTurned (not b) (is_answer rs) old.stamps new.stamps now.stamp call n → IsToldOf rs call was now →
         IsSaid old new (map reply_line rs) (call_items b call.0 op was now rs) (updates_of id was (call_items b call.0 op was now rs))
     by_same true e turned (inl t) =
         subst (λ (l : List Reply). IsSaid old new (map reply_line l) (call_items true call.0 op was now l)
         (updates_of id was (call_items true call.0 op was now l))) (sym t.1)
         (looked t.0 t.2 (eqb-true now.stamp was.stamp e)
-        (subst (λ (l : List Reply). IsTurned false (is_answer l) old.stamps new.stamps now.stamp call) t.1 turned))
+        (subst (λ (l : List Reply). IsTurned false (is_answer l) old.stamps new.stamps now.stamp call n) t.1 turned))
     by_same true e turned (inr q) = absurd (q.1 (eqb-true now.stamp was.stamp e))
     by_same false e turned (inl t) = said_begun old new id was now.stamp call op rs (subst IsLone (sym t.1) tt) items turned
     by_same false e turned (inr q) = said_begun old new id was now.stamp call op rs (subst IsLone (sym q.0) tt) items turned

@@ -1,5 +1,5 @@
 -- What is kept goes on with a run.
-use Rattle.std.proofs.Common.{◌≡◌, ℕ, Bool, true, false, List, [], ◌∷◌, ◌++◌, ◌∙◌, sym, refl, ap, subst, inl, inr, Option, Some, None, Ok, unwrap_or}
+use Rattle.std.proofs.Common.{◌≡◌, ℕ, Bool, true, false, ◌+◌, length, List, [], ◌∷◌, ◌++◌, ◌∙◌, sym, refl, ap, subst, inl, inr, Option, Some, None, Ok, unwrap_or}
 use Rattle.std.specs.Prelude.{IsSome, is_some}
 use Rattle.std.specs.Map.{keys_of}
 use Rattle.std.proofs.lemmas.Bool.{false≢true}
@@ -15,7 +15,10 @@ use Rattle.hk_effects.specs.Runs.{IsKept, RunsKeepParts}
 use Rattle.hk_safety.specs.Run.{RunState, world_of, IsRun, trace_of, with_named}
 use Rattle.hk_safety.specs.Kept.{KeyState, Keys, KeptState, IsKeyOf, IsKeptOf, first_key, find_key, key_at, called_from}
 use Rattle.hk_safety.specs.Noted.{IsMade, IsMadeBy}
+use Rattle.hk_safety.specs.Grown.{GoesAt}
 use Rattle.hk_safety.specs.Push.{with_event}
+use Rattle.hk_safety.proofs.Events.{events_next}
+use Rattle.hk_safety.proofs.Since.{goes_same}
 use Rattle.hk_safety.proofs.Named.{called_then, named_then, named_stays, key_there, found_of, of_found}
 use Rattle.hk_safety.proofs.Traces.{world_then, trace_then, trace_of_world, run_kept, run_then}
 use Rattle.hk_safety.proofs.Unnamed.{unnamed_stays}
@@ -38,8 +41,8 @@ not_found : (o : Option KeyState) → (IsSome o → ⊥) → is_some o ≡ false
 not_found None none = refl
 not_found (Some k) none = absurd (none refl)
 
-module _ (runs : RunsKeepParts) (old new : KeptState) (run : RunState) (event : Event) (a : Accepted) (was : IsKeptOf old run) (ok : IsRun run)
-    (event_ok : IsEvent event) (made : IsMade old new event a) where
+module _ (runs : RunsKeepParts) (n : ℕ) (old new : KeptState) (run : RunState) (event : Event) (a : Accepted) (counted : n ≡ length run.events + 1) (was : IsKeptOf old run) (ok : IsRun run)
+    (event_ok : IsEvent event) (made : IsMade n old new event a) where
   pub accepts : world_step (world_of run) event ≡ Ok a
   accepts = subst (λ (w : WorldState). world_step w event ≡ Ok a) was.world made.made
 
@@ -73,20 +76,29 @@ module _ (runs : RunsKeepParts) (old new : KeptState) (run : RunState) (event : 
       by_found true e = found_key key e
       by_found false e = unfound_key key e
 
+  -- ---- its events
+  goes_on : (key : List ℕ) (b : Bool) → is_some (find_key key new.keys) ≡ b → GoesAt (length run.events + 1) (key_at key old.keys) (key_at key new.keys)
+  goes_on key true e = subst (λ (m : ℕ). GoesAt m (key_at key old.keys) (key_at key new.keys)) counted (made.goes key e)
+  goes_on key false e = goes_same (length run.events + 1) (key_at key old.keys) (key_at key new.keys)
+      (none_at key new.keys e ∙ sym (none_at key old.keys (not_found (find_key key old.keys) (λ found. false≢true (sym e ∙ found_of new.keys key
+      (subst (λ (l : List (List ℕ)). In l key) (sym made.keys) (named_stays event (keys_of old.keys) key (of_found old.keys key found))))))))
+
   pub kept_pushed : IsKeptOf new (with_event run event)
   kept_pushed = record {
     world = made.world ∙ sym (world_then run event a accepts);
     calls = made.calls ∙ (ap (λ (l : List (List ℕ)). l ++ called_from (event ∷ [])) was.calls ∙ sym (called_then run event));
     keys = made.keys ∙ (ap (with_named event) was.keys ∙ sym (named_then run event));
     each = each_key;
+    events = λ key. events_next run key event a accepts (run_kept runs key (with_event run event) run_pushed) (key_at key old.keys) (key_at key new.keys) (was.each key) (each_key key)
+        (goes_on key (is_some (find_key key new.keys)) refl) (was.events key);
   }
 
 -- ---- what the run's event shows
-pub made_pushed : RunsKeepParts → (old new : KeptState) (run : RunState) (event : Event) (shown : Shown) → IsKeptOf old run → IsRun run → IsEvent event →
-    IsMadeBy (Ok shown) old new event →
+pub made_pushed : RunsKeepParts → (n : ℕ) (old new : KeptState) (run : RunState) (event : Event) (shown : Shown) → n ≡ length run.events + 1 → IsKeptOf old run → IsRun run → IsEvent event →
+    IsMadeBy n (Ok shown) old new event →
     ((a : Accepted) × (world_step (world_of run) event ≡ Ok a) × (a.shown ≡ shown)) × IsRun (with_event run event) × IsKeptOf new (with_event run event)
-made_pushed runs old new run event shown was ok event_ok made = (
-  (made.0, accepts runs old new run event made.0 was ok event_ok made.2, made.1),
-  run_pushed runs old new run event made.0 was ok event_ok made.2,
-  kept_pushed runs old new run event made.0 was ok event_ok made.2,
+made_pushed runs n old new run event shown counted was ok event_ok made = (
+  (made.0, accepts runs n old new run event made.0 counted was ok event_ok made.2, made.1),
+  run_pushed runs n old new run event made.0 counted was ok event_ok made.2,
+  kept_pushed runs n old new run event made.0 counted was ok event_ok made.2,
 )

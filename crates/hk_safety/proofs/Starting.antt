@@ -11,6 +11,8 @@ use Rattle.hk_effects.specs.Runs.{start_trace}
 use Rattle.hk_safety.specs.Run.{RunState, IsRun}
 use Rattle.hk_safety.specs.Kept.{KeptState, IsKeyOf, IsKeptOf, first_key}
 use Rattle.hk_safety.proofs.Empty.{key_of_empty}
+pub use Rattle.hk_safety.proofs.Events.{no_events}
+use Rattle.hk_safety.proofs.Events.{events_start}
 
 start_stamp : (ids : List NodeId) (m : Mark) → In (map (λ id. row_mark id.0 founder) ids) m → m.stamp ≡ 0
 start_stamp [] m h = absurd h
@@ -20,9 +22,6 @@ start_stamp (id ∷ ids) m h = ⊎_elim (λ (e : m ≡ row_mark id.0 founder). a
 pub starts_empty : (key : List ℕ) (h : Header) → IsKeyOf key first_key (start_trace h)
 starts_empty key h = key_of_empty key (start_trace h) (record { history = refl; begun = refl; marks = start_stamp (counted 0 h.nodes) })
 
-abbrev pub no_events : Header → RunState
-no_events h = record { header = h; events = [] }
-
 abbrev pub first_kept : Header → KeptState
 first_kept h = record { world = start h; keys = []; calls = [] }
 
@@ -30,4 +29,4 @@ pub run_starts : (h : Header) → IsHeader h → IsRun (no_events h)
 run_starts h is = record { header = is; accepted = tt }
 
 pub kept_starts : (h : Header) → IsKeptOf (first_kept h) (no_events h)
-kept_starts h = record { world = refl; calls = refl; keys = refl; each = λ key. starts_empty key h }
+kept_starts h = record { world = refl; calls = refl; keys = refl; each = λ key. starts_empty key h; events = events_start h }

@@ -665,7 +665,7 @@ module _ (V : ℕ → List ℕ) (key : List ℕ) (st new : State) (id : ℕ) (ac
             (λ (b : In st.marks m). (m, under_itself m, b)) (in_either steps st.marks m g)
 
     untouched_known : (ev : Evidence) → (In touches (key, s) → ⊥) → IsKnownBy V st.marks s ev → IsKnownBy V all_now s ev
-    untouched_known E.Complete none k = more_complete V st.marks all_now s old_less k
+    untouched_known (E.Complete event) none k = more_complete V st.marks all_now s old_less k
     untouched_known (Covers groups) none k = same_known V st.marks all_now s (Covers groups) (untouched_same none k.0) k
 
     pub seen_known : (ev : Evidence) → IsKnownBy V (with_mark (is_in s (tags_at key touches)) own st.marks) s ev → IsKnownBy V new.marks s ev

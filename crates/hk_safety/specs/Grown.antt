@@ -1,6 +1,6 @@
 -- What each part of the code adds to what is kept.
 use Rattle.std.specs.Prelude.{◌≡◌, ℕ, ◌≤◌, List, [], ◌∷◌, ◌++◌, true, false, Bool, not, ◌==◌, ◌&&◌, ◌||◌, nat_lt, if◌then◌else◌}
-use Rattle.std.specs.Prelude.{Option, None, Some, unwrap_or, is_some, IfSome, Result, Ok, Err}
+use Rattle.std.specs.Prelude.{Option, None, Some, unwrap_or, is_some, IfSome, Result, Ok, Err, ⊤}
 use Rattle.std.specs.List.{find, flat_map, list_all, AllByRecursion}
 use Rattle.std.specs.Ordering.{nat_cmp}
 use Rattle.std.specs.BTreeMap.{is_at}
@@ -40,6 +40,7 @@ use Rattle.hk_safety.specs.declared.evidence.Evidence.{Evidence}
 use Rattle.hk_safety.specs.declared.evidence.Evidence.TheVariants.{Covers}
 use Rattle.hk_safety.specs.declared.evidence.Evidence.TheVariants as E
 use Rattle.hk_safety.specs.declared.key_run.AtStamp.{AtStamp}
+use Rattle.hk_safety.specs.declared.key_run.Look.{Look}
 use Rattle.hk_safety.specs.declared.key_run.Turn.{Turn}
 use Rattle.hk_safety.specs.declared.kept.Unmade.{Unmade}
 use Rattle.hk_safety.specs.declared.kept.Unmade.TheVariants.{Memory, Refused, Lost}
@@ -68,8 +69,8 @@ completes groups v = is_whole (group_at v.epoch groups) v.members
 
 -- what is known once a node has covered the stamp in the view's epoch
 abbrev pub IsShown : Evidence → Evidence → View → Cover → Type 0
-IsShown E.Complete new v c = new ≡ E.Complete
-IsShown (Covers old) E.Complete v c = (put : Groups) × IsGroupPut old put v.epoch c × (completes put v ≡ true)
+IsShown (E.Complete event) new v c = new ≡ E.Complete event
+IsShown (Covers old) (E.Complete event) v c = (put : Groups) × IsGroupPut old put v.epoch c × (completes put v ≡ true) × (event ≡ c.event)
 IsShown (Covers old) (Covers new) v c = IsGroupPut old new v.epoch c × (completes new v ≡ false)
 
 -- ---- what evidence tells of some marks
@@ -78,7 +79,7 @@ abbrev pub CompleteBy : (ℕ → List ℕ) → List Mark → ℕ → Type 0
 CompleteBy V marks s = (e : ℕ) × (ready_in marks s e ≡ true) × (list_all (λ n. covers_in marks s n e) (V e) ≡ true)
 
 abbrev pub IsKnownBy : (ℕ → List ℕ) → List Mark → ℕ → Evidence → Type 0
-IsKnownBy V marks s E.Complete = CompleteBy V marks s
+IsKnownBy V marks s (E.Complete event) = CompleteBy V marks s
 IsKnownBy V marks s (Covers groups) = (CompleteBy V marks s → ⊥) × AreToldBy marks s groups
 
 abbrev pub mark_by : Cover → View → ℕ → Mark
@@ -86,6 +87,23 @@ mark_by c v s = record { who = c.node.0; epoch = v.epoch; stamp = s; exact = fal
 
 abbrev pub with_mark : Bool → Mark → List Mark → List Mark
 with_mark b m marks = if b then m ∷ marks else marks
+
+-- ---- what event n makes of the events that are kept
+-- what is complete stays so, and what becomes complete does so at this event
+abbrev pub IsSinceThen : ℕ → Evidence → Evidence → Type 0
+IsSinceThen n (E.Complete event) new = new ≡ E.Complete event
+IsSinceThen n (Covers old) (E.Complete event) = event ≡ n
+IsSinceThen n (Covers old) (Covers new) = ⊤
+
+-- looks more, which were answered at this event
+pub record AreLooked (n : ℕ) (old new : List Look) : Type 0 where
+  pub more : List Look
+  pub same : new ≡ old ++ more
+  pub here : (l : Look) → In more l → l.event ≡ n
+
+pub record GoesAt (n : ℕ) (old new : KeyState) : Type 0 where
+  pub since : (s : ℕ) → IsSinceThen n (at_stamp s old).evidence (at_stamp s new).evidence
+  pub looked : (s : ℕ) → AreLooked n (at_stamp s old).looks (at_stamp s new).looks
 
 -- ---- stamps
 abbrev pub Stamps : Type 0
@@ -111,8 +129,8 @@ pub record IsBegunAt (old new : Stamps) (s : ℕ) (call : CallNo) : Type 0 where
   pub there : OthersStay s old new
 
 -- a call that found the stamp, behind the others
-pub record IsLookedAt (old new : Stamps) (s : ℕ) (call : CallNo) : Type 0 where
-  pub here : stamp_in s new ≡ record (stamp_in s old) { looks = (stamp_in s old).looks ++ call ∷ [] }
+pub record IsLookedAt (old new : Stamps) (s : ℕ) (look : Look) : Type 0 where
+  pub here : stamp_in s new ≡ record (stamp_in s old) { looks = (stamp_in s old).looks ++ look ∷ [] }
   pub there : OthersStay s old new
 
 -- ---- a key's covers
@@ -124,6 +142,7 @@ pub record IsCovered (v : View) (c : Cover) (old new : KeyState) (tags : List �
   pub looks : (s : ℕ) → (at_stamp s new).looks ≡ (at_stamp s old).looks
   pub known : (V : ℕ → List ℕ) → member_numbers v.members ≡ V v.epoch → (marks : List Mark) (s : ℕ) → 1 ≤ s →
       IsKnownBy V marks s (at_stamp s old).evidence → IsKnownBy V (with_mark (is_in s tags) (mark_by c v s) marks) s (at_stamp s new).evidence
+  pub since : (s : ℕ) → IsSinceThen c.event (at_stamp s old).evidence (at_stamp s new).evidence
 
 -- ---- the covers of all keys: a touch is a key and the tag of a stamp
 abbrev pub Touch : Type 0
@@ -180,28 +199,28 @@ pub record AreOpenCovered (v : View) (c : Cover) (old new : Keys) (x : NodeState
   pub all : moved ≡ true → (key : List ℕ) → is_open key x ≡ true → In seen key
   pub covered : AreCovered v c old new (flat_map (touches_now x) seen)
 
-abbrev pub cover_by : Acted → NodeState → Cover
-cover_by acted x = record { node = acted.node; ready = x.ready }
+abbrev pub cover_by : ℕ → Acted → NodeState → Cover
+cover_by n acted x = record { node = acted.node; ready = x.ready; event = n }
 
--- all that an event covers, one after the other
-pub record AreTouched (old new : Keys) (x : NodeState) (v : View) (acted : Acted) (letters : List Wire) : Type 0 where
+-- all that event n covers, one after the other
+pub record AreTouched (n : ℕ) (old new : Keys) (x : NodeState) (v : View) (acted : Acted) (letters : List Wire) : Type 0 where
   pub changed : Keys
   pub opened : Keys
-  pub of_changed : AreCovered v (cover_by acted x) old changed (flat_map (changed_touches x (has_risen acted v)) acted.report.rows)
-  pub of_open : AreOpenCovered v (cover_by acted x) changed opened x (has_moved acted v)
-  pub of_acks : AreCovered v (cover_by acted x) opened new (flat_map letter_touches letters)
+  pub of_changed : AreCovered v (cover_by n acted x) old changed (flat_map (changed_touches x (has_risen acted v)) acted.report.rows)
+  pub of_open : AreOpenCovered v (cover_by n acted x) changed opened x (has_moved acted v)
+  pub of_acks : AreCovered v (cover_by n acted x) opened new (flat_map letter_touches letters)
 
-abbrev pub AreTouchedIn : Option View → Keys → Keys → NodeState → Acted → List Wire → Type 0
-AreTouchedIn None old new x acted letters = new ≡ old
-AreTouchedIn (Some v) old new x acted letters = AreTouched old new x v acted letters
+abbrev pub AreTouchedIn : ℕ → Option View → Keys → Keys → NodeState → Acted → List Wire → Type 0
+AreTouchedIn n None old new x acted letters = new ≡ old
+AreTouchedIn n (Some v) old new x acted letters = AreTouched n old new x v acted letters
 
-abbrev pub AreTouchedBy : Option NodeState → Keys → Keys → Acted → List Wire → Type 0
-AreTouchedBy None old new acted letters = new ≡ old
-AreTouchedBy (Some x) old new acted letters = AreTouchedIn x.view old new x acted letters
+abbrev pub AreTouchedBy : ℕ → Option NodeState → Keys → Keys → Acted → List Wire → Type 0
+AreTouchedBy n None old new acted letters = new ≡ old
+AreTouchedBy n (Some x) old new acted letters = AreTouchedIn n x.view old new x acted letters
 
-abbrev pub AreTouchedAt : Option Acted → Keys → Keys → WorldState → List Wire → Type 0
-AreTouchedAt None old new w letters = new ≡ old
-AreTouchedAt (Some acted) old new w letters = AreTouchedBy (node_at acted.node.0 w.processes) old new acted letters
+abbrev pub AreTouchedAt : ℕ → Option Acted → Keys → Keys → WorldState → List Wire → Type 0
+AreTouchedAt n None old new w letters = new ≡ old
+AreTouchedAt n (Some acted) old new w letters = AreTouchedBy n (node_at acted.node.0 w.processes) old new acted letters
 
 -- the stamps of what waited in the former rows are within the limit
 abbrev pub IsFormer : Former → Type 0
@@ -212,14 +231,14 @@ AreFormer acted = IfSome acted (λ a. AllByRecursion IsFormer a.report.rows)
 
 -- ---- items
 -- by whether the call begins an update, and whether it is answered
-abbrev pub IsTurned : Bool → Bool → Stamps → Stamps → ℕ → CallNo → Type 0
-IsTurned true answered old new s call = IsBegunAt old new s call
-IsTurned false true old new s call = IsLookedAt old new s call
-IsTurned false false old new s call = new ≡ old
+abbrev pub IsTurned : Bool → Bool → Stamps → Stamps → ℕ → CallNo → ℕ → Type 0
+IsTurned true answered old new s call n = IsBegunAt old new s call
+IsTurned false true old new s call n = IsLookedAt old new s (record { call = call; event = n })
+IsTurned false false old new s call n = new ≡ old
 
 pub record IsTaken (old new : KeyState) (turn : Turn) (op : Op) : Type 0 where
   pub items : new.items ≡ old.items ++ L.Call turn.call op ∷ []
-  pub stamps : IsTurned turn.began turn.answered old.stamps new.stamps turn.tag turn.call
+  pub stamps : IsTurned turn.began turn.answered old.stamps new.stamps turn.tag turn.call turn.event
 
 -- the call stands in the items of its key, which is kept from then on
 pub record IsNamed (old new : Keys) (key : List ℕ) (turn : Turn) (op : Op) : Type 0 where
@@ -256,27 +275,28 @@ abbrev pub is_new : Option Acted → List ℕ → ℕ → Bool
 is_new None key tag = false
 is_new (Some acted) key tag = is_new_in (find (λ f. is_same_key key f.key) acted.report.rows) tag
 
-abbrev pub turn_of : WorldState → NodeId → List ℕ → Shown → Turn
-turn_of w id key shown = record {
+abbrev pub turn_of : ℕ → WorldState → NodeId → List ℕ → Shown → Turn
+turn_of n w id key shown = record {
+  event = n;
   call = record { 0 = w.calls };
   began = is_new shown.acted key (key_node key (node_at id.0 w.processes)).stamp;
   tag = (key_node key (node_at id.0 w.processes)).stamp;
   answered = is_answer shown.replies;
 }
 
-abbrev pub IsCallKept : Keys → Keys → WorldState → Event → Shown → Type 0
-IsCallKept old new w (Call id key op) shown = IsNamed old new key (turn_of w id key shown) op
-IsCallKept old new w event shown = new ≡ old
+abbrev pub IsCallKept : ℕ → Keys → Keys → WorldState → Event → Shown → Type 0
+IsCallKept n old new w (Call id key op) shown = IsNamed old new key (turn_of n w id key shown) op
+IsCallKept n old new w event shown = new ≡ old
 
--- its call, then its replies, then its covers
-pub record IsKeptAfter (old new : KeptState) (event : Event) (shown : Shown) : Type 0 where
+-- of event n its call, then its replies, then its covers
+pub record IsKeptAfter (n : ℕ) (old new : KeptState) (event : Event) (shown : Shown) : Type 0 where
   pub world : new.world ≡ old.world
   pub calls : new.calls ≡ old.calls ++ called_from (event ∷ [])
   pub named : Keys
   pub told : Keys
-  pub call : IsCallKept old.keys named old.world event shown
+  pub call : IsCallKept n old.keys named old.world event shown
   pub replies : AreTold named told (λ key. lines_at key (old.calls ++ called_from (event ∷ [])) shown.replies)
-  pub covers : AreTouchedAt shown.acted told new.keys old.world shown.letters
+  pub covers : AreTouchedAt n shown.acted told new.keys old.world shown.letters
 
 -- what the world makes of an event
 abbrev pub IsStepMade : Result Shown Unmade → WorldState → WorldState → Event → Type 0

@@ -1,6 +1,6 @@
--- What a run keeps beside its events: the present world, and for each key its history and, by stamp, its update, whether that is
--- complete or who covered it so far, and the calls that found it. So nothing is searched in the events again.
-use Rattle.std.specs.Prelude.{◌≡◌, ℕ, ◌≤◌, List, [], ◌∷◌, ◌++◌, map, true, false, Bool, Option, None, Some, unwrap_or, ◌==◌, ◌&&◌, if◌then◌else◌}
+-- What a run keeps beside its events: the present world, and for each key its history and, by stamp, its update, the event that
+-- completed it or who covered it so far, and the calls that found it. So nothing is searched in the events again.
+use Rattle.std.specs.Prelude.{◌≡◌, ℕ, ◌+◌, ◌≤◌, List, [], ◌∷◌, ◌++◌, map, length, true, false, Bool, Option, None, Some, unwrap_or, ◌==◌, ◌&&◌, if◌then◌else◌}
 use Rattle.std.specs.List.{find, flat_map, list_any}
 use Rattle.std.specs.Option.{option_map}
 use Rattle.std.specs.Ordering.{nat_cmp}
@@ -11,7 +11,7 @@ use Rattle.hk_base.specs.declared.call.CallNo.{CallNo}
 use Rattle.hk_copy.specs.Batches.{key_cmp}
 use Rattle.hk_history.specs.declared.event.Event.{Event as Line}
 use Rattle.hk_history.specs.declared.event.Entry.{Entry}
-use Rattle.hk_register.specs.Machine.{Mark, Update, Item, State}
+use Rattle.hk_register.specs.Machine.{In, Mark, Update, Item, State}
 use Rattle.hk_register.specs.Machine.Item.{Called, Answered, Dropped, Looked, Missed}
 use Rattle.hk_register.specs.Facts.{Complete}
 use Rattle.hk_register.specs.Printed.{is_mark}
@@ -25,7 +25,9 @@ use Rattle.hk_safety.specs.declared.evidence.Evidence.{Evidence}
 use Rattle.hk_safety.specs.declared.evidence.Evidence.TheVariants.{Covers}
 use Rattle.hk_safety.specs.declared.evidence.Evidence.TheVariants as E
 use Rattle.hk_safety.specs.declared.key_run.AtStamp.{AtStamp}
+use Rattle.hk_safety.specs.declared.key_run.Look.{Look}
 use Rattle.hk_safety.specs.Run.{RunState, world_of, trace_of, named}
+use Rattle.hk_safety.specs.Moment.{completed_at, replied_at}
 
 -- ---- one key
 -- its history, the first item first, and what is kept of each stamp, by tag
@@ -88,16 +90,33 @@ pub record AreToldBy (marks : List Mark) (s : ℕ) (groups : Groups) : Type 0 wh
 
 -- An update is kept as complete just where it is; until then there is who covered it.
 abbrev pub IsKnown : (ℕ → List ℕ) → State → ℕ → Evidence → Type 0
-IsKnown V st s E.Complete = Complete V st s
+IsKnown V st s (E.Complete event) = Complete V st s
 IsKnown V st s (Covers groups) = (Complete V st s → ⊥) × AreToldBy st.marks s groups
+
+abbrev pub calls_in : List Look → List CallNo
+calls_in looks = map (λ l. l.call) looks
 
 -- What is kept is what the trace of the key has. Whether a cover was exact is not kept: no order asks it. Nor is who covered the stamp of no
 -- update.
 pub record IsKeyOf (key : List ℕ) (k : KeyState) (t : Trace) : Type 0 where
   pub items : k.items ≡ history_of t
   pub update : (s : ℕ) → (at_stamp s k).update ≡ update_at s t.begun
-  pub looks : (s : ℕ) → (at_stamp s k).looks ≡ looks_at s t.history
+  pub looks : (s : ℕ) → calls_in (at_stamp s k).looks ≡ looks_at s t.history
   pub known : (s : ℕ) → 1 ≤ s → IsKnown (family t.world.views) (view key t) s (at_stamp s k).evidence
+
+-- ---- its events
+-- An update is kept with the event that completed it; where none did, its place is behind all moments.
+abbrev pub IsSince : RunState → List ℕ → ℕ → Evidence → Type 0
+IsSince run key s (E.Complete event) = (completed_at run key s ≡ event) × (event ≤ length run.events)
+IsSince run key s (Covers groups) = completed_at run key s ≡ length run.events + 1
+
+-- and a look with the event that replied to it
+abbrev pub IsRepliedAt : RunState → List ℕ → Look → Type 0
+IsRepliedAt run key l = (replied_at run key l.call.0 ≡ l.event) × (l.event ≤ length run.events)
+
+pub record HasEvents (run : RunState) (key : List ℕ) (k : KeyState) : Type 0 where
+  pub since : (s : ℕ) → 1 ≤ s → IsSince run key s (at_stamp s k).evidence
+  pub replied : (s : ℕ) (l : Look) → In (at_stamp s k).looks l → IsRepliedAt run key l
 
 -- ---- all keys
 abbrev pub Keys : Type 0
@@ -129,18 +148,19 @@ pub record IsKeptOf (k : KeptState) (run : RunState) : Type 0 where
   pub calls : k.calls ≡ called_from run.events
   pub keys : keys_of k.keys ≡ named run
   pub each : (key : List ℕ) → IsKeyOf key (key_at key k.keys) (trace_of key run)
+  pub events : (key : List ℕ) → HasEvents run key (key_at key k.keys)
 
 -- ---- the order, by what is kept
 abbrev pub is_complete : Evidence → Bool
-is_complete E.Complete = true
+is_complete (E.Complete event) = true
 is_complete (Covers groups) = false
 
 abbrev pub update_entry : Bool → ℕ → Option CallNo → List Entry
 update_entry complete s None = []
 update_entry complete s (Some call) = if complete then record { call = call; tag = Some s } ∷ [] else []
 
-abbrev pub look_entry : CallNo → Entry
-look_entry call = record { call = call; tag = None }
+abbrev pub look_entry : Look → Entry
+look_entry look = record { call = look.call; tag = None }
 
 -- the update of a stamp, if it is complete, and the calls that found it
 abbrev pub entries_at : ℕ × AtStamp → List Entry

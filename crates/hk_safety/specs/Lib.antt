@@ -1,6 +1,8 @@
 pub mod Run
+pub mod Moment
 pub mod Push
 pub mod Kept
+pub mod Placed
 pub mod Shows
 pub mod Noted
 pub mod Grown

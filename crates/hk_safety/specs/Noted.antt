@@ -15,6 +15,7 @@ use Rattle.hk_safety.specs.declared.kept.Unmade.{Unmade}
 use Rattle.hk_safety.specs.declared.kept.Unmade.TheVariants.{Memory, Refused, Lost}
 use Rattle.hk_safety.specs.Run.{with_named}
 use Rattle.hk_safety.specs.Kept.{KeptState, IsKeyOf, find_key, key_at, called_from}
+use Rattle.hk_safety.specs.Grown.{GoesAt}
 
 -- What must be known of what is kept before an event: each call that the event answers is one of the calls on its key, and the key of each call
 -- is kept.
@@ -30,17 +31,19 @@ HasFollowed old new event a key =
     (t : Trace) → t.world ≡ old.world → IsKept key t → IsKept key (traced key t event a) →
     IsKeyOf key (key_at key old.keys) t → IsKeyOf key (key_at key new.keys) (traced key t event a)
 
-pub record IsMade (old new : KeptState) (event : Event) (a : Accepted) : Type 0 where
+-- event n, which is made
+pub record IsMade (n : ℕ) (old new : KeptState) (event : Event) (a : Accepted) : Type 0 where
   pub made : world_step old.world event ≡ Ok a
   pub world : new.world ≡ a.world
   pub calls : new.calls ≡ old.calls ++ called_from (event ∷ [])
   pub keys : keys_of new.keys ≡ with_named event (keys_of old.keys)
   pub followed : (key : List ℕ) → IsSome (find_key key new.keys) → HasFollowed old new event a key
+  pub goes : (key : List ℕ) → IsSome (find_key key new.keys) → GoesAt n (key_at key old.keys) (key_at key new.keys)
 
 -- An event that is made, or is refused, or for which no memory was there: then nothing has changed, unless it is lost that all that was kept
 -- belongs to one run.
-abbrev pub IsMadeBy : Result Shown Unmade → KeptState → KeptState → Event → Type 0
-IsMadeBy (Ok shown) old new event = (a : Accepted) × (a.shown ≡ shown) × IsMade old new event a
-IsMadeBy (Err (Refused refused)) old new event = (world_step old.world event ≡ Err refused) × (new ≡ old)
-IsMadeBy (Err Memory) old new event = new ≡ old
-IsMadeBy (Err Lost) old new event = ⊤
+abbrev pub IsMadeBy : ℕ → Result Shown Unmade → KeptState → KeptState → Event → Type 0
+IsMadeBy n (Ok shown) old new event = (a : Accepted) × (a.shown ≡ shown) × IsMade n old new event a
+IsMadeBy n (Err (Refused refused)) old new event = (world_step old.world event ≡ Err refused) × (new ≡ old)
+IsMadeBy n (Err Memory) old new event = new ≡ old
+IsMadeBy n (Err Lost) old new event = ⊤

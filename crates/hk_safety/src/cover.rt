@@ -193,6 +193,7 @@ fn cover_acks(
 fn cover_acted(
     keys: &mut BTreeMap<Key, KeyRun>,
     alloc: Global,
+    number: u64,
     node: &Node,
     acted: &Acted,
     letters: &[Letter],
@@ -200,7 +201,7 @@ fn cover_acted(
     requires node { IsNode node.now }
     requires rows { AllByRecursion IsFormer acted.now.report.rows }
     requires letters { AllByRecursion IsLetter letters.now }
-    ensures { OnOk result (AreTouchedIn node.now.view keys.old.entries keys.new.entries node.now acted.now letters.now) }
+    ensures { OnOk result (AreTouchedIn number node.now.view keys.old.entries keys.new.entries node.now acted.now letters.now) }
 {
     let Some(view) = node.view() else {
         return Ok(());
@@ -208,6 +209,7 @@ fn cover_acted(
     let cover = Cover {
         node: acted.node,
         ready: node.ready(),
+        event: number,
     };
     let rose = acted.report.epoch < view.epoch;
     let moved = rose || acted.report.readied;
@@ -224,23 +226,24 @@ fn cover_acted(
     cover_acks(keys, alloc, view, cover, letters)
 }
 
-/// All covers of an accepted event, by the world behind it.
+/// All covers of the accepted event of this number, by the world behind it.
 pub(crate) fn cover_event(
     keys: &mut BTreeMap<Key, KeyRun>,
     alloc: Global,
     world: &World,
+    number: u64,
     shown: &Shown,
 ) -> Result<(), Memory>
     requires sound { IsWorld world.now }
     requires rows { AreFormer shown.now.acted }
     requires letters { AllByRecursion IsLetter shown.now.letters }
-    ensures { OnOk result (AreTouchedAt shown.now.acted keys.old.entries keys.new.entries world.now shown.now.letters) }
+    ensures { OnOk result (AreTouchedAt number shown.now.acted keys.old.entries keys.new.entries world.now shown.now.letters) }
 {
     let Some(acted) = &shown.acted else {
         return Ok(());
     };
     match world.node(acted.node) {
-        Some(node) => cover_acted(keys, alloc, node, acted, shown.letters.as_slice()),
+        Some(node) => cover_acted(keys, alloc, number, node, acted, shown.letters.as_slice()),
         None => Ok(()),
     }
 }

@@ -15,6 +15,8 @@ use std::marker::Model;
 pub struct Cover {
     pub node: NodeId,
     pub ready: bool,
+    /// The number of the event at which it does.
+    pub event: u64,
 }
 
 /// Who covered a stamp in one epoch.
@@ -40,10 +42,10 @@ impl Model for Groups {
     ghost view = { λ g. g.by_epoch.entries };
 }
 
-/// What is known of an update: that it is complete, or who covered its stamp so far.
+/// What is known of an update: that it is complete since the event of this number, or who covered its stamp so far.
 #[derive(Drop)]
 pub enum Evidence {
-    Complete,
+    Complete { event: u64 },
     Covers(Groups),
 }
 
@@ -149,7 +151,7 @@ impl Evidence {
         };
         groups.put(alloc, view.epoch, cover)?;
         if groups.complete(view) {
-            *self = Evidence::Complete;
+            *self = Evidence::Complete { event: cover.event };
         }
         Ok(())
     }

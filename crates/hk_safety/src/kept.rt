@@ -184,12 +184,13 @@ fn put_event(
     calls: &mut Vec<Key>,
     alloc: Global,
     world: &World,
+    number: u64,
     event: &Event,
     shown: &Shown,
 ) -> Result<(), Memory>
     requires sound { IsWorld world.now }
     requires rows { AreFormer shown.now.acted }
-    ensures call { OnOk result (IsCallKept keys.old.entries keys.new.entries world.now event.now shown.now) }
+    ensures call { OnOk result (IsCallKept number keys.old.entries keys.new.entries world.now event.now shown.now) }
     ensures calls { OnOk result (calls.new.items ≡ calls.old.items ++ called_from (event.now ∷ [])) }
 {
     let Event::Call { node, key, op } = event else {
@@ -197,6 +198,7 @@ fn put_event(
     };
     let tag = tag_at(world, *node, key);
     let turn = Turn {
+        event: number,
         call: CallNo(world.calls()),
         began: is_new(&shown.acted, key, tag),
         tag,
@@ -211,35 +213,47 @@ fn put_event(
 impl Kept {
     ghost use Rattle.hk_safety.specs.Noted.{MayMake, IsMadeBy};
 
-    // What an accepted event showed, by the world behind it.
-    fn keep(&mut self, alloc: Global, event: &Event, shown: &Shown) -> Result<(), Memory>
+    // What the accepted event of this number showed, by the world behind it.
+    fn keep(
+        &mut self,
+        alloc: Global,
+        number: u64,
+        event: &Event,
+        shown: &Shown,
+    ) -> Result<(), Memory>
         requires sound { IsWorld self.old.world }
         requires rows { AreFormer shown.now.acted }
         requires letters { AllByRecursion IsLetter shown.now.letters }
-        ensures { OnOk result (IsKeptAfter self.old self.new event.now shown.now) }
+        ensures { OnOk result (IsKeptAfter number self.old self.new event.now shown.now) }
     {
         put_event(
             &mut self.keys,
             &mut self.calls,
             alloc,
             &self.world,
+            number,
             event,
             shown,
         )?;
         put_replies(&mut self.keys, &self.calls, shown.replies.as_slice())?;
-        cover_event(&mut self.keys, alloc, &self.world, shown)
+        cover_event(&mut self.keys, alloc, &self.world, number, shown)
     }
 
-    /// Makes an event, and keeps what it showed.
-    pub(crate) fn make(&mut self, alloc: Global, event: &Event) -> Result<Shown, Unmade>
+    /// Makes an event, the one of this number, and keeps what it showed.
+    pub(crate) fn make(
+        &mut self,
+        alloc: Global,
+        number: u64,
+        event: &Event,
+    ) -> Result<Shown, Unmade>
         requires { MayMake self.old event.now }
-        ensures { IsMadeBy result self.old self.new event.now }
+        ensures { IsMadeBy number result self.old self.new event.now }
     {
         let shown = match step(&mut self.world, alloc, event) {
             Ok(shown) => shown,
             Err(unmade) => return Err(unmade),
         };
-        match self.keep(alloc, event, &shown) {
+        match self.keep(alloc, number, event, &shown) {
             Ok(()) => Ok(shown),
             Err(Memory) => Err(Unmade::Lost),
         }

@@ -12,8 +12,15 @@ use std::alloc::Global;
 use std::collections::BTreeMap;
 use std::marker::Model;
 
-/// Calls by their numbers, the first one first.
-pub type Calls = Sequence<CallNo>;
+/// A call that found a stamp and changed nothing, and the number of the event at which it was answered.
+#[derive(Clone, Copy, Debug, PartialEq, Eq)]
+pub struct Look {
+    pub call: CallNo,
+    pub event: u64,
+}
+
+/// Looks, the first one first.
+pub type Looks = Sequence<Look>;
 
 /// What a run keeps of one stamp of a key.
 #[derive(Drop)]
@@ -23,12 +30,13 @@ pub struct AtStamp {
     /// Whether that update is complete, or who covered the stamp so far.
     pub evidence: Evidence,
     /// The calls that found the stamp and changed nothing, in the order of their replies.
-    pub looks: Calls,
+    pub looks: Looks,
 }
 
-/// What a call made of the row of its key: whether it began an update, the row's tag after it, and whether it was answered, and not refused.
+/// What a call made of the row of its key at an event: whether it began an update, the row's tag after it, and whether it was answered, and not refused.
 #[derive(Clone, Copy, Debug, PartialEq, Eq)]
 pub struct Turn {
+    pub event: u64,
     pub call: CallNo,
     pub began: bool,
     pub tag: u64,
@@ -57,7 +65,7 @@ impl AtStamp {
         AtStamp {
             update: None,
             evidence: Evidence::new(alloc),
-            looks: Calls::new(alloc),
+            looks: Looks::new(alloc),
         }
     }
 }
@@ -105,28 +113,32 @@ fn look_stamp(
     stamps: &mut BTreeMap<u64, AtStamp>,
     alloc: Global,
     tag: u64,
-    call: CallNo,
+    look: Look,
 ) -> Result<(), Memory>
-    ensures { OnOk result (IsLookedAt stamps.old.entries stamps.new.entries tag call) }
+    ensures { OnOk result (IsLookedAt stamps.old.entries stamps.new.entries tag look) }
 {
     if let Some(at) = stamps.get_mut(&tag) {
-        return at.looks.push(call);
+        return at.looks.push(look);
     }
     let mut at = AtStamp::new(alloc);
-    at.looks.push(call)?;
+    at.looks.push(look)?;
     stamps.insert(tag, at)?;
     Ok(())
 }
 
 // What a call made of the stamps: it began an update, or looked, or was refused.
 fn turn_stamps(stamps: &mut BTreeMap<u64, AtStamp>, alloc: Global, turn: Turn) -> Result<(), Memory>
-    ensures { OnOk result (IsTurned turn.began turn.answered stamps.old.entries stamps.new.entries turn.tag turn.call) }
+    ensures { OnOk result (IsTurned turn.began turn.answered stamps.old.entries stamps.new.entries turn.tag turn.call turn.event) }
 {
     if turn.began {
         return begin_stamp(stamps, alloc, turn.tag, turn.call);
     }
     if turn.answered {
-        return look_stamp(stamps, alloc, turn.tag, turn.call);
+        let look = Look {
+            call: turn.call,
+            event: turn.event,
+        };
+        return look_stamp(stamps, alloc, turn.tag, look);
     }
     Ok(())
 }

@@ -1,8 +1,8 @@
 //! Runs of a world, and the order that is printed of each key.
 //!
 //! A [`Run`] is a header and the events that its world accepted. A [`LiveRun`] is one whose events are told to clauses alone: it keeps the present world and, for
-//! each key that a call named, the numbers of its history and, by stamp, its update, whether that is complete or who covered it so far, and the calls that found
-//! it. So [`order_of`] reads what is kept, and never makes the events again; [`Run::history`], which gives operations and answers, does.
+//! each key that a call named, the numbers of its history and, by stamp, its update, the event that completed it or who covered it so far, and the calls that found
+//! it. So [`order_of`] and [`LiveRun::placed`] read what is kept, and never make the events again; [`Run::history`], which gives operations and answers, does.
 //!
 //! The order of every run is legal: that is a clause of [`order_of`] and the law [`runs_are_legal`]. It rests on the laws of the register
 //! and on the law that each event is effects of it, and on nothing of what an event does.
@@ -18,6 +18,7 @@ mod live;
 mod marked;
 mod order;
 mod past;
+mod placed;
 mod reading;
 mod run;
 
@@ -25,4 +26,5 @@ pub use laws::{histories_are_histories, runs_are_legal};
 pub use live::{Keys, LiveRun};
 pub use marked::Mark;
 pub use order::order_of;
+pub use placed::{Placed, PlacedEntries};
 pub use run::Run;

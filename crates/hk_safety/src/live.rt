@@ -8,6 +8,7 @@ use crate::key_run::KeyRun;
 use crate::laws::runs_are_legal;
 use crate::marked::Mark;
 use crate::past::Past;
+use crate::placed::PlacedEntries;
 use hk_base::{Key, Memory, Sequence};
 use hk_effects::runs_keep_parts;
 use hk_history::Entries;
@@ -25,11 +26,12 @@ pub type Keys = Sequence<Key>;
 pub struct LiveRun {
     header: Header,
     past: Past,
+    count: u64,
     kept: Option<Kept>,
 }
 
 impl Model for LiveRun {
-    ghost use Rattle.std.specs.Prelude.{IfSome};
+    ghost use Rattle.std.specs.Prelude.{◌≡◌, length, IfSome};
     ghost use Rattle.hk_safety.specs.Run.{RunState, IsRun};
     ghost use Rattle.hk_safety.specs.Kept.{IsKeptOf};
 
@@ -37,7 +39,7 @@ impl Model for LiveRun {
 
     ghost view = { λ r. record { header = r.header; events = r.past.events } };
 
-    ghost invariant = { λ r. IsRun (record { header = r.header; events = r.past.events }) × IfSome r.kept (λ k. IsKeptOf k (record { header = r.header; events = r.past.events })) };
+    ghost invariant = { λ r. IsRun (record { header = r.header; events = r.past.events }) × (r.count ≡ length r.past.events) × IfSome r.kept (λ k. IsKeptOf k (record { header = r.header; events = r.past.events })) };
 }
 
 // The keys of a map, which share their bytes.
@@ -53,13 +55,14 @@ fn share_keys(alloc: Global, map: &BTreeMap<Key, KeyRun>) -> Result<Keys, Memory
 }
 
 impl LiveRun {
-    ghost use Rattle.std.specs.Prelude.{map};
+    ghost use Rattle.std.specs.Prelude.{length, map};
     ghost use Rattle.hk_safety.specs.Marks.{mark_of};
     ghost use Rattle.hk_safety.specs.Kept.{IsKeptOf};
     ghost use Rattle.hk_history.specs.Legal.{Legal};
     ghost use Rattle.hk_world.specs.Sound.{IsHeader, IsEvent};
     ghost use Rattle.hk_safety.specs.Run.{IsRun, world_of, history, printed, named};
     ghost use Rattle.hk_safety.specs.Push.{IsPushed};
+    ghost use Rattle.hk_safety.specs.Placed.{placed};
 
     /// The run of no event.
     pub fn new(alloc: Global, header: Header) -> Result<LiveRun, Memory>
@@ -70,6 +73,7 @@ impl LiveRun {
         Ok(LiveRun {
             header,
             past: Past::new(),
+            count: 0,
             kept: Some(Kept {
                 world,
                 keys: BTreeMap::new(alloc),
@@ -87,9 +91,13 @@ impl LiveRun {
         let Some(kept) = &mut self.kept else {
             return Err(WorldFault::Memory);
         };
-        match kept.make(alloc, event) {
+        let Some(number) = self.count.checked_add(1) else {
+            return Err(WorldFault::Memory);
+        };
+        match kept.make(alloc, number, event) {
             Ok(shown) => {
                 self.past.note(event);
+                self.count = number;
                 Ok(shown)
             }
             Err(Unmade::Memory) => Err(WorldFault::Memory),
@@ -113,7 +121,7 @@ impl LiveRun {
     }
 
     /// That it is a run. It does nothing at run time.
-    pub(crate) fn sound(&self)
+    pub fn sound(&self)
         ensures { IsRun self.now }
     {
         let _header = &self.header;
@@ -140,6 +148,13 @@ impl LiveRun {
     {
         let kept = self.kept()?;
         share_keys(alloc, &kept.keys)
+    }
+
+    /// How many events there are. It takes no memory.
+    pub fn len(&self) -> u64
+        ensures { result ≡ length self.now.events }
+    {
+        self.count
     }
 
     // The same key, which shares the bytes of the one that a call named, if one did.
@@ -197,6 +212,20 @@ impl LiveRun {
         match kept.keys.get(key) {
             Some(key_run) => key_run.order(alloc),
             None => Ok(Entries::new(alloc)),
+        }
+    }
+
+    /// The order of the key, each entry with its event: a change stands at the first event after which it or a later change of the key is complete, any other
+    /// call at the event that replied to it.
+    pub fn placed(&self, alloc: Global, key: &Key) -> Result<PlacedEntries, Memory>
+        ensures { IfOk result (λ entries. entries ≡ placed self.now key.now) }
+    {
+        runs_keep_parts();
+        let last = self.len();
+        let kept = self.kept()?;
+        match kept.keys.get(key) {
+            Some(key_run) => key_run.placed(alloc, last),
+            None => Ok(PlacedEntries::new(alloc)),
         }
     }
 }

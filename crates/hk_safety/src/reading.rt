@@ -8,7 +8,7 @@ ghost use Rattle.hk_safety.specs.Marks.{mark_of};
 ghost use Rattle.hk_safety.specs.Kept.{kept_order, is_complete, update_entry, look_entry, entries_at};
 
 use crate::evidence::Evidence;
-use crate::key_run::{AtStamp, Calls, KeyRun};
+use crate::key_run::{AtStamp, KeyRun, Looks};
 use crate::marked::Mark;
 use hk_base::Memory;
 use hk_history::{Entries, Entry};
@@ -19,7 +19,7 @@ fn is_complete(evidence: &Evidence) -> bool
     ensures { result ≡ is_complete evidence.now }
 {
     match evidence {
-        Evidence::Complete => true,
+        Evidence::Complete { .. } => true,
         Evidence::Covers(_) => false,
     }
 }
@@ -40,12 +40,12 @@ fn put_update(order: &mut Entries, stamp: u64, at: &AtStamp) -> Result<(), Memor
 }
 
 // Puts the calls that found the stamp behind the others.
-fn put_looks(order: &mut Entries, looks: &Calls) -> Result<(), Memory>
+fn put_looks(order: &mut Entries, looks: &Looks) -> Result<(), Memory>
     ensures { OnOk result (order.new ≡ order.old ++ map look_entry looks.now) }
 {
-    for call in looks.as_slice() {
+    for look in looks.as_slice() {
         order.push(Entry {
-            call: *call,
+            call: look.call,
             tag: None,
         })?;
     }

@@ -32,6 +32,10 @@ op_drawn g =
     if (draw 4 g).0 == 0 then (Read, (draw 4 g).1)
     else (update_drawn (draw 4 g).0 (draw 100 (draw 4 g).1).0, (draw 100 (draw 4 g).1).1)
 
+-- a key, and then an operation on it
+unfoldable pub ask_drawn : Lcg → (List ℕ × Op) × Lcg
+ask_drawn g = ((key_drawn (draw 8 g).0, (op_drawn (draw 8 g).1).0), (op_drawn (draw 8 g).1).1)
+
 -- a node, and then a key
 abbrev pub place_drawn : ℕ → Lcg → (NodeId × List ℕ) × Lcg
 place_drawn nodes g = ((record { 0 = (draw nodes g).0 }, key_drawn (draw 8 (draw nodes g).1).0), (draw 8 (draw nodes g).1).1)

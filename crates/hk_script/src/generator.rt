@@ -2,7 +2,7 @@
 
 ghost use Rattle.std.specs.Prelude.{◌≡◌, ◌≤◌, ◌<◌, IfOk, min, decimal};
 ghost use Rattle.rand_pcg.specs.Lcg.{Lcg};
-ghost use Rattle.hk_script.specs.Drawn.{draw, key_drawn, update_drawn, op_drawn, place_drawn, call_drawn, take_drawn, resend_drawn, replay_drawn, kind_drawn, event_drawn};
+ghost use Rattle.hk_script.specs.Drawn.{draw, key_drawn, update_drawn, op_drawn, ask_drawn, place_drawn, call_drawn, take_drawn, resend_drawn, replay_drawn, kind_drawn, event_drawn};
 
 use crate::put::put_number;
 use hk_base::{Content, Data, Key, Memory, NodeId, Op};
@@ -61,6 +61,17 @@ fn op(alloc: Global, numbers: &mut Pcg32) -> Result<Op, Memory>
     }
     let value = draw(numbers, 100);
     update(alloc, kind, value)
+}
+
+// A key, and then an operation on it.
+#[tactic(auto, unfolding(crate::specs::Drawn::ask_drawn))]
+fn ask(alloc: Global, numbers: &mut Pcg32) -> Result<(Key, Op), Memory>
+    ensures { IfOk result (λ asked. (asked, numbers.new) ≡ ask_drawn numbers.old) }
+{
+    let digit = draw(numbers, 8);
+    let key = key(alloc, digit)?;
+    let asked = op(alloc, numbers)?;
+    Ok((key, asked))
 }
 
 // A node below `nodes`, and then a key.
@@ -183,5 +194,42 @@ impl Generator {
         let event = event_of(alloc, &mut numbers, kind, self.nodes, letters)?;
         self.numbers = numbers;
         Ok(event)
+    }
+}
+
+/// Draws what is asked of a store: one of eight keys, and an operation on it. The same number gives the same.
+#[derive(Drop)]
+pub struct AskGenerator {
+    numbers: Pcg32,
+}
+
+impl Model for AskGenerator {
+    ghost Value = { Lcg };
+
+    ghost view = { λ g. g.numbers };
+}
+
+impl AskGenerator {
+    ghost use Rattle.std.specs.Prelude.{OnErr};
+    ghost use Rattle.hk_script.specs.Drawn.{numbers_from};
+
+    /// The generator that begins with a number.
+    pub fn new(start: u64) -> AskGenerator
+        ensures { result ≡ numbers_from start }
+    {
+        AskGenerator {
+            numbers: Pcg32::new(start, 54),
+        }
+    }
+
+    /// What is asked next. After want of memory the generator is as it was.
+    pub fn next(&mut self, alloc: Global) -> Result<(Key, Op), Memory>
+        ensures ok { IfOk result (λ asked. (asked, self.new) ≡ ask_drawn self.old) }
+        ensures err { OnErr result (self.new ≡ self.old) }
+    {
+        let mut numbers = self.numbers.clone()?;
+        let asked = ask(alloc, &mut numbers)?;
+        self.numbers = numbers;
+        Ok(asked)
     }
 }

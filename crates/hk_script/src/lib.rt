@@ -18,7 +18,7 @@ mod read;
 mod words;
 
 pub use fault::LineFault;
-pub use generator::Generator;
+pub use generator::{AskGenerator, Generator};
 pub use laws::lines_are_one;
 pub use print::{print_event, print_header};
 pub use put::{put as put_text, put_actor, put_number, put_word};

@@ -1,11 +1,8 @@
 //! Which key each cell of a shard may show.
 
 use hk_base::{Key, Memory, Op};
-use hk_snap::cell_of;
+use hk_snap::{CELLS, cell_of};
 use std::alloc::Global;
-
-/// How many cells a shard has.
-const CELLS: usize = 32;
 
 /// For each cell of a shard, the key of the last update that was asked there. It decides whether the cell is looked at, and nothing else.
 #[derive(Drop)]

@@ -272,13 +272,15 @@ noted_kept s part journal ticket event before noted is are how part_is journal_i
     (changing_more s.base part s.journal entry before noted are (subst (λ (n : NodeState). AreNoted n part (length s.journal) before noted) is.part how)
     (part_is ∙ ap (λ (n : NodeState). after n entry) is.part))
 
+-- the steps of the entries that are noted lead to the part
+pub enough_by : (s : ShardState) (places : List ℕ) → IsShard s → AreChanging s.base s.journal places → replay_at s.base s.journal places ≡ s.part
+enough_by s places is are = are.enough ∙ sym is.part
+
 -- a checkpoint, from what is known of each part of the shard
-pub checkpoint_by : (s : ShardState) (base : NodeState) (journal : List JournalEntry) (before places : List ℕ) → IsShard s → AreChanging s.base s.journal before
-    → base ≡ replay_at s.base s.journal before → journal ≡ [] → places ≡ []
+pub checkpoint_by : (s : ShardState) (base : NodeState) (journal : List JournalEntry) (places : List ℕ) → IsShard s → base ≡ s.part → journal ≡ [] → places ≡ []
     → IsShard (record { base = base; journal = journal; part = s.part; last = s.last; ends = s.ends; lease = s.lease }) × AreChanging base journal places
-checkpoint_by s base journal before places is are base_is none none_noted =
-    let same : base ≡ s.part = base_is ∙ (are.enough ∙ sym is.part) in (
-      subst (λ (x : NodeState × List JournalEntry). IsShard (record { base = x.0; journal = x.1; part = s.part; last = s.last; ends = s.ends; lease = s.lease }))
-          (λ i. (sym same i, sym none i)) (checkpoint_kept s is),
-      nothing_changing base journal places none none_noted,
-    )
+checkpoint_by s base journal places is same none none_noted = (
+  subst (λ (x : NodeState × List JournalEntry). IsShard (record { base = x.0; journal = x.1; part = s.part; last = s.last; ends = s.ends; lease = s.lease }))
+      (λ i. (sym same i, sym none i)) (checkpoint_kept s is),
+  nothing_changing base journal places none none_noted,
+)

@@ -4,4 +4,5 @@ pub mod Undoing
 pub mod Listing
 pub mod Covering
 pub mod Keeping
+pub mod Levelling
 pub mod Reading

@@ -1,5 +1,6 @@
 pub mod Changing
 pub mod Laws
+pub mod Level
 pub mod Publishing
 pub mod Reading
 pub mod Replaced

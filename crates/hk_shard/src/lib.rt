@@ -13,6 +13,7 @@
 #![tactic(auto)]
 
 mod laws;
+mod level;
 mod shard;
 mod show;
 mod step;

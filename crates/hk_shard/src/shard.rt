@@ -9,8 +9,9 @@ ghost use Rattle.hk_snap.specs.Ends.{names, seen_at, looked, Loads};
 ghost use Rattle.hk_snap.specs.Leases.{Looks};
 ghost use Rattle.hk_shard.specs.Shard.{shard_of};
 
+use crate::level::stays_level;
 use crate::show::{call_of, lease_end, publish_rows};
-use crate::step::{go_on, make};
+use crate::step::{bring_up, make};
 use hk_base::{Key, Memory};
 use hk_journal::Journal;
 use hk_node::{Node, NodeEvent, NodeOut};
@@ -52,6 +53,9 @@ pub struct Shard {
     journal: Journal,
     /// The places in the journal of the entries that changed something.
     changing: Vec<usize>,
+    /// Whether the part differs from the base in its clock and in the rows of the keys in `touched` alone, each of which the base has.
+    level: bool,
+    touched: Vec<Key>,
     last: u64,
     writer: SnapWriter,
     /// A reader of the cells that has loaded nothing, from which others are split.
@@ -62,9 +66,10 @@ pub struct Shard {
 }
 
 impl Model for Shard {
-    ghost use Rattle.std.specs.Prelude.{◌≡◌, None};
+    ghost use Rattle.std.specs.Prelude.{◌≡◌, true, None};
     ghost use Rattle.hk_shard.specs.Shard.{ShardState, IsShard, unseen};
     ghost use Rattle.hk_shard.specs.Changing.{AreChanging};
+    ghost use Rattle.hk_shard.specs.Level.{AreLevel};
 
     ghost Value = { ShardState };
 
@@ -74,7 +79,8 @@ impl Model for Shard {
         IsShard (record { base = s.base; journal = s.journal; part = s.part; last = s.last; ends = s.writer; lease = s.keeper })
         × AreChanging s.base s.journal s.changing.items
         × (s.reader ≡ record { ends = unseen s.writer; shown = None })
-        × (s.lease.name ≡ s.keeper.name) };
+        × (s.lease.name ≡ s.keeper.name)
+        × (s.level ≡ true → AreLevel s.base s.part s.touched.items) };
 }
 
 impl Shard {
@@ -94,6 +100,8 @@ impl Shard {
             part,
             journal: Journal::new(alloc),
             changing: Vec::new(alloc),
+            level: true,
+            touched: Vec::new(alloc),
             last: 0,
             writer,
             reader,
@@ -131,24 +139,31 @@ impl Shard {
         publish_rows(rt, &mut self.writer, &self.part, ticket, call, rows);
         self.keeper
             .raise(rt, lease_end(&self.part), self.part.now());
+        self.level = stays_level(self.level, &out, &mut self.touched);
         self.last = ticket;
         Ok(out)
     }
 
-    /// Hands out the journal, and begins a new one: the base becomes the part. It makes the steps of the entries that changed
-    /// something again, and costs nothing for the rows that did not change. Where memory is wanting, the shard is as it was.
+    /// Hands out the journal, and begins a new one: the base becomes the part. Where only rows that the base has changed, and the clock, it
+    /// takes them over; else it makes the steps of the entries that changed something again. It costs nothing for the rows that did not
+    /// change. Where memory is wanting, the shard is as it was.
     pub fn checkpoint(&mut self, alloc: Global) -> Result<Journal, Memory>
         ensures journal { IfOk result (λ journal. journal ≡ self.old.journal) }
         ensures anew { OnOk result (self.new ≡ checkpointed self.old) }
         ensures err { OnErr result (self.new ≡ self.old) }
     {
-        go_on(
+        bring_up(
             alloc,
             &mut self.base,
+            &self.part,
             &self.journal,
             self.changing.as_slice(),
+            self.level,
+            self.touched.as_slice(),
         )?;
         self.changing.clear();
+        self.touched.clear();
+        self.level = true;
         Ok(mem::replace(&mut self.journal, Journal::new(alloc)))
     }
 

@@ -1,6 +1,6 @@
 //! Steps of a node that are kept in a journal, or made again from one.
 
-ghost use Rattle.std.specs.Prelude.{◌≡◌, ◌∷◌, ◌++◌, [], ℕ, length, true, IfOk, OnOk, OnErr, IsTrue, Option};
+ghost use Rattle.std.specs.Prelude.{◌≡◌, ◌∷◌, ◌++◌, [], ℕ, length, true, false, IfOk, OnOk, OnErr, IsTrue, Option};
 ghost use Rattle.std.specs.Option.{option_copied, IfSome};
 ghost use Rattle.std.specs.List.{AllByRecursion};
 ghost use Rattle.hk_node.specs.Node.{NodeState};
@@ -11,9 +11,11 @@ ghost use Rattle.hk_node.specs.declared.report.Beside.TheVariants.{Nothing};
 ghost use Rattle.hk_journal.specs.Journal.{entry_of, replay};
 ghost use Rattle.hk_shard.specs.Shard.{step_entry};
 ghost use Rattle.hk_shard.specs.Changing.{after_found, replay_at, AreNoted};
+ghost use Rattle.hk_shard.specs.Level.{AreLevel};
 ghost use Rattle.hk_shard.specs.Replaced.{AreReplaced};
 
-use hk_base::Memory;
+use crate::level::level;
+use hk_base::{Key, Memory};
 use hk_journal::{Journal, JournalEntry, entry};
 use hk_node::{Beside, Node, NodeEvent, NodeOut, Report};
 use std::alloc::Global;
@@ -159,4 +161,50 @@ pub(crate) fn go_on(
         return Err(fault);
     }
     Ok(())
+}
+
+// Brings the base to its part, if it is level with it by these keys and none of their rows has an update that waits.
+fn level_if(
+    alloc: Global,
+    base: &mut Node,
+    part: &Node,
+    is_level: bool,
+    touched: &[Key],
+) -> Result<bool, Memory>
+    requires level { is_level ≡ true → AreLevel base.old part.now touched.now }
+    requires base { IsNode base.old }
+    requires part { IsNode part.now }
+    ensures done { IfOk result (λ done. done ≡ true → base.new ≡ part.now) }
+    ensures same { IfOk result (λ done. done ≡ false → base.new ≡ base.old) }
+    ensures err { OnErr result (base.new ≡ base.old) }
+{
+    if !is_level {
+        return Ok(false);
+    }
+    level(alloc, base, part, touched)
+}
+
+/// Brings the base to its part: by the rows of the keys that were touched, where it is level with it, else by the steps of the entries
+/// at these places. Where memory is wanting, the base is as it was.
+pub(crate) fn bring_up(
+    alloc: Global,
+    base: &mut Node,
+    part: &Node,
+    journal: &Journal,
+    places: &[usize],
+    is_level: bool,
+    touched: &[Key],
+) -> Result<(), Memory>
+    requires events { AllByRecursion (λ e. IsEvent e.event) journal.now }
+    requires node { IsNode base.old }
+    requires enough { replay_at base.old journal.now places.now ≡ part.now }
+    requires part { IsNode part.now }
+    requires level { is_level ≡ true → AreLevel base.old part.now touched.now }
+    ensures base { OnOk result (base.new ≡ part.now) }
+    ensures err { OnErr result (base.new ≡ base.old) }
+{
+    if level_if(alloc, base, part, is_level, touched)? {
+        return Ok(());
+    }
+    go_on(alloc, base, journal, places)
 }

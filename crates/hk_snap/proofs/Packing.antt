@@ -37,6 +37,21 @@ packs_on (x ∷ xs) rest zero k below long = absurd (omega arith)
 packs_on (x ∷ xs) rest (suc n) zero below long = let e : suc n - (0 + 1) ≡ n = omega arith in let f : suc n - 0 ≡ suc n = omega arith in rw (e, f) refl
 packs_on (x ∷ xs) rest (suc n) (suc k) below long = let e : suc n - (suc k + 1) ≡ n - (k + 1) = omega arith in let f : suc n - suc k ≡ n - k = omega arith in let g : suc k + 1 ≡ suc (k + 1) = omega arith in rw (e, f, g) (ap (λ l. x ∷ l) (packs_on xs rest n k (omega arith) (omega arith)))
 
+-- where no byte is left, the words are zeros
+zeros_from : (n : ℕ) → words_from n [] ≡ replicate n 0
+zeros_from zero = refl
+zeros_from (suc n) = ap (λ l. 0 ∷ l) (zeros_from n)
+
+-- zeros from here to the end, where no byte is left
+pub fills_on : (words zeros rest bytes : List ℕ) (n k : ℕ) → k < n → length words ≡ n → length rest ≡ 0 → zeros ≡ replicate (n - k) 0 → take k words ++ words_from (n - k) rest ≡ words_from n bytes
+    → put_mid k (n - k) words zeros ≡ packed n bytes
+unfolding packed
+fills_on words zeros [] bytes n k below long none is so =
+    let left : length (drop k words) ≡ n - k = length-drop k words ∙ ap (λ m. m - k) long in
+    let past : drop (n - k) (drop k words) ≡ [] = ap (λ m. drop m (drop k words)) (sym left) ∙ drop-length (drop k words) in
+    (λ i. take k words ++ (is i ++ past i)) ∙ (ap (λ l. take k words ++ l) (append-nil (replicate (n - k) 0) ∙ sym (zeros_from (n - k))) ∙ so)
+fills_on words zeros (b ∷ rest) bytes n k below long none is so = absurd (omega (arith, none))
+
 take_front : (xs ys : List ℕ) → take (length xs) (xs ++ ys) ≡ xs
 take_front [] ys = refl
 take_front (x ∷ xs) ys = ap (λ l. x ∷ l) (take_front xs ys)

@@ -19,7 +19,7 @@ use std::marker::Model;
 use std::sync::Wait;
 
 /// How many cells a shard has.
-const CELLS: usize = 32;
+pub const CELLS: usize = 32;
 
 fn byte_sum(bytes: &[u8]) -> u64
     requires { length bytes.now ≤ 250 }

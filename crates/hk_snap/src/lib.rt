@@ -25,7 +25,7 @@ mod snapshot;
 mod steps;
 mod words;
 
-pub use cell_set::{SnapReader, SnapWriter, cell_of, cells};
+pub use cell_set::{CELLS, SnapReader, SnapWriter, cell_of, cells};
 pub use lease::{LeaseCell, LeaseKeeper, lease_cell};
 pub use local::{Local, read_local};
 pub use rule::Publication;

@@ -1,18 +1,28 @@
 //! Bytes in words, eight to a word.
 
-ghost use Rattle.std.specs.Prelude.{◌≡◌, ◌*◌, ◌≤◌, length, drop};
+ghost use Rattle.std.specs.Prelude.{◌≡◌, ◌*◌, ◌<◌, length, drop};
 ghost use Rattle.std.specs.Int.{from_le_bytes, w64};
 ghost use Rattle.hk_snap.specs.Packed.{packed, unpacked, eight};
+
+// Fewer than eight bytes as a word.
+fn last_word(bytes: &[u8]) -> u64
+    requires { length bytes.now < 8 }
+    ensures { result ≡ from_le_bytes w64 (eight bytes.now) }
+{
+    let mut eight = [0u8; 8];
+    eight[..bytes.len()].copy_from_slice(bytes);
+    u64::from_le_bytes(eight)
+}
 
 // The first eight bytes as a word, and the rest.
 fn first_word(bytes: &[u8]) -> (u64, &[u8])
     ensures word { result.0 ≡ from_le_bytes w64 (eight bytes.now) }
     ensures rest { result.1.now ≡ drop 8 bytes.now }
 {
-    let (front, rest) = bytes.split_at(bytes.len().min(8));
-    let mut eight = [0u8; 8];
-    eight[..front.len()].copy_from_slice(front);
-    (u64::from_le_bytes(eight), rest)
+    match bytes.split_first_chunk::<8>() {
+        Some((eight, rest)) => (u64::from_le_bytes(*eight), rest),
+        None => (last_word(bytes), &[]),
+    }
 }
 
 // Fills the words with the bytes, as far as they have room, and with zeros behind them.
@@ -22,6 +32,10 @@ pub(crate) fn pack(bytes: &[u8], words: &mut [u64])
 {
     let mut rest = bytes;
     for k in 0..words.len() {
+        if rest.is_empty() {
+            words[k..].fill(0);
+            return;
+        }
         let (word, tail) = first_word(rest);
         words[k] = word;
         rest = tail;

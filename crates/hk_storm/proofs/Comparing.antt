@@ -1,11 +1,11 @@
 -- The drawn calls are compared one after the other.
-use Rattle.std.proofs.Common.{◌≡◌, ◌≢◌, ◌⊎◌, ◌<◌, ◌≤◌, ℕ, zero, suc, ◌+◌, List, [], ◌∷◌, length, get_or, Option, Some, None, slice_get, Result, Ok, Err, inl, inr, refl, sym, ap, subst, ◌∙◌, arith}
+use Rattle.std.proofs.Common.{◌≡◌, ◌≢◌, ◌⊎◌, ◌<◌, ◌≤◌, ℕ, zero, suc, ◌+◌, List, [], ◌∷◌, length, get_or, Option, Some, None, slice_get, Ok, inl, inr, refl, sym, ap, subst, ◌∙◌, arith}
 use Rattle.std.proofs.lemmas.Option.{slice_get_within}
 use Rattle.hk_script.specs.Grammar.{IsWritten}
 use Rattle.hk_script.specs.Reading.{LinesTellEvents}
 use Rattle.hk_storm.specs.declared.calls.StormCall.{StormCall}
 use Rattle.hk_storm.specs.declared.compare.Unlike.{Unlike}
-use Rattle.hk_storm.specs.Calls.{Stands, IsAsOften, AreAsOften, AreDrawn, IsUnlike, AreCompared, AreCounted, IsComparedAt}
+use Rattle.hk_storm.specs.Calls.{Stands, IsAsOften, AreAsOften, IsUnlike, AreCompared, AreCounted, IsComparedAt}
 use Rattle.hk_storm.specs.Tallied.{Counts, event_of, line_of, count_of, IsTally}
 use Rattle.hk_storm.proofs.Tallying.{tells_stands}
 

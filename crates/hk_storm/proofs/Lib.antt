@@ -1,4 +1,8 @@
 mod Lists
 mod Calling
+mod Drawing
 mod Tallying
 mod Comparing
+mod Outcoming
+mod Concluding
+mod Reporting

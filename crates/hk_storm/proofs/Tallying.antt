@@ -1,17 +1,13 @@
 -- What is told of how often a line comes is how often its call stands.
-use Rattle.std.proofs.Common.{◌≡◌, ◌≢◌, ◌⊎◌, ◌<◌, ℕ, zero, suc, ◌+◌, List, [], ◌∷◌, ◌++◌, Bool, true, false, cond, Option, Some, None, slice_index, inl, inr, refl, sym, ap, subst, ◌∙◌, arith}
+use Rattle.std.proofs.Common.{◌≡◌, ◌≢◌, ◌⊎◌, ◌<◌, ℕ, suc, ◌+◌, List, [], ◌∷◌, ◌++◌, Bool, true, false, cond, Option, Some, None, inl, inr, refl, sym, ap, subst, ◌∙◌, arith}
 use Rattle.std.specs.Ordering.{nat_cmp}
 use Rattle.std.specs.Cmp.Lexicographic.{slice_cmp}
-use Rattle.std.specs.List.{count_by, sum_by, AllByRecursion}
-use Rattle.std.specs.BTreeMap.{insert_entry, is_at}
-use Rattle.std.specs.Map.{lookup, set_value}
-use Rattle.std.proofs.lemmas.Bool.{false≢true}
+use Rattle.std.specs.List.{count_by, AllByRecursion}
+use Rattle.std.specs.BTreeMap.{is_at}
 use Rattle.std.proofs.lemmas.List.Sums.{sum_by-cons, sum_by-append}
-use Rattle.hk_base.specs.declared.stamp.NodeId.{NodeId}
-use Rattle.hk_base.specs.declared.call.Op.{Op}
 use Rattle.hk_world.specs.declared.event.Event.{Event}
 use Rattle.hk_world.specs.declared.event.Event.TheVariants.{Call}
-use Rattle.hk_script.specs.Grammar.{event_line, IsWritten, IsEventLine}
+use Rattle.hk_script.specs.Grammar.{IsWritten}
 use Rattle.hk_script.specs.Reading.{LinesTellEvents}
 use Rattle.hk_merge.proofs.Entries.{found_same, found_other, list_equal}
 use Rattle.hk_merge.proofs.Settings.{itself, at_is, at_far, set_same, set_other}

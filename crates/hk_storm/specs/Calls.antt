@@ -1,11 +1,36 @@
--- The calls of runs, and whether they are those that were drawn.
-use Rattle.std.specs.Prelude.{◌≡◌, ◌≢◌, ◌⊎◌, ◌<◌, ℕ, ◌+◌, List, [], ◌∷◌, ◌++◌, length, Option, Some, None, Result, Ok, Err, slice_get, ⊤}
+-- The calls that a storm draws, those that runs have, and whether these are the same.
+use Rattle.std.specs.Prelude.{◌≡◌, ◌≢◌, ◌⊎◌, ◌<◌, ℕ, zero, suc, ◌+◌, ◌*◌, ◌%◌, List, [], ◌∷◌, ◌++◌, length, Option, Some, None, Result, Ok, Err, slice_get, ⊤}
+use Rattle.hk_base.specs.declared.stamp.NodeId.{NodeId}
+use Rattle.hk_base.specs.declared.call.Op.{Op}
 use Rattle.hk_base.specs.declared.memory.Memory.{Memory}
 use Rattle.hk_world.specs.declared.event.Event.{Event}
 use Rattle.hk_world.specs.declared.event.Event.TheVariants.{Call}
+use Rattle.rand_pcg.specs.Lcg.{Lcg}
+use Rattle.hk_script.specs.Drawn.{numbers_from, ask_drawn}
 use Rattle.hk_safety.specs.Run.{RunState}
+use Rattle.hk_storm.specs.declared.opts.StormOpts.{StormOpts}
 use Rattle.hk_storm.specs.declared.calls.StormCall.{StormCall}
 use Rattle.hk_storm.specs.declared.compare.Unlike.{Unlike}
+
+-- ---- drawn calls
+-- Callers take turns: so many make the calls as there are nodes and workers at each. A caller's node is its number's, modulo the nodes. Calls and callers are counted from 0.
+abbrev pub caller_node : StormOpts → ℕ → NodeId
+caller_node opts place = record { 0 = (place % (opts.nodes * opts.workers)) % opts.nodes }
+
+abbrev pub call_at : StormOpts → ℕ → List ℕ × Op → StormCall
+call_at opts place asked = record { node = caller_node opts place; key = asked.0; op = asked.1 }
+
+-- the call at this place, and what draws the calls behind it
+abbrev pub next_call : StormOpts → ℕ → Lcg → StormCall × Lcg
+next_call opts place g = (call_at opts place (ask_drawn g).0, (ask_drawn g).1)
+
+-- so many calls from this one on
+unfoldable pub drawn_from : StormOpts → Lcg → ℕ → ℕ → List StormCall
+drawn_from opts g place zero = []
+drawn_from opts g place (suc left) = call_at opts place (ask_drawn g).0 ∷ drawn_from opts (ask_drawn g).1 (place + 1) left
+
+abbrev pub drawn_calls : StormOpts → List StormCall
+drawn_calls opts = drawn_from opts (numbers_from opts.start) 0 opts.calls
 
 -- ---- the calls of runs
 abbrev pub called : Event → List StormCall

@@ -44,8 +44,8 @@ fn put_called_at(calls: &mut Vec<StormCall>, event: Option<&Event>) -> Result<()
     }
 }
 
-// Puts the calls of a run behind the others.
-fn put_calls(calls: &mut Vec<StormCall>, run: &Run) -> Result<(), Memory>
+/// Puts the calls of a run behind the others.
+pub(crate) fn put_calls(calls: &mut Vec<StormCall>, run: &Run) -> Result<(), Memory>
     ensures { OnOk result (calls.new.items ≡ calls.old.items ++ calls_of run.now) }
 {
     for before in 0..run.len() {
@@ -55,7 +55,7 @@ fn put_calls(calls: &mut Vec<StormCall>, run: &Run) -> Result<(), Memory>
 }
 
 /// The calls of all runs.
-pub fn all_calls(alloc: Global, runs: &[Run]) -> Result<Vec<StormCall>, Memory>
+pub(crate) fn all_calls(alloc: Global, runs: &[Run]) -> Result<Vec<StormCall>, Memory>
     ensures { IfOk result (λ calls. calls.items ≡ all_calls runs.now) }
 {
     let mut calls = Vec::new(alloc);

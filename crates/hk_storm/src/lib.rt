@@ -1,13 +1,31 @@
-//! Whether the calls of runs are those that were drawn.
+//! What the threads of a storm did, as runs.
 //!
-//! The threads of a storm make calls that are drawn from a number, and what they did is put together into runs. [`compare`] tells whether the calls of those runs are just the
-//! drawn ones: each as often as it was drawn, and no other. Calls are told apart by the lines that they have in a script, so the time grows with the calls and hardly faster.
+//! A storm's threads make calls at the desks of nodes. Each shard of each node keeps a journal, and each read that took no lock is noted. [`conclude`] puts the journals and the
+//! notes of each shard number together into a run, looks whether the calls of these runs are just those that were drawn, and counts them by what became of them. That the order
+//! of each key in each run is legal is proved, and stands in the contract of `conclude`.
+//! The caller owes what [`are_groups`] tests, and the limits of [`StormOpts`].
 #![tactic(auto)]
 
 mod calls;
 mod compare;
+mod draw;
+mod ending;
+mod follow;
+mod groups;
+mod losses;
+mod opts;
+mod outcomes;
+mod report;
 mod tally;
+mod text;
 mod written;
 
-pub use calls::{StormCall, all_calls};
-pub use compare::{Unlike, compare as compare_calls};
+pub use calls::StormCall;
+pub use compare::Unlike;
+pub use draw::draw_calls;
+pub use ending::conclude;
+pub use groups::{StormGroup, StormGroups, are_groups};
+pub use losses::Losses;
+pub use opts::{StormOpts, is_storm};
+pub use outcomes::Outcomes;
+pub use report::Report;

@@ -1,5 +1,5 @@
 -- Numbers of calls that are not the same, and asks that are written in place.
-use Rattle.std.proofs.Common.{◌≡◌, ◌≢◌, ◌⊎◌, inl, inr, ⊎_elim, ℕ, ◌<◌, ◌==◌, if◌then◌else◌, List, [], ◌∷◌, Bool, true, false, cond, Option, Some, None, is_some, refl, sym, ap, ◌∙◌, subst, arith}
+use Rattle.std.proofs.Common.{◌≡◌, ◌≢◌, ◌⊎◌, inl, inr, ⊎_elim, ℕ, ◌<◌, ◌==◌, if◌then◌else◌, List, [], ◌∷◌, Bool, true, false, cond, not, Option, Some, None, is_some, refl, sym, ap, ◌∙◌, subst, arith}
 use Rattle.std.specs.Option.{IsSome, IsSomeAnd, option_map, option_or}
 use Rattle.std.specs.BTreeMap.{is_at}
 use Rattle.std.specs.Map.{set_value}
@@ -9,9 +9,10 @@ use Rattle.hk_base.specs.declared.call.CallNo.{CallNo}
 use Rattle.hk_told.specs.declared.ask.Ask.{Ask}
 use Rattle.hk_base.specs.declared.call.Answer.{Answer}
 use Rattle.hk_base.specs.declared.call.Reply.{Reply}
-use Rattle.hk_told.specs.declared.asks.Look.TheVariants.{Gone, Waits}
+use Rattle.hk_told.specs.declared.asks.Look.{Look}
+use Rattle.hk_told.specs.declared.asks.Look.TheVariants.{Gone, Waits, Told}
 use Rattle.hk_told.specs.Held.{Asks, IsWaitingAt, answer_to, heard, Delivers, DeliversInTurn, AreFewer}
-use Rattle.hk_told.specs.Kept.{by_number, asks_in, told_ask, unwanted_ask, is_of, is_told, is_left, look_at, AreOthersSame, LooksAs}
+use Rattle.hk_told.specs.Kept.{by_number, asks_in, told_ask, unwanted_ask, is_of, is_told, is_left, given_up, answered, look_at, AreOthersSame, LooksAs, TakesOut}
 use Rattle.hk_told.proofs.Moving.{some_same}
 use Rattle.hk_told.proofs.Holding.{same_call, cases_call}
 
@@ -179,6 +180,45 @@ stands_told ticket o ask e t is = subst (λ (p : Option Ask). LooksAs ticket p (
     by : (w : Option Answer) → is_some w ≡ true → ask.told ≡ w → LooksAs ticket (Some ask) (look_at w)
     by None s h = absurd (false≢true s)
     by (Some a) s h = (own (sym (ap (is_of ticket) is) ∙ e), h)
+
+-- ---- what is left
+pub given_up_told : (o : Option Ask) → is_told o ≡ true → None ≡ given_up o
+given_up_told None e = refl
+given_up_told (Some ask) e = rw e refl
+
+given_up_waiting : (o : Option Ask) → is_told o ≡ false → option_map unwanted_ask o ≡ given_up o
+given_up_waiting None e = refl
+given_up_waiting (Some ask) e = rw e refl
+
+pub left_unwanted : (call : CallNo) (kept new : List (CallNo × Ask)) → Writes call unwanted_ask kept new → is_told (asks_in kept call) ≡ false
+    → (asks_in new call ≡ given_up (asks_in kept call)) × AreOthersSame call (asks_in kept) (asks_in new)
+left_unwanted call kept new w waits = let both = written call unwanted_ask kept new w in (both.0 ∙ given_up_waiting (asks_in kept call) waits, both.1)
+
+not_true : (b : Bool) → not b ≡ true → b ≡ false
+not_true true e = sym e
+not_true false e = refl
+
+not_false : (b : Bool) → not b ≡ false → b ≡ true
+not_false true e = refl
+not_false false e = sym e
+
+pub answered_left : (answer : Answer) (o : Option Ask) → is_left o ≡ true → None ≡ answered answer o
+answered_left answer None e = refl
+answered_left answer (Some ask) e = rw (not_true ask.wanted e) refl
+
+answered_wanted : (answer : Answer) (o : Option Ask) → is_left o ≡ false → option_map (told_ask answer) o ≡ answered answer o
+answered_wanted answer None e = refl
+answered_wanted answer (Some ask) e = ap (λ (b : Bool). if b then Some (told_ask answer ask) else None) (sym (not_false ask.wanted e))
+
+pub answered_told : (reply : Reply) (kept new : List (CallNo × Ask)) → Writes reply.call (told_ask reply.answer) kept new → is_left (asks_in kept reply.call) ≡ false
+    → (asks_in new reply.call ≡ answered reply.answer (asks_in kept reply.call)) × AreOthersSame reply.call (asks_in kept) (asks_in new)
+answered_told reply kept new w wanted =
+    let both = written reply.call (told_ask reply.answer) kept new w in (both.0 ∙ answered_wanted reply.answer (asks_in kept reply.call) wanted, both.1)
+
+pub takes_told : (call : CallNo) (old new : List (CallNo × Ask)) (told : Option Answer) → is_some told ≡ true → asks_in new call ≡ None → AreOthersSame call (asks_in old) (asks_in new)
+    → TakesOut call old new (look_at told)
+takes_told call old new None some gone others = absurd (false≢true some)
+takes_told call old new (Some answer) some gone others = (gone, others)
 
 -- ---- deliveries in turn
 -- one reply and then others are all of them

@@ -1,5 +1,5 @@
 -- Asks as a map by the numbers of their calls, and how one of them stands.
-use Rattle.std.specs.Prelude.{◌≡◌, ◌≢◌, ℕ, List, Option, None, Some, Bool, false, is_some, not, ◌==◌}
+use Rattle.std.specs.Prelude.{◌≡◌, ◌≢◌, ℕ, List, Option, None, Some, Bool, false, is_some, not, ◌==◌, if◌then◌else◌}
 use Rattle.std.specs.Option.{IsSomeAnd, option_or}
 use Rattle.std.specs.declared.cmp.Ordering.{Ordering}
 use Rattle.std.specs.Ordering.{nat_cmp}
@@ -46,6 +46,16 @@ abbrev pub is_left : Option Ask → Bool
 is_left None = false
 is_left (Some ask) = not ask.wanted
 
+-- what is left of an ask that is given up: nothing where it was told something, and else that nobody waits for it
+abbrev pub given_up : Option Ask → Option Ask
+given_up None = None
+given_up (Some ask) = if is_some ask.told then None else Some (unwanted_ask ask)
+
+-- what is made of an ask when an answer comes: it is told, or dropped where nobody waits for it
+abbrev pub answered : Answer → Option Ask → Option Ask
+answered answer None = None
+answered answer (Some ask) = if ask.wanted then Some (told_ask answer ask) else None
+
 abbrev pub look_at : Option Answer → Look
 look_at None = Waits
 look_at (Some answer) = Told answer
@@ -55,3 +65,9 @@ abbrev pub LooksAs : ℕ → Option Ask → Look → Type 0
 LooksAs ticket asked Gone = (ask : Ask) → asked ≡ Some ask → ask.ticket ≢ ticket
 LooksAs ticket asked Waits = IsSomeAnd asked (λ ask. (ask.ticket ≡ ticket) × (ask.told ≡ None))
 LooksAs ticket asked (Told answer) = IsSomeAnd asked (λ ask. (ask.ticket ≡ ticket) × (ask.told ≡ Some answer))
+
+-- What a look leaves: one that was told something is taken out, and nothing else changes.
+abbrev pub TakesOut : CallNo → List (CallNo × Ask) → List (CallNo × Ask) → Look → Type 0
+TakesOut call old new Gone = new ≡ old
+TakesOut call old new Waits = new ≡ old
+TakesOut call old new (Told answer) = (asks_in new call ≡ None) × AreOthersSame call (asks_in old) (asks_in new)

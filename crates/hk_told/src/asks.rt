@@ -1,11 +1,11 @@
 //! The asks that stand under a shard's lock.
 
-ghost use Rattle.std.specs.Prelude.{◌≡◌, ◌∷◌, [], ℕ, Some, None, true, OnOk, OnErr, IsSome, is_some, IsTrue};
+ghost use Rattle.std.specs.Prelude.{◌≡◌, ◌≢◌, ◌∷◌, [], ℕ, Some, None, true, false, OnOk, OnErr, IsSome, is_some, IsTrue};
 ghost use Rattle.std.specs.Option.{IsSomeAnd};
 ghost use Rattle.std.specs.BTreeMap.{is_at};
 ghost use Rattle.std.specs.Map.{set_value};
 ghost use Rattle.hk_told.specs.Held.{AreFewer, Delivers};
-ghost use Rattle.hk_told.specs.Kept.{asks_in, by_number, told_ask, unwanted_ask, is_of, is_told, is_left, look_at, AreOthersSame, LooksAs};
+ghost use Rattle.hk_told.specs.Kept.{asks_in, by_number, told_ask, unwanted_ask, is_of, is_told, is_left, given_up, answered, look_at, AreOthersSame, LooksAs, TakesOut};
 ghost use Rattle.hk_told.specs.declared.ask.Ask.{Ask as AnAsk};
 
 use crate::ask::Ask;
@@ -89,7 +89,8 @@ impl Asks {
 
     /// Whether an ask of the call is kept that is of the key.
     pub fn is_at(&self, call: CallNo, key: &Key) -> bool
-        ensures { IsTrue result → IsSomeAnd (asks_in self.now call) (λ ask. ask.key ≡ key.now) }
+        ensures is { IsTrue result → IsSomeAnd (asks_in self.now call) (λ ask. ask.key ≡ key.now) }
+        ensures not { result ≡ false → (ask : AnAsk) → asks_in self.now call ≡ Some ask → ask.key ≢ key.now }
     {
         match self.kept.get(&call) {
             Some(ask) => ask.key == *key,
@@ -112,7 +113,9 @@ impl Asks {
 
     /// Delivers the answer of the call to its ask, if it has one that waits. What nobody waits for any more is dropped. It takes no memory.
     pub fn deliver(&mut self, reply: Reply)
-        ensures { Delivers (reply ∷ []) (asks_in self.old) (asks_in self.new) }
+        ensures answered { asks_in self.new reply.call ≡ answered reply.answer (asks_in self.old reply.call) }
+        ensures others { AreOthersSame reply.call (asks_in self.old) (asks_in self.new) }
+        ensures delivers { Delivers (reply ∷ []) (asks_in self.old) (asks_in self.new) }
     {
         if self.is_left(reply.call) {
             self.forget(reply.call);
@@ -124,6 +127,7 @@ impl Asks {
     /// How the ask of the call stands, if it was begun under the ticket. One that was told something is taken out. It takes no memory.
     pub fn look(&mut self, call: CallNo, ticket: u64) -> Look
         ensures stands { LooksAs ticket (asks_in self.old call) result }
+        ensures takes { TakesOut call self.old self.new result }
         ensures fewer { AreFewer (asks_in self.old) (asks_in self.new) }
     {
         if !self.is_of(call, ticket) {
@@ -140,7 +144,9 @@ impl Asks {
 
     /// Nobody waits any more for what the call is told. One that was told something is taken out. It takes no memory.
     pub fn give_up(&mut self, call: CallNo)
-        ensures { AreFewer (asks_in self.old) (asks_in self.new) }
+        ensures left { asks_in self.new call ≡ given_up (asks_in self.old call) }
+        ensures others { AreOthersSame call (asks_in self.old) (asks_in self.new) }
+        ensures fewer { AreFewer (asks_in self.old) (asks_in self.new) }
     {
         if self.is_told(call) {
             self.forget(call);

@@ -1,2 +1,4 @@
 pub mod Requests
 pub mod Rounds
+pub mod Workers
+pub mod Turns

@@ -1,11 +1,18 @@
 -- The requests for leases that are due.
-use Rattle.std.specs.Prelude.{◌≡◌, ℕ, ◌-◌, List, nat_lt, Option, Some, slice_set}
+use Rattle.std.specs.Prelude.{◌≡◌, ℕ, ◌-◌, List, nat_lt, Option, Some, slice_set, replicate}
 use Rattle.std.specs.List.{position, slice_get}
 
 -- how many managers there are, and of each shard to how many its request has still to go
 pub record RequestState : Type 0 where
   pub managers : ℕ
   pub left : List ℕ
+
+abbrev pub no_requests : ℕ → RequestState
+no_requests managers = record { managers = managers; left = replicate 8 0 }
+
+-- the shard is to ask each manager once
+abbrev pub raised : RequestState → ℕ → RequestState
+raised r shard = record { managers = r.managers; left = slice_set r.left shard r.managers }
 
 abbrev pub first_due : List ℕ → Option ℕ
 first_due left = position (λ count. nat_lt 0 count) left

@@ -1,7 +1,7 @@
 //! The requests for leases that are due.
 
-ghost use Rattle.std.specs.Prelude.{◌≡◌, ◌<◌, None, MatchOption, replicate, slice_set, IfOk, IfSome};
-ghost use Rattle.hk_turns.specs.Requests.{first_due, IsTaken};
+ghost use Rattle.std.specs.Prelude.{◌≡◌, ◌<◌, length, None, MatchOption, IfOk, IfSome};
+ghost use Rattle.hk_turns.specs.Requests.{first_due, no_requests, raised, IsTaken};
 
 use hk_base::Memory;
 use std::alloc::Global;
@@ -38,7 +38,7 @@ fn first_due(left: &[u8]) -> Option<usize>
 impl LeaseRequests {
     /// No request is due. There are so many managers.
     pub fn new(alloc: Global, managers: u8) -> Result<LeaseRequests, Memory>
-        ensures { IfOk result (λ made. made ≡ record { managers = managers; left = replicate 8 0 }) }
+        ensures { IfOk result (λ made. made ≡ no_requests managers) }
     {
         let left = vec![in alloc; 0u8; SHARDS]?;
         Ok(LeaseRequests { managers, left })
@@ -47,7 +47,8 @@ impl LeaseRequests {
     /// The shard is to ask each manager once. It takes no memory.
     pub fn raise(&mut self, shard: u8)
         requires { shard < 8 }
-        ensures { self.new ≡ record { managers = self.old.managers; left = slice_set self.old.left shard self.old.managers } }
+        ensures raised { self.new ≡ raised self.old shard }
+        ensures long { length self.old.left ≡ 8 }
     {
         self.left[usize::from(shard)] = self.managers;
     }

@@ -1,13 +1,18 @@
 //! The walk over the open keys of all shards.
 
-ghost use Rattle.std.specs.Prelude.{◌≡◌, ◌⊎◌, ◌<◌};
+ghost use Rattle.std.specs.Prelude.{◌≡◌, ◌⊎◌, ◌<◌, ◌-◌, Some, None, IfSome};
+ghost use Rattle.std.specs.Option.{option_copied};
 ghost use Rattle.hk_turns.specs.Rounds.{resting, begun, behind_key, next_shard};
+ghost use Rattle.hk_turns.specs.Workers.{Walks};
 
+use crate::workplace::Workplace;
 use hk_base::{Key, Memory};
+use hk_due::Due;
 use std::marker::Model;
+use std::sync::Wait;
 
-/// How many shards a node has.
-pub(crate) const SHARDS: u8 = 8;
+// How many shards a node has.
+const SHARDS: u8 = 8;
 
 /// Where a worker is in its walk over the open keys of all shards. Contracts see the present shard, 8 where the walk is over, the last key of it, up to which
 /// ticket a key must have been open to be due, and the ticket at the present call of `work`.
@@ -75,22 +80,51 @@ impl Round {
         self.after = None;
     }
 
-    /// The present shard, 8 where the walk is over.
-    pub fn shard(&self) -> u8
+    // The present shard, 8 where the walk is over.
+    fn shard(&self) -> u8
         ensures { result ≡ self.now.shard }
     {
         self.shard
     }
 
-    /// The last key of it.
-    pub fn after(&self) -> Option<&Key> {
+    // The last key of it.
+    fn after(&self) -> Option<&Key>
+        ensures { option_copied result ≡ self.now.last }
+    {
         self.after.as_ref()
     }
 
-    /// Up to which ticket a key must have been open to be due.
-    pub fn before(&self) -> u64
+    // Up to which ticket a key must have been open to be due.
+    fn before(&self) -> u64
         ensures { result ≡ self.now.before }
     {
         self.before
     }
+}
+
+// What is due of the next key of a shard. None also where memory is wanting.
+fn found_at<W: Workplace, R: Wait>(rt: &R, place: &W, round: &Round, shard: u8) -> Option<Due>
+    requires { shard < 8 }
+    ensures found { IfSome result (λ due. W.finds place.now shard round.now.last round.now.before (Some due)) }
+    ensures none { result ≡ None → W.finds place.now shard round.now.last round.now.before None ⊎ W.lacks place.now shard }
+{
+    match place.due(rt, shard, round.after(), round.before()) {
+        Ok(found) => found,
+        Err(Memory) => None,
+    }
+}
+
+/// What is due at the next open key of the walk, and its shard. The walk goes on behind it.
+pub fn next_due<W: Workplace, R: Wait>(rt: &R, place: &W, round: &mut Round) -> Option<(u8, Due)>
+    ensures walks { Walks (W.finds place.now) (W.lacks place.now) (8 - round.old.shard) round.old result round.new }
+    ensures below { IfSome result (λ due. due.0 < 8) }
+{
+    for shard in round.shard()..SHARDS {
+        if let Some(due) = found_at(rt, place, round, shard) {
+            round.pass(shard, due.key());
+            return Some((shard, due));
+        }
+        round.leave(shard);
+    }
+    None
 }

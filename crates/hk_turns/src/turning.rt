@@ -1,37 +1,55 @@
 //! A worker's turns.
 
-ghost use Rattle.std.specs.Prelude.{◌≡◌, ◌+◌, ◌-◌, ◌^◌, ◌<◌, ◌≤◌, min, true};
+ghost use Rattle.std.specs.Prelude.{◌≡◌, ◌⊎◌, ◌<◌, ◌≤◌, Bool, true};
 ghost use Rattle.std.specs.List.{AllByRecursion};
 ghost use Rattle.hk_base.specs.Range.{IsLetter};
+ghost use Rattle.hk_base.specs.declared.letter.Actor.TheVariants.{Node as NodeActor};
 ghost use Rattle.hk_node.specs.Sound.{IsEvent};
 ghost use Rattle.hk_node.specs.Laws.{IsNoCall};
+ghost use Rattle.hk_overseer.specs.Sends.{is_same};
+ghost use Rattle.hk_turns.specs.Turns.{Way, Working, GoesOut, GoOut, IsMadeOrLost, IsReceived, GoesOn, IsTurn, Works};
 
-use crate::worker::{Station, Worker};
+use crate::worker::Worker;
 use crate::workplace::Workplace;
-use hk_base::{Actor, Letters};
-use hk_link::Parcel;
+use hk_base::{Actor, Letter, Letters, NodeId};
+use hk_link::{Outlet, Parcel};
 use hk_node::NodeEvent;
 use hk_overseer::{Gate, send};
 use std::alloc::Global;
 use std::sync::Wait;
 use std::thread;
 
+// Sends the letter if the gate keeps it.
+fn put<G: Gate, R: Wait>(
+    rt: &R,
+    gate: &mut G,
+    outlets: &mut Vec<(Actor, Outlet)>,
+    shard: u8,
+    letter: Letter,
+)
+    requires shard { shard < 8 }
+    requires letter { IsLetter letter }
+    ensures { (kept : Bool) × G.answers gate.old kept gate.new × GoesOut kept shard letter outlets.old.items outlets.new.items }
+{
+    if gate.keeps() {
+        send(rt, outlets, shard, letter);
+    }
+}
+
 // Sends the letters that the gate keeps.
 fn put_all<G: Gate, R: Wait>(
     rt: &R,
-    station: &mut Station,
     gate: &mut G,
+    outlets: &mut Vec<(Actor, Outlet)>,
     shard: u8,
     letters: Letters,
 )
     requires shard { shard < 8 }
     requires letters { AllByRecursion IsLetter letters }
-    ensures { G.closed gate.new ≡ G.closed gate.old }
+    ensures { GoOut G.answers shard letters (record { gate = gate.old; outlets = outlets.old.items }) (record { gate = gate.new; outlets = outlets.new.items }) }
 {
     for letter in letters.into_vec() {
-        if gate.keeps() {
-            send(rt, &mut station.outlets, shard, letter);
-        }
+        put(rt, gate, outlets, shard, letter);
     }
 }
 
@@ -40,17 +58,27 @@ fn make<W: Workplace, G: Gate, R: Wait>(
     rt: &R,
     alloc: Global,
     place: &W,
-    station: &mut Station,
     gate: &mut G,
+    outlets: &mut Vec<(Actor, Outlet)>,
     shard: u8,
     event: NodeEvent,
 )
     requires shard { shard < 8 }
     requires event { IsEvent event }
     requires no_call { IsNoCall event }
+    ensures { IsMadeOrLost (W.applies place.now) (W.lacks place.now) G.answers shard event (record { gate = gate.old; outlets = outlets.old.items }) (record { gate = gate.new; outlets = outlets.new.items }) }
 {
     if let Ok(letters) = place.apply(rt, alloc, shard, event) {
-        put_all(rt, station, gate, shard, letters);
+        put_all(rt, gate, outlets, shard, letters);
+    }
+}
+
+fn is_to(node: NodeId, letter: &Letter) -> bool
+    ensures { result ≡ is_same (NodeActor node) letter.now.to }
+{
+    match letter.to {
+        Actor::Node(to) => node.0 == to.0,
+        Actor::Manager(_) => false,
     }
 }
 
@@ -59,52 +87,41 @@ fn receive<W: Workplace, G: Gate, R: Wait>(
     rt: &R,
     alloc: Global,
     place: &W,
-    station: &mut Station,
+    node: NodeId,
     gate: &mut G,
+    outlets: &mut Vec<(Actor, Outlet)>,
     parcel: Parcel,
-) {
+)
+    ensures { IsReceived (W.applies place.now) (W.lacks place.now) G.answers (is_same (NodeActor node) parcel.letter.to) parcel (record { gate = gate.old; outlets = outlets.old.items }) (record { gate = gate.new; outlets = outlets.new.items }) }
+{
     let Parcel { shard, letter, .. } = parcel;
-    if letter.to == Actor::Node(station.node) {
-        make(
-            rt,
-            alloc,
-            place,
-            station,
-            gate,
-            shard,
-            NodeEvent::Receive(letter),
-        );
+    if is_to(node, &letter) {
+        let event = NodeEvent::Receive(letter);
+        make(rt, alloc, place, gate, outlets, shard, event);
     }
 }
 
-// What a turn does.
-fn turn_at<W: Workplace, G: Gate, R: Wait>(
+// What a turn does once there is no parcel.
+fn go_on<W: Workplace, G: Gate, R: Wait>(
     rt: &R,
     alloc: Global,
     place: &W,
-    station: &mut Station,
+    worker: &mut Worker,
+    outlets: &mut Vec<(Actor, Outlet)>,
     gate: &mut G,
-) {
-    if let Some(parcel) = station.take(rt) {
-        receive(rt, alloc, place, station, gate, parcel);
+)
+    ensures { GoesOn (W.applies place.now) (W.finds place.now) (W.lacks place.now) G.answers (record { worker = worker.old; way = record { gate = gate.old; outlets = outlets.old.items } }) (record { worker = worker.new; way = record { gate = gate.new; outlets = outlets.new.items } }) }
+{
+    if let Some((shard, manager)) = worker.take_request() {
+        let event = NodeEvent::AskLease { manager };
+        make(rt, alloc, place, gate, outlets, shard, event);
         return;
     }
-    if let Some((shard, manager)) = station.requests.take() {
-        make(
-            rt,
-            alloc,
-            place,
-            station,
-            gate,
-            shard,
-            NodeEvent::AskLease { manager },
-        );
+    if let Some((shard, due)) = worker.take_due(rt, place) {
+        make(rt, alloc, place, gate, outlets, shard, due.event());
         return;
     }
-    if let Some((shard, due)) = station.next_due(rt, place) {
-        make(rt, alloc, place, station, gate, shard, due.event());
-        return;
-    }
+    worker.note(true);
     thread::yield_now();
 }
 
@@ -114,24 +131,30 @@ fn make_turn<W: Workplace, G: Gate, R: Wait>(
     alloc: Global,
     place: &W,
     worker: &mut Worker,
+    outlets: &mut Vec<(Actor, Outlet)>,
     gate: &mut G,
 )
-    ensures { worker.new.turns ≡ min (worker.old.turns + 1) (2 ^ 64 - 1) }
+    ensures { IsTurn (W.applies place.now) (W.finds place.now) (W.lacks place.now) G.answers (record { worker = worker.old; way = record { gate = gate.old; outlets = outlets.old.items } }) (record { worker = worker.new; way = record { gate = gate.new; outlets = outlets.new.items } }) }
 {
-    turn_at(rt, alloc, place, &mut worker.station, gate);
-    worker.turns = worker.turns.saturating_add(1);
+    worker.note(false);
+    if let Some(parcel) = worker.take(rt) {
+        receive(rt, alloc, place, worker.node(), gate, outlets, parcel);
+        return;
+    }
+    go_on(rt, alloc, place, worker, outlets, gate);
 }
 
-/// Makes so many turns, and fewer only where `pass` answered false. It gives the turns made, which the worker counts.
+/// Makes so many turns, and fewer only where `pass` answered false. It gives the turns made.
 pub fn work<W: Workplace, G: Gate, R: Wait>(
     rt: &R,
     alloc: Global,
     place: &W,
     worker: &mut Worker,
+    outlets: &mut Vec<(Actor, Outlet)>,
     gate: &mut G,
     turns: u64,
 ) -> u64
-    ensures made { worker.new.turns ≡ min (worker.old.turns + result) (2 ^ 64 - 1) }
+    ensures made { Works (W.applies place.now) (W.finds place.now) (W.lacks place.now) G.answers G.closed result (record { worker = worker.old; way = record { gate = gate.old; outlets = outlets.old.items } }) (record { worker = worker.new; way = record { gate = gate.new; outlets = outlets.new.items } }) }
     ensures most { result ≤ turns }
     ensures fewer { result < turns → G.closed gate.new ≡ true }
 {
@@ -140,7 +163,7 @@ pub fn work<W: Workplace, G: Gate, R: Wait>(
         if !gate.pass(turn) {
             return turn;
         }
-        make_turn(rt, alloc, place, worker, gate);
+        make_turn(rt, alloc, place, worker, outlets, gate);
     }
     turns
 }

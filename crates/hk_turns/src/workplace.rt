@@ -1,48 +1,32 @@
 //! Where a worker's steps are made.
 
-ghost use Rattle.std.specs.Prelude.{◌<◌, IfOk};
+ghost use Rattle.std.specs.Prelude.{◌≡◌, ◌<◌, ⊤, ℕ, List, Option, IfOk, OnErr};
+ghost use Rattle.std.specs.Option.{option_copied};
 ghost use Rattle.std.specs.List.{AllByRecursion};
+ghost use Rattle.hk_base.specs.declared.letter.Letter.{Letter};
 ghost use Rattle.hk_base.specs.Range.{IsLetter};
+ghost use Rattle.hk_node.specs.declared.event.NodeEvent.{NodeEvent as Event};
 ghost use Rattle.hk_node.specs.Sound.{IsEvent};
 ghost use Rattle.hk_node.specs.Laws.{IsNoCall};
+ghost use Rattle.hk_due.specs.declared.due.Due.{Due as IsDue};
 
 use hk_base::{Key, Letters, Memory};
+use hk_due::Due;
 use hk_node::NodeEvent;
 use std::alloc::Global;
 use std::sync::Wait;
 
-/// What is to be sent again of an open key.
-#[derive(Drop)]
-pub enum Due {
-    /// The node's own update, which is pending.
-    Resend(Key),
-    /// The update of another node, of which the row is Invalid.
-    Replay(Key),
-}
-
-impl Due {
-    /// The key.
-    pub fn key(&self) -> &Key {
-        match self {
-            Due::Resend(key) => key,
-            Due::Replay(key) => key,
-        }
-    }
-
-    // The event that sends it.
-    pub(crate) fn event(self) -> NodeEvent
-        ensures event { IsEvent result }
-        ensures no_call { IsNoCall result }
-    {
-        match self {
-            Due::Resend(key) => NodeEvent::Resend(key),
-            Due::Replay(key) => NodeEvent::Replay(key),
-        }
-    }
-}
-
 /// The eight shards of a node, each under its lock.
 pub trait Workplace {
+    /// The step of an event was made at a shard, at some moment, and gave these letters.
+    ghost applies: { Self → ℕ → Event → List Letter → Type 0 };
+
+    /// At some moment this was to be sent again at a shard: of the least key behind one, or of all, that was open since a step of a ticket up to one.
+    ghost finds: { Self → ℕ → Option (List ℕ) → ℕ → Option IsDue → Type 0 };
+
+    /// Memory was wanting at a shard, at some moment. Only the calls here tell it, so a loop that says so has made one.
+    ghost lacks: { Self → ℕ → Type 0 } = { λ place shard. ⊤ };
+
     /// A number above the tickets of all steps that were made.
     fn ticket<R: Wait>(&self, rt: &R) -> u64;
 
@@ -57,10 +41,19 @@ pub trait Workplace {
         requires shard { shard < 8 }
         requires event { IsEvent event }
         requires no_call { IsNoCall event }
-        ensures { IfOk result (λ letters. AllByRecursion IsLetter letters) };
+        ensures applied { IfOk result (λ letters. applies self.now shard event letters) }
+        ensures in_range { IfOk result (λ letters. AllByRecursion IsLetter letters) }
+        ensures err { OnErr result (lacks self.now shard) };
 
-    /// Of the least key of a shard behind this one, or of all, that is open since a step of a ticket up to `before`, what is to be sent again. `None` where there
-    /// is no such key, or where memory is wanting.
-    fn due<R: Wait>(&self, rt: &R, shard: u8, after: Option<&Key>, before: u64) -> Option<Due>
-        requires { shard < 8 };
+    /// Of the least key of a shard behind this one, or of all, that is open since a step of a ticket up to `before`, what is to be sent again.
+    fn due<R: Wait>(
+        &self,
+        rt: &R,
+        shard: u8,
+        after: Option<&Key>,
+        before: u64,
+    ) -> Result<Option<Due>, Memory>
+        requires { shard < 8 }
+        ensures due { IfOk result (λ due. finds self.now shard (option_copied after.entry) before due) }
+        ensures err { OnErr result (lacks self.now shard) };
 }

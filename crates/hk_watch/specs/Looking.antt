@@ -1,7 +1,5 @@
 -- Watches by their number, and what a look at one finds and leaves.
-use Rattle.std.specs.Prelude.{◌≡◌, ◌≢◌, ℕ, Bool, nat_lt, ◌==◌, if◌then◌else◌, List, Option, Some, None, IsSome, Result, Ok, Err}
-use Rattle.std.specs.Ordering.{nat_cmp}
-use Rattle.std.specs.BTreeMap.{is_at, insert_entry}
+use Rattle.std.specs.Prelude.{◌≡◌, ◌≢◌, ℕ, Bool, nat_lt, nat_eq, ◌==◌, if◌then◌else◌, List, Option, Some, None, IsSome, Result, Ok, Err}
 use Rattle.std.specs.Map.{lookup}
 use Rattle.hk_base.specs.declared.stamp.Stamp.{Stamp}
 use Rattle.hk_base.specs.declared.call.State.{State}
@@ -38,7 +36,7 @@ look_of watch last (Some g) = look_at watch last g
 
 module _ {F : Type 0} where
   abbrev pub watch_at : List (ℕ × Watch F) → ℕ → Option (Watch F)
-  watch_at watches watch = lookup (is_at (nat_cmp watch)) watches
+  watch_at watches watch = lookup (nat_eq watch) watches
 
   -- all other watches are as they were
   abbrev pub AreOthersSame : List (ℕ × Watch F) → List (ℕ × Watch F) → ℕ → Type 0
@@ -46,7 +44,7 @@ module _ {F : Type 0} where
 
   -- a watch is kept where none of its number was; else the watcher comes back, and nothing has changed
   abbrev pub IsWatch : Result Unit (WatchFault F) → List (ℕ × Watch F) → List (ℕ × Watch F) → ℕ → Watch F → Type 0
-  IsWatch (Ok _) before after watch new = (watch_at before watch ≡ None) × (after ≡ insert_entry nat_cmp before watch new)
+  IsWatch (Ok _) before after watch new = (watch_at before watch ≡ None) × (watch_at after watch ≡ Some new) × AreOthersSame before after watch
   IsWatch (Err (fault.Kept back)) before after watch new = (back ≡ new.done) × IsSome (watch_at before watch) × (after ≡ before)
   IsWatch (Err (fault.Memory back)) before after watch new = (back ≡ new.done) × (watch_at before watch ≡ None) × (after ≡ before)
 

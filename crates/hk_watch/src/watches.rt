@@ -10,7 +10,7 @@ use crate::watcher::Watcher;
 use hk_base::{Key, Memory, Stamp};
 use hk_snap::SnapReader;
 use std::alloc::Global;
-use std::collections::BTreeMap;
+use std::collections::HashMap;
 use std::marker::Model;
 use std::sync::Wait;
 
@@ -23,10 +23,10 @@ pub enum WatchFault<F> {
     Kept(F),
 }
 
-/// The watches that are kept. Contracts see them by their numbers, in rising order.
+/// The watches that are kept. Contracts see each by its number.
 #[derive(Drop)]
 pub struct Watches<F: Watcher + Drop> {
-    kept: BTreeMap<u64, Watch<F>>,
+    kept: HashMap<u64, Watch<F>>,
 }
 
 impl<F: Watcher + Drop> Model for Watches<F> {
@@ -44,7 +44,7 @@ impl<F: Watcher + Drop> Watches<F> {
         ensures { result ≡ [] }
     {
         Watches {
-            kept: BTreeMap::new(alloc),
+            kept: HashMap::new(alloc),
         }
     }
 

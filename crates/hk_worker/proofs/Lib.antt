@@ -1,3 +1,7 @@
+pub mod Clocked
+pub mod Earlier
+pub mod Freely
+pub mod Local
 pub mod Posts
 pub mod Telling
 pub mod Turns

@@ -20,7 +20,7 @@ use Rattle.hk_worker.proofs.Posts.{nat_cases}
 use Rattle.hk_worker.specs.Turns.{IsUnasked, PostAsk, AsksInTurn, post_after, seen_of, IsShownIn, AreShownAt, AsksAreShown, ListsGrow, TicksAskNothing, with_count, counts_of, Rise, CountsRise, UpdatesDiffer}
 
 -- ---- counts
-rise_from : (a b : ℕ) (counts : List ℕ) → b ≡ a → Rise b counts → Rise a counts
+pub rise_from : (a b : ℕ) (counts : List ℕ) → b ≡ a → Rise b counts → Rise a counts
 rise_from a b counts is = subst (λ n. Rise n counts) is
 
 counted : (old new : PostState) (key : List ℕ) (op : Op) (result : Result DeskReply Memory) (counts : List ℕ) → AsksAtPost key op old new result → Rise new.asks counts
@@ -52,15 +52,20 @@ grown_at key other old new grown = at_cell (nat_cases (cell_of other) (cell_of k
     at_cell (inl is) = subst (λ c. IsPrefix (at old.cells.ends c).seen (at new.cells.ends c).seen) (sym is) grown.seen
     at_cell (inr apart) = subst (λ (e : End). IsPrefix (end_at other old).seen e.seen) (sym (grown.same.others (cell_of other) apart)) (prefix_self (end_at other old).seen)
 
-has_grown : (key other : List ℕ) (old new : PostState) → HasAsked key old new → IsPrefix (seen_of other old) (seen_of other new)
-has_grown key other old new h = at_shard (nat_cases (shard_of other) (shard_of key))
+-- of every key's cell, where the reader of one key's shard has seen more, and no other
+pub seen_grown : (key other : List ℕ) (old new : PostState) → IsGrown key (reader_of key old) (reader_of key new)
+    → ((shard : ℕ) → shard ≢ shard_of key → reader_at new shard ≡ reader_at old shard) → IsPrefix (seen_of other old) (seen_of other new)
+seen_grown key other old new grown others = at_shard (nat_cases (shard_of other) (shard_of key))
   where
     at_shard : (shard_of other ≡ shard_of key) ⊎ (shard_of other ≢ shard_of key) → IsPrefix (seen_of other old) (seen_of other new)
     at_shard (inl is) = subst (λ s. IsPrefix (end_at other (reader_at old s)).seen (end_at other (reader_at new s)).seen) (sym is)
-        (grown_at key other (reader_of key old) (reader_of key new) h.grown)
-    at_shard (inr apart) = subst (λ (r : ReaderState). IsPrefix (seen_of other old) (end_at other r).seen) (sym (h.others (shard_of other) apart)) (prefix_self (seen_of other old))
+        (grown_at key other (reader_of key old) (reader_of key new) grown)
+    at_shard (inr apart) = subst (λ (r : ReaderState). IsPrefix (seen_of other old) (end_at other r).seen) (sym (others (shard_of other) apart)) (prefix_self (seen_of other old))
 
-same_seen : (other : List ℕ) (old new : PostState) → IsUnasked old new → seen_of other new ≡ seen_of other old
+pub has_grown : (key other : List ℕ) (old new : PostState) → HasAsked key old new → IsPrefix (seen_of other old) (seen_of other new)
+has_grown key other old new h = seen_grown key other old new h.grown h.others
+
+pub same_seen : (other : List ℕ) (old new : PostState) → IsUnasked old new → seen_of other new ≡ seen_of other old
 same_seen other old new un = ap (λ (c : Reader). (at c.ends (cell_of other)).seen) (un.cells (shard_of other))
 
 asked_at : (key other : List ℕ) (op : Op) (old new : PostState) (result : Result DeskReply Memory) → AsksAtPost key op old new result → IsPrefix (seen_of other old) (seen_of other new)

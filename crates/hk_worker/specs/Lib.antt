@@ -1,3 +1,4 @@
 pub mod Asking
 pub mod Founding
+pub mod Reading
 pub mod Turns

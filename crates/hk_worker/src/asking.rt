@@ -1,17 +1,17 @@
 //! An ask of one operation at the shards of a node.
 
-ghost use Rattle.std.specs.Prelude.{◌≡◌, ◌<◌, ℕ, None, IfOk};
+ghost use Rattle.std.specs.Prelude.{◌≡◌, ◌<◌, ℕ, None, IfOk, OnErr};
 ghost use Rattle.std.specs.List.{AllByRecursion};
 ghost use Rattle.hk_base.specs.Range.{IsLetter};
 ghost use Rattle.hk_outside.specs.Desk.{Suits};
-ghost use Rattle.hk_locked.specs.Steps.{IsGrown, StartsAt, LooksFor};
+ghost use Rattle.hk_locked.specs.Steps.{IsGrown, IsLeft, StartsAt, LooksFor};
 ghost use Rattle.hk_worker.specs.Asking.{LooksOften, Tells};
 
 use crate::shards::Shards;
 use hk_base::{Actor, Answer, CallNo, Key, Memory, Op};
 use hk_callback::Completion;
 use hk_link::Outlet;
-use hk_locked::{Places, ShardReader, Started};
+use hk_locked::{LockedShard, Places, ShardReader, Started};
 use hk_outside::DeskReply;
 use hk_overseer::send_all;
 use hk_told::Look;
@@ -40,6 +40,51 @@ fn settle<F: Completion + Copy + Drop, P: Places, R: Wait>(
     }
 }
 
+// Makes the call at the shard. Where no memory was found its update may have begun, and nobody waits for what it is told.
+fn start<F: Completion + Copy + Drop, P: Places, R: Wait>(
+    rt: &R,
+    alloc: Global,
+    held: &mut LockedShard<F, P>,
+    reader: &mut ShardReader<P>,
+    ticket: u64,
+    call: CallNo,
+    key: &Key,
+    op: &Op,
+    tell: F,
+) -> Result<Started, Memory>
+    requires { held.old.shard.last < ticket }
+    ensures starts { IfOk result (λ started. StartsAt reader.old reader.new call key.now started.ticket op.now started.answer) }
+    ensures letters { IfOk result (λ started. AllByRecursion IsLetter started.letters) }
+    ensures grown { IsGrown key.now reader.old reader.new }
+    ensures left { OnErr result (IsLeft call held.new) }
+{
+    let Ok(started) = held.start(rt, alloc, reader, ticket, call, key, op, tell) else {
+        held.give_up(call);
+        return Err(Memory);
+    };
+    Ok(started)
+}
+
+// One look at the ask. Where no memory was found, nobody waits for what it is told.
+fn look<F: Completion + Copy + Drop, P: Places, R: Wait>(
+    rt: &R,
+    held: &mut LockedShard<F, P>,
+    reader: &mut ShardReader<P>,
+    key: &Key,
+    call: CallNo,
+    ticket: u64,
+) -> Result<Look, Memory>
+    ensures looks { IfOk result (λ look. LooksFor key.now ticket reader.old reader.new look) }
+    ensures grown { IsGrown key.now reader.old reader.new }
+    ensures left { OnErr result (IsLeft call held.new) }
+{
+    let Ok(look) = held.look(rt, reader, key, call, ticket) else {
+        held.give_up(call);
+        return Err(Memory);
+    };
+    Ok(look)
+}
+
 // Makes the call, under the shard's lock.
 fn begin<F: Completion + Copy + Drop, P: Places, R: Wait>(
     rt: &R,
@@ -57,7 +102,7 @@ fn begin<F: Completion + Copy + Drop, P: Places, R: Wait>(
 {
     let mut held = shards.lock_of(reader.number()).lock(rt);
     let ticket = shards.tickets().draw_above(rt, held.last_ticket());
-    held.start(rt, alloc, reader, ticket, call, key, op, tell)
+    start(rt, alloc, &mut *held, reader, ticket, call, key, op, tell)
 }
 
 // One look, under the shard's lock.
@@ -73,7 +118,7 @@ fn turn<F: Completion + Copy + Drop, P: Places, R: Wait>(
     ensures grown { IsGrown key.now reader.old reader.new }
 {
     let mut held = shards.lock_of(reader.number()).lock(rt);
-    held.look(rt, reader, key, call, ticket)
+    look(rt, &mut *held, reader, key, call, ticket)
 }
 
 // Looks until the ask of the call was told something, 100,000 times at most.

@@ -3,12 +3,13 @@
 ghost use Rattle.std.specs.Prelude.{◌≡◌, None};
 ghost use Rattle.hk_outside.specs.Desk.{Suits};
 ghost use Rattle.hk_worker.specs.Asking.{AsksAtPost};
+ghost use Rattle.hk_worker.specs.Reading.{AsksByClock};
 
 use crate::post::Post;
 use hk_base::{Key, Memory, Op};
 use hk_callback::Completion;
 use hk_locked::Places;
-use hk_outside::{Desk, DeskReply};
+use hk_outside::{Clock, Desk, DeskReply};
 use std::sync::Wait;
 
 /// Asks operations at a post.
@@ -24,6 +25,19 @@ impl<R: Wait + Drop, F: Completion + Copy + Drop, P: Places> NodeDesk<R, F, P> {
         ensures { result.post ≡ post }
     {
         NodeDesk { rt, post }
+    }
+
+    // Asks one operation by a clock.
+    pub(crate) fn ask_by<C: Clock>(
+        &mut self,
+        clock: &C,
+        key: &Key,
+        op: &Op,
+    ) -> Result<DeskReply, Memory>
+        ensures suits { Suits op.now result }
+        ensures told { AsksByClock (C.reading clock.now) key.now op.now self.old.post self.new.post result }
+    {
+        self.post.ask_by(&self.rt, clock, key, op)
     }
 }
 

@@ -25,12 +25,12 @@ const NUMBERS: u64 = 4_294_967_296;
 /// number, how many asks were made, and the readers.
 #[derive(Drop)]
 pub struct Post<F: Completion + Copy + Drop, P: Places> {
-    alloc: Global,
+    pub(crate) alloc: Global,
     node: NodeId,
     number: u32,
     asks: u32,
-    shards: Arc<Shards<F, P>>,
-    readers: Vec<ShardReader<P>>,
+    pub(crate) shards: Arc<Shards<F, P>>,
+    pub(crate) readers: Vec<ShardReader<P>>,
     outlets: Vec<(Actor, Outlet)>,
     tell: F,
 }

@@ -55,8 +55,9 @@ fn put_stamped(out: &mut Vec<u8>, name: &[u8], stamp: Stamp) -> Result<(), Memor
     put_stamp(out, stamp)
 }
 
+/// Puts the words of an answer behind what is there. After `Memory` a front of them may stand there.
 #[tactic(auto, unfolding(crate::specs::Text::answer_text))]
-pub(super) fn put_answer(out: &mut Vec<u8>, answer: &Answer) -> Result<(), Memory>
+pub fn put_answer(out: &mut Vec<u8>, answer: &Answer) -> Result<(), Memory>
     ensures { OnOk result (out.new.items ≡ out.old.items ++ answer_text answer.now) }
 {
     match answer {

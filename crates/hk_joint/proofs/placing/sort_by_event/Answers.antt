@@ -1,6 +1,6 @@
 use Rattle.std.proofs.Common.{rules, ◌≡◌}
 use Rattle.std.proofs.lemmas.Fn.{always_returns_same}
-use Rattle.hk_joint.specs.declared.placing.Placed.{Placed}
+use Rattle.hk_safety.specs.declared.placed.Placed.{Placed}
 use Rattle.hk_joint.proofs.ByEvent.{sorted_gathers}
 use Rattle.hk_joint.proofs.placing.sort_by_event.Goals as goal
 

@@ -16,7 +16,7 @@ loop-reply-preserved g c =
     let steps : into_iter_items c.loop-reply.reply-iterator ≡ c.in-Some.reply ∷ into_iter_items c.next.new.self = c.in-Some.ensures.steps.0 in (
       λ final rest. c.loop-reply.invariant.0 final
           (subst (λ (l : List Reply). Delivers l (asks_in c.loop-reply.asks) final) (sym steps)
-          (delivers_in_turn c.in-Some.reply (into_iter_items c.next.new.self) (asks_in c.loop-reply.asks) (asks_in c.deliver.new.self) final c.deliver.ensures rest)),
+          (delivers_in_turn c.in-Some.reply (into_iter_items c.next.new.self) (asks_in c.loop-reply.asks) (asks_in c.deliver.new.self) final c.deliver.ensures.delivers rest)),
       let was = c.loop-reply.invariant.1 in
           let gone = c.in-Some.ensures.steps.1 in
           let short = ap length steps in

@@ -2,5 +2,5 @@ use Rattle.std.proofs.Common.{◌≡◌, ◌++◌, map, drop}
 use Rattle.hk_safety.specs.Kept.{look_entry}
 use Rattle.hk_safety.proofs.reading.put_looks.Given as goal
 
-abbrev pub invariant-loop-call : goal.invariant-loop-call
-invariant-loop-call l = l.order ++ map look_entry (drop l.call-index l.looks) ≡ l.fn.order ++ map look_entry l.looks
+abbrev pub invariant-loop-look : goal.invariant-loop-look
+invariant-loop-look l = l.order ++ map look_entry (drop l.look-index l.looks) ≡ l.fn.order ++ map look_entry l.looks

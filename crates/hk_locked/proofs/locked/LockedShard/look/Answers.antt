@@ -13,4 +13,4 @@ returns-clause-looks g c =
     let at : IsTrue c.is_at.result = search rules in
     looks_for _ c.args.key.now c.args.ticket c.args.call c.look.result c.args.reader.now c.meet.new.reader
     (subst (λ (s : LockedState). Meets s c.args.key.now c.args.reader.now c.meet.new.reader) (sym c.meet.ensures.same ∙ sym c.self.view_is) c.in_ok-meet.ensures.met)
-    c.self.invariant.held (c.is_at.ensures at) c.look.ensures.stands
+    c.self.invariant.held (c.is_at.ensures.is at) c.look.ensures.stands

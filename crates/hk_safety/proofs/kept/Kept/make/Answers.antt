@@ -36,9 +36,9 @@ returns-in-Ok-keep c =
     let old : KeptState = record { world = c.self.inside.world; keys = c.self.inside.keys.entries; calls = c.self.inside.calls.items } in
     let may : MayMake old c.args.event.now = subst (λ (k : KeptState). MayMake k c.args.event.now) (sym c.self.view_is) c.requires in
     let step = c.in-Ok.ensures in
-    let kept : IsKeptAfter (with_world old step.0.world) c.keep.new.self c.args.event.now step.0.shown =
-    subst (λ (s : Shown). IsKeptAfter (with_world old step.0.world) c.keep.new.self c.args.event.now s) (sym step.2)
-    (subst (λ (w : WorldState). IsKeptAfter (with_world old w) c.keep.new.self c.args.event.now c.in-Ok.shown) (sym step.3) c.in-Ok-keep.ensures) in
-    let made : IsMade old c.keep.new.self c.args.event.now step.0 =
-    is_made old c.args.event.now may step.0 step.1 c.keep.new.self kept in
-    (step.0, step.2, subst (λ (k : KeptState). IsMade k c.keep.new.self c.args.event.now step.0) c.self.view_is made)
+    let kept : IsKeptAfter c.args.number (with_world old step.0.world) c.keep.new.self c.args.event.now step.0.shown =
+    subst (λ (s : Shown). IsKeptAfter c.args.number (with_world old step.0.world) c.keep.new.self c.args.event.now s) (sym step.2)
+    (subst (λ (w : WorldState). IsKeptAfter c.args.number (with_world old w) c.keep.new.self c.args.event.now c.in-Ok.shown) (sym step.3) c.in-Ok-keep.ensures) in
+    let made : IsMade c.args.number old c.keep.new.self c.args.event.now step.0 =
+    is_made c.args.number old c.args.event.now may step.0 step.1 c.keep.new.self kept in
+    (step.0, step.2, subst (λ (k : KeptState). IsMade c.args.number k c.keep.new.self c.args.event.now step.0) c.self.view_is made)

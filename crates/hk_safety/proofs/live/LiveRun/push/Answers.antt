@@ -1,4 +1,4 @@
-use Rattle.std.proofs.Common.{rules, ◌≡◌, ◌++◌, ◌∷◌, []}
+use Rattle.std.proofs.Common.{rules, ◌≡◌, ℕ, ◌+◌, ◌++◌, ◌∷◌, [], length, length-append, sym, ap, ◌∙◌}
 use Rattle.hk_safety.specs.Run.{RunState}
 use Rattle.hk_safety.specs.Kept.{IsKeptOf}
 use Rattle.hk_safety.proofs.Asked.{made_then}
@@ -15,6 +15,8 @@ pub invariant_of-self-in-Ok : goal.invariant_of-self-in-Ok
 invariant_of-self-in-Ok c =
     let run : RunState = record { header = c.self.inside.header; events = c.self.inside.past.events } in
     let kept : IsKeptOf c.in-Some.kept run = search rules in
-    let last : c.note.new.self.events ≡ c.self.inside.past.events ++ c.args.event.now ∷ [] = search rules in
-    made_then c.runs_keep_parts.ensures c.in-Some.kept c.make.new.self c.self.inside.header c.self.inside.past.events c.note.new.self.events c.args.event.now c.make.result c.in-Ok.shown (search rules)
-    kept c.self.invariant.0 c.requires c.make.ensures last
+    let one_more : c.in-Some-checked_add.number ≡ c.self.inside.count + 1 = search rules in
+    let number : c.in-Some-checked_add.number ≡ length run.events + 1 = one_more ∙ ap (λ (n : ℕ). n + 1) c.self.invariant.1 in
+    let next = made_then c.runs_keep_parts.ensures c.in-Some-checked_add.number c.in-Some.kept c.make.new.self c.self.inside.header run.events c.note.new.self.events c.args.event.now c.make.result
+    c.in-Ok.shown c.in-Ok.is number kept c.self.invariant.0 c.requires c.make.ensures c.note.ensures in
+    (next.0, number ∙ sym (ap length c.note.ensures ∙ length-append run.events (c.args.event.now ∷ [])), next.1)

@@ -8,6 +8,7 @@ use Rattle.hk_snap.specs.Leases.{Lease, raised}
 use Rattle.hk_shard.specs.Publishing.{publications, with_all, MayBePublished}
 use Rattle.hk_shard.specs.Shard.{ShardState, IsApplied}
 use Rattle.hk_shard.proofs.Keeping.{part_is_node, next_by, applied_by, applied_kept, noted_kept, still_unseen}
+use Rattle.hk_shard.proofs.Levelling.{level_more}
 use Rattle.hk_shard.proofs.shard.Shard.apply.Goals as goal
 
 pub make-requires-clause-node : goal.make-requires-clause-node
@@ -37,6 +38,8 @@ invariant_of-self-2 g c =
       noted_kept _ c.make.new.part c.make.new.journal c.args.ticket c.args.event c.self.inside.changing.items c.make.new.changing.items c.self.invariant.0 c.self.invariant.1 told.changing told.part told.journal,
       still_unseen c.self.inside.reader c.self.inside.writer c.publish_rows.new.writer applied.names c.self.invariant.2,
       c.self.invariant.3 ∙ sym (ap (λ (l : Lease). l.name) c.raise.ensures),
+      λ yes. level_more c.self.inside.base c.self.inside.part c.make.new.part c.args.event c.in_ok-out.out c.self.inside.touched.items c.stays_level-self-inside.new.touched.items
+          (c.self.invariant.4 (c.stays_level-self-inside.ensures.was yes)) told.out told.part (c.stays_level-self-inside.ensures.noted yes),
     )
 
 pub returns-clause-applied : goal.returns-clause-applied

@@ -4,6 +4,7 @@ use Rattle.hk_snap.specs.Leases.{Lease, kept_lease}
 use Rattle.hk_journal.specs.declared.step_entry.JournalEntry.{JournalEntry}
 use Rattle.hk_shard.specs.Shard.{IsShard}
 use Rattle.hk_shard.proofs.Keeping.{new_kept, first_reader, nothing_changing}
+use Rattle.hk_shard.proofs.Levelling.{level_at_first}
 use Rattle.hk_shard.proofs.shard.Shard.new.Goals as goal
 
 pub invariant_of-result : goal.invariant_of-result
@@ -20,4 +21,5 @@ invariant_of-result g c =
       nothing_changing base c.new.result c.new-2.result.items c.new.ensures c.new-2.ensures.items,
       first_reader c.in_ok-writer.reader ends nothing.1 c.in_ok-writer.ensures.reader,
       ap (λ (l : Lease). l.name) c.in_ok-keeper.ensures.cell,
+      λ yes. level_at_first base part c.new-3.result.items c.in_ok-part.ensures c.new-3.ensures.items,
     )

@@ -1,11 +1,26 @@
-use Rattle.std.proofs.Common.{sym, ap, ◌∙◌}
-use Rattle.hk_told.specs.Kept.{asks_in}
-use Rattle.hk_told.proofs.Apart.{fewer_without, fewer_unwanted}
+use Rattle.std.proofs.Common.{◌≡◌, false, sym, ap, ◌∙◌}
+use Rattle.hk_told.specs.Kept.{asks_in, is_told}
+use Rattle.hk_told.proofs.Apart.{fewer_without, fewer_unwanted, given_up_told, left_unwanted}
 use Rattle.hk_told.proofs.asks.Asks.give_up.Goals as goal
 
-pub returns-then-is_told : goal.returns-then-is_told
-returns-then-is_told c = fewer_without c.args.call (asks_in c.args.self.now) (asks_in c.forget.new.self) (sym c.is_told.ensures ∙ c.if-is_told.true) c.forget.ensures.gone c.forget.ensures.others
+pub returns-then-is_told-clause-left : goal.returns-then-is_told-clause-left
+returns-then-is_told-clause-left c = c.forget.ensures.gone ∙ given_up_told (asks_in c.args.self.now c.args.call) (sym c.is_told.ensures ∙ c.if-is_told.true)
 
-pub returns-else-is_told : goal.returns-else-is_told
-returns-else-is_told c = rw (sym c.self.view_is)
+pub returns-then-is_told-clause-fewer : goal.returns-then-is_told-clause-fewer
+returns-then-is_told-clause-fewer c = fewer_without c.args.call (asks_in c.args.self.now) (asks_in c.forget.new.self) (sym c.is_told.ensures ∙ c.if-is_told.true) c.forget.ensures.gone c.forget.ensures.others
+
+pub returns-else-is_told-clause-left : goal.returns-else-is_told-clause-left
+returns-else-is_told-clause-left c =
+    let waits : is_told (asks_in c.self.inside.kept.entries c.args.call) ≡ false = rw c.self.view_is (sym c.is_told.ensures ∙ c.if-is_told.false) in
+    rw (sym c.self.view_is)
+    (left_unwanted c.args.call c.self.inside.kept.entries c.leave.new.kept.entries (c.leave.ensures.there, λ none. ap (λ m. m.entries) (c.leave.ensures.nobody none)) waits).0
+
+pub returns-else-is_told-clause-others : goal.returns-else-is_told-clause-others
+returns-else-is_told-clause-others c =
+    let waits : is_told (asks_in c.self.inside.kept.entries c.args.call) ≡ false = rw c.self.view_is (sym c.is_told.ensures ∙ c.if-is_told.false) in
+    rw (sym c.self.view_is)
+    (left_unwanted c.args.call c.self.inside.kept.entries c.leave.new.kept.entries (c.leave.ensures.there, λ none. ap (λ m. m.entries) (c.leave.ensures.nobody none)) waits).1
+
+pub returns-else-is_told-clause-fewer : goal.returns-else-is_told-clause-fewer
+returns-else-is_told-clause-fewer c = rw (sym c.self.view_is)
     (fewer_unwanted c.args.call c.self.inside.kept.entries c.leave.new.kept.entries (c.leave.ensures.there, λ none. ap (λ m. m.entries) (c.leave.ensures.nobody none)))

@@ -1,0 +1,10 @@
+//! Examples of desks at the shards of a node.
+#![tactic(auto)]
+
+#[cfg(test)]
+mod clock_desks;
+mod completing;
+#[cfg(test)]
+mod desks;
+#[cfg(test)]
+mod founding;

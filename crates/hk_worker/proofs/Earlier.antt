@@ -1,0 +1,133 @@
+-- What an ask tells is told too from before a look that came first.
+use Rattle.std.proofs.Common.{◌≡◌, ◌⊎◌, inl, inr, ℕ, ◌+◌, ◌-◌, ◌<◌, ◌≤◌, min, List, [], ◌∷◌, ◌++◌, Option, Some, None, true, Result, Ok, Err, refl, sym, ap, ◌∙◌, subst, arith, append_assoc, le_trans}
+use Rattle.std.specs.Option.{IfSome}
+use mathlib.Core.List.{IsPrefix}
+use Rattle.hk_base.specs.declared.time.TheConstants.{MAX_TIME}
+use Rattle.hk_base.specs.declared.call.CallNo.{CallNo}
+use Rattle.hk_base.specs.declared.call.Op.{Op}
+use Rattle.hk_base.specs.declared.call.Answer.{Answer}
+use Rattle.hk_base.specs.declared.call.Answer.TheVariants as word
+use Rattle.hk_outside.specs.declared.desk.DeskReply.{DeskReply}
+use Rattle.hk_outside.specs.declared.desk.DeskReply.TheVariants.{Told, Unknown, Spent}
+use Rattle.hk_snap.specs.declared.rule.Publication.{Publication}
+use Rattle.hk_snap.specs.Ends.{End}
+use Rattle.hk_told.specs.Lists.{row_in}
+use Rattle.hk_told.specs.Steps.{AtOnce}
+use Rattle.hk_told.specs.Shown.{Begun, Shown, NotEnded, TellsShown, TellsUnknown, acted_on}
+use Rattle.hk_locked.specs.Locked.{ReaderState}
+use Rattle.hk_locked.specs.Steps.{end_at, IsGrown}
+use Rattle.hk_locked.proofs.Reading.{grown_on}
+use Rattle.hk_worker.specs.Asking.{PostState, Tells, HasAsked, AsksAtPost, call_number, reader_at, reader_of}
+use Rattle.hk_worker.specs.Reading.{HasLooked, HasRisen, HasAskedByClock, AsksByClock}
+
+-- ---- what is shown
+module _ (old first grown : List Publication) (call : CallNo) (key : List ℕ) (op : Op) where
+  abbrev begun_from : Begun (old ++ first) grown call key op → Begun old (first ++ grown) call key op
+  begun_from b = record {
+    before = first ++ b.before;
+    x = b.x;
+    later = b.later;
+    answer = b.answer;
+    stands = ap (λ (l : List Publication). first ++ l) b.stands ∙ sym (append_assoc first b.before (b.x ∷ b.later));
+    of_key = b.of_key;
+    number = b.number;
+    changes = subst (λ (l : List Publication). (acted_on op key l b.x).changed ≡ true) (append_assoc old first b.before) b.changes;
+    acts = subst (λ (l : List Publication). (acted_on op key l b.x).answer ≡ b.answer) (append_assoc old first b.before) b.acts;
+    content = subst (λ (l : List Publication). b.x.row.content ≡ (acted_on op key l b.x).register.content) (append_assoc old first b.before) b.content;
+  }
+
+  not_ended_from : NotEnded (old ++ first) grown call key op → NotEnded old (first ++ grown) call key op
+  not_ended_from s = (begun_from s.0, s.1, s.2)
+
+  module _ (end now skew : ℕ) where
+    at_once_from : (answer : Answer) → AtOnce end now skew (row_in key ((old ++ first) ++ grown)) op answer → AtOnce end now skew (row_in key (old ++ (first ++ grown))) op answer
+    at_once_from answer s = subst (λ (l : List Publication). AtOnce end now skew (row_in key l) op answer) (append_assoc old first grown) s
+
+    shown_from : (answer : Answer) → Shown (old ++ first) grown call key op end now skew answer → Shown old (first ++ grown) call key op end now skew answer
+    shown_from word.Stored s = (begun_from s.0, s.1, s.2)
+    shown_from (word.Number value) s = (begun_from s.0, s.1, s.2)
+    shown_from word.Deleted s = (begun_from s.0, s.1, s.2)
+    shown_from (word.Aborted stamp) s = (begun_from s.0, s.1, s.2, s.3)
+    shown_from (word.Found content tag) s = at_once_from (word.Found content tag) s
+    shown_from word.Missing s = at_once_from word.Missing s
+    shown_from word.Exists s = at_once_from word.Exists s
+    shown_from word.NotFound s = at_once_from word.NotFound s
+    shown_from word.NotNumber s = at_once_from word.NotNumber s
+    shown_from word.NotStored s = at_once_from word.NotStored s
+    shown_from (word.Busy why) s = at_once_from (word.Busy why) s
+    shown_from (word.Exhausted stamp) s = at_once_from (word.Exhausted stamp) s
+
+-- ---- what an ask tells
+module _ (call : CallNo) (key : List ℕ) (op : Op) (old mid new : End) (more : IsPrefix old.seen mid.seen) (loads : old.loads ≤ mid.loads) where
+  joined : (grown : List Publication) → new.seen ≡ mid.seen ++ grown → new.seen ≡ old.seen ++ (more.0 ++ grown)
+  joined grown is = is ∙ (ap (λ (l : List Publication). l ++ grown) (sym more.1) ∙ append_assoc old.seen more.0 grown)
+
+  tells_from : (end now skew : ℕ) (answer : Answer) → TellsShown call key op end now skew mid new answer → TellsShown call key op end now skew old new answer
+  tells_from end now skew answer t = (
+    more.0 ++ t.0,
+    (mid.loads - old.loads) + t.1,
+    joined t.0 t.2,
+    (let e = t.3 in omega (arith, e, loads)),
+    (let e = t.4 in omega (arith, e)),
+    shown_from old.seen more.0 t.0 call key op end now skew answer
+        (subst (λ (l : List Publication). Shown l t.0 call key op end now skew answer) (sym more.1) t.5),
+  )
+
+  unknown_from : (turns : ℕ) → TellsUnknown call key op turns mid new → TellsUnknown call key op turns old new
+  unknown_from turns t = (
+    more.0 ++ t.0,
+    (mid.loads - old.loads) + t.1,
+    joined t.0 t.2,
+    (let e = t.3 in omega (arith, e, loads)),
+    (let e = t.4 in omega (arith, e)),
+    not_ended_from old.seen more.0 t.0 call key op (subst (λ (l : List Publication). NotEnded l t.0 call key op) (sym more.1) t.5),
+  )
+
+tells_earlier : (call : CallNo) (key : List ℕ) (op : Op) (old mid new : ReaderState) (reply : DeskReply) → IsGrown key old mid → Tells call key op mid new reply → Tells call key op old new reply
+tells_earlier call key op old mid new (Told answer) grown t = (
+  tells_from call key op (end_at key old) (end_at key mid) (end_at key new) grown.seen grown.loads new.lease.end new.lease.now new.skew answer t.0,
+  (let p = grown.lease.loads in let q = t.1 in omega (arith, p, q)),
+)
+tells_earlier call key op old mid new (Unknown turns) grown t =
+    (unknown_from call key op (end_at key old) (end_at key mid) (end_at key new) grown.seen grown.loads turns t.0, t.1)
+tells_earlier call key op old mid new (Spent asks) grown t = t
+
+-- ---- at a post
+asked_earlier : (key : List ℕ) (old mid new : PostState) → HasLooked key old mid → HasAsked key mid new → HasAsked key old new
+asked_earlier key old mid new l a = record {
+  may = (let p = l.asks in let q = a.may in omega (arith, p, q));
+  asks = a.asks ∙ ap (λ n. n + 1) l.asks;
+  node = a.node ∙ l.node;
+  number = a.number ∙ l.number;
+  grown = grown_on key (reader_of key old) (reader_of key mid) (reader_of key new) l.grown a.grown;
+  others = λ shard apart. a.others shard apart ∙ l.others shard apart;
+}
+
+number_earlier : (key : List ℕ) (old mid : PostState) → HasLooked key old mid → call_number mid.number (mid.asks + 1) ≡ call_number old.number (old.asks + 1)
+number_earlier key old mid l = ap (λ n. call_number n (mid.asks + 1)) l.number ∙ ap (λ n. call_number old.number (n + 1)) l.asks
+
+risen : (reading : Option ℕ) (value a b : ℕ) → IfSome reading (λ time. value ≡ time) → min value MAX_TIME ≤ a → a ≤ b → IfSome reading (λ time. min time MAX_TIME ≤ b)
+risen None value a b told above later = tt
+risen (Some time) value a b told above later = subst (λ t. min t MAX_TIME ≤ b) told (le_trans above later)
+
+module _ (reading : Option ℕ) (value : ℕ) (key : List ℕ) (op : Op) (old mid new : PostState) (l : HasLooked key old mid) (told : IfSome reading (λ time. value ≡ time))
+    (above : min value MAX_TIME ≤ (reader_of key mid).lease.now) where
+  by_clock : (reply : DeskReply) → HasAsked key mid new → Tells (call_number mid.number (mid.asks + 1)) key op (reader_of key mid) (reader_of key new) reply
+      → HasAskedByClock reading key op old new reply
+  by_clock reply a t = (
+    asked_earlier key old mid new l a,
+    risen reading value (reader_of key mid).lease.now (reader_of key new).lease.now told above a.grown.lease.now,
+    subst (λ n. Tells n key op (reader_of key old) (reader_of key new) reply) (number_earlier key old mid l)
+        (tells_earlier (call_number mid.number (mid.asks + 1)) key op (reader_of key old) (reader_of key mid) (reader_of key new) reply l.grown t),
+  )
+
+  pub asks_by_clock : {E : Type 0} (result : Result DeskReply E) → AsksAtPost key op mid new result → AsksByClock reading key op old new result
+  asks_by_clock (Ok (Told answer)) h = inr (by_clock (Told answer) h.0 h.1)
+  asks_by_clock (Ok (Unknown turns)) h = by_clock (Unknown turns) h.0 h.1
+  asks_by_clock (Ok (Spent asks)) h = (sym l.asks ∙ h.0, h.1, subst (HasLooked key old) (sym h.2) l)
+  asks_by_clock (Err e) h = inr (asked_earlier key old mid new l h)
+
+-- where no memory was found for the tick
+pub fails_by_clock : {E : Type 0} (reading : Option ℕ) (key : List ℕ) (op : Op) (old new : PostState) (fault : E) (result : Result DeskReply E) → result ≡ Err fault → HasLooked key old new
+    → AsksByClock reading key op old new result
+fails_by_clock reading key op old new fault result is looked = subst (AsksByClock reading key op old new) (sym is) (inl looked)
