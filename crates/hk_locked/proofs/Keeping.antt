@@ -1,18 +1,16 @@
 -- What stands under a shard's lock is kept by each step.
 use Rattle.std.proofs.Common.{◌≡◌, ◌≢◌, ◌⊎◌, inl, inr, ⊎_elim, ℕ, ◌<◌, List, [], ◌∷◌, ◌++◌, map, drop, slice_index_or, Bool, true, false, is_some, if◌then◌else◌, Option, Some, None, refl, sym, ap, ◌∙◌, subst}
 use Rattle.std.proofs.lemmas.Bool.{false≢true}
-use Rattle.std.specs.BTreeMap.{is_at}
 use Rattle.std.specs.Option.{option_or, IfSome}
 use Rattle.hk_base.specs.declared.stamp.NodeId.{NodeId}
 use Rattle.hk_base.specs.declared.call.CallNo.{CallNo}
 use Rattle.hk_base.specs.declared.call.Op.{Op}
 use Rattle.hk_base.specs.declared.call.Answer.{Answer}
 use Rattle.hk_base.specs.declared.call.Reply.{Reply}
-use Rattle.hk_copy.specs.Batches.{key_cmp}
 use Rattle.hk_key.specs.declared.row.Row.{Row}
 use Rattle.hk_node.specs.declared.event.NodeEvent.{NodeEvent}
 use Rattle.hk_node.specs.declared.event.NodeEvent.TheVariants.{Call}
-use Rattle.hk_node.specs.Rows.{Rows, find_row, row_at}
+use Rattle.hk_node.specs.Rows.{row_at}
 use Rattle.hk_node.specs.Node.{NodeState}
 use Rattle.hk_node.specs.Calls.{lease_end}
 use Rattle.hk_node.specs.Stepped.{replies_of}
@@ -30,6 +28,10 @@ use Rattle.std.specs.List.{AllByRecursion}
 use Rattle.hk_base.specs.Range.{IsLetter}
 use Rattle.hk_base.specs.declared.letter.Letter.{Letter}
 use Rattle.hk_node.proofs.Ranged.{letters_in_range}
+use Rattle.hk_node.specs.declared.report.Former.{Former}
+use Rattle.hk_node.specs.Report.{AreChanged}
+use Rattle.hk_due.specs.Keys.{OpenState, AreOpen, AreNoted}
+use Rattle.hk_due.proofs.Followed.{following_keeps}
 use Rattle.hk_told.specs.declared.ask.Ask.{Ask}
 use Rattle.hk_told.specs.Lists.{last_row}
 use Rattle.hk_told.specs.Held.{Asks, IsHeld, Delivers, heard, Grow, Show, AreFewer, IsNewAsk, IsWith}
@@ -157,34 +159,51 @@ pub called_letters : (s : ShardState) (call : CallNo) (key : List ℕ) (op : Op)
 called_letters s call key op event letters is same given =
     subst (AllByRecursion IsLetter) (sym given) (letters_in_range s.part event (part_is_node s is) (subst IsEvent (sym same) tt))
 
+-- ---- the keys of open rows
+-- a step that is reported is followed
+pub follows : (s t : ShardState) (ticket : ℕ) (event : NodeEvent) (changed shown : List Former) (part : NodeState) (keys followed : OpenState) → IsApplied s ticket event t
+    → AreChanged changed s.part.rows (node_step s.part event).node.rows → shown ≡ changed → part ≡ t.part → AreNoted part.rows ticket (map (λ f. f.key) shown) keys followed
+    → AreOpen keys s.part.rows → AreOpen followed t.part.rows
+follows s t ticket event changed shown part keys followed applied are same at noted was =
+    following_keeps changed s.part.rows t.part.rows ticket keys followed (subst (λ (n : NodeState). AreChanged changed s.part.rows n.rows) (sym applied.part) are)
+    (subst (λ (l : List Former). AreNoted t.part.rows ticket (map (λ f. f.key) l) keys followed) same
+    (subst (λ (n : NodeState). AreNoted n.rows ticket (map (λ (f : Former). f.key) shown) keys followed) at noted)) was
+
+none_open : AreOpen (record { since = []; whole = true }) []
+none_open = record { open_ones = λ key there. absurd (false≢true there); all_open = λ whole key is. absurd (false≢true is) }
+
 -- ---- what stands under the lock
 module _ (places : List NodeNames) (node : NodeId) (number skew : ℕ) where
-  abbrev locked : ShardState → List (CallNo × Ask) → LockedState
-  locked shard asks = record { node = node; number = number; skew = skew; shard = shard; asks = asks }
+  abbrev locked : ShardState → List (CallNo × Ask) → OpenState → LockedState
+  locked shard asks keys = record { node = node; number = number; skew = skew; shard = shard; asks = asks; open_keys = keys }
 
-  moved : (s t : ShardState) (ticket : ℕ) (event : NodeEvent) (asks new : List (CallNo × Ask)) → IsShard s → IsEvent event → IsApplied s ticket event t
-      → IsLocked places (locked s asks) → IsHeld t.part.rows (lists_in t.ends) t.last (asks_in new) → IsLocked places (locked t new)
-  moved s t ticket event asks new is within applied old held = record {
+  moved : (s t : ShardState) (ticket : ℕ) (event : NodeEvent) (asks new : List (CallNo × Ask)) (keys followed : OpenState) → IsShard s → IsEvent event → IsApplied s ticket event t
+      → IsLocked places (locked s asks keys) → (AreOpen keys s.part.rows → AreOpen followed t.part.rows) → IsHeld t.part.rows (lists_in t.ends) t.last (asks_in new)
+      → IsLocked places (locked t new followed)
+  moved s t ticket event asks new keys followed is within applied old follow held = record {
     cells = applied.names ∙ old.cells;
     lease = ap (λ l. l.name) applied.lease ∙ old.lease;
     skew = old.skew;
     part = ap (λ p. p.skew) applied.part ∙ ((steps_keep_numbers s.part event (part_is_node s is) within).1 ∙ old.part);
     held = held;
+    are_open = follow old.are_open;
   }
 
   -- a step that is no call
-  pub applied_locked : (s t : ShardState) (ticket : ℕ) (event : NodeEvent) (asks new : List (CallNo × Ask)) → IsShard s → s.last < ticket → IsEvent event → IsNoCall event
-      → IsApplied s ticket event t → Delivers (replies_of (node_step s.part event)) (asks_in asks) (asks_in new) → IsLocked places (locked s asks) → IsLocked places (locked t new)
-  applied_locked s t ticket event asks new is up within no_call applied delivered old =
-      moved s t ticket event asks new is within applied old
+  pub applied_locked : (s t : ShardState) (ticket : ℕ) (event : NodeEvent) (asks new : List (CallNo × Ask)) (keys followed : OpenState) → IsShard s → s.last < ticket → IsEvent event
+      → IsNoCall event → IsApplied s ticket event t → Delivers (replies_of (node_step s.part event)) (asks_in asks) (asks_in new) → (AreOpen keys s.part.rows → AreOpen followed t.part.rows)
+      → IsLocked places (locked s asks keys) → IsLocked places (locked t new followed)
+  applied_locked s t ticket event asks new keys followed is up within no_call applied delivered follow old =
+      moved s t ticket event asks new keys followed is within applied old follow
       (rw (applied.part, applied.last) (steps_keep_asks s.part (step_entry ticket s.part event) (lists_in s.ends) (lists_in t.ends) s.last (asks_in asks) (asks_in new)
       (part_is_node s is) within no_call up (grows_by s t ticket event applied) delivered old.held))
 
   -- a call
-  pub called_locked : (s t : ShardState) (ticket : ℕ) (call : CallNo) (key : List ℕ) (op : Op) (answer : Option Answer) (asks new : List (CallNo × Ask)) → IsShard s → s.last < ticket
-      → HasCalled s (asks_in asks) ticket call key op t (asks_in new) answer → IsLocked places (locked s asks) → IsLocked places (locked t new)
-  called_locked s t ticket call key op answer asks new is up called old =
-      moved s t ticket (Call call key op) asks new is tt called.applied old
+  pub called_locked : (s t : ShardState) (ticket : ℕ) (call : CallNo) (key : List ℕ) (op : Op) (answer : Option Answer) (asks new : List (CallNo × Ask)) (keys followed : OpenState) → IsShard s
+      → s.last < ticket → HasCalled s (asks_in asks) ticket call key op t (asks_in new) answer → (AreOpen keys s.part.rows → AreOpen followed t.part.rows)
+      → IsLocked places (locked s asks keys) → IsLocked places (locked t new followed)
+  called_locked s t ticket call key op answer asks new keys followed is up called follow old =
+      moved s t ticket (Call call key op) asks new keys followed is tt called.applied old follow
       (rw (called.applied.part, called.applied.last) (calls_keep_asks s.part (step_entry ticket s.part (Call call key op)) call key op (lists_in s.ends) (lists_in t.ends) s.last (asks_in asks) (asks_in new)
       (part_is_node s is) refl called.unasked up (grows_by s t ticket (Call call key op) called.applied) (shows_of s is) (at_answer answer called.told called.asked) old.held))
     where
@@ -202,38 +221,42 @@ module _ (places : List NodeNames) (node : NodeId) (number skew : ℕ) where
       at_answer (Some a) one (inr h) = absurd (some_none a h.0)
 
   -- and what it makes of its key's list
-  pub begins : (s t : ShardState) (ticket : ℕ) (call : CallNo) (key : List ℕ) (op : Op) (answer : Option Answer) (asks new : List (CallNo × Ask)) → IsShard s
-      → HasCalled s (asks_in asks) ticket call key op t (asks_in new) answer → IsLocked places (locked s asks) → Begins (locked s asks) (locked t new) call key ticket op answer
-  begins s t ticket call key op answer asks new is called old =
+  pub begins : (s t : ShardState) (ticket : ℕ) (call : CallNo) (key : List ℕ) (op : Op) (answer : Option Answer) (asks new : List (CallNo × Ask)) (keys followed : OpenState) → IsShard s
+      → HasCalled s (asks_in asks) ticket call key op t (asks_in new) answer → IsLocked places (locked s asks keys) → Begins (locked s asks keys) (locked t new followed) call key ticket op answer
+  begins s t ticket call key op answer asks new keys followed is called old =
       subst (λ n. BeginsIn (lists_in s.ends key) (lists_in t.ends key) call key ticket op (lease_end s.part) s.part.clock n (replies_with call answer)) old.part
       (subst (λ l. BeginsIn (lists_in s.ends key) (lists_in t.ends key) call key ticket op (lease_end s.part) s.part.clock s.part.skew l) called.told
       (calls_begin_in_lists s.part (step_entry ticket s.part (Call call key op)) call key op (lists_in s.ends) (lists_in t.ends) s.last (part_is_node s is) refl
       (grows_by s t ticket (Call call key op) called.applied) (shows_of s is)))
 
   -- asks that were told something may be dropped
-  pub dropped_locked : (s : ShardState) (asks new : List (CallNo × Ask)) → AreFewer (asks_in asks) (asks_in new) → IsLocked places (locked s asks) → IsLocked places (locked s new)
-  dropped_locked s asks new fewer old = record {
+  pub dropped_locked : (s : ShardState) (asks new : List (CallNo × Ask)) (keys : OpenState) → AreFewer (asks_in asks) (asks_in new) → IsLocked places (locked s asks keys)
+      → IsLocked places (locked s new keys)
+  dropped_locked s asks new keys fewer old = record {
     cells = old.cells;
     lease = old.lease;
     skew = old.skew;
     part = old.part;
     held = drops_keep_asks s.part.rows (lists_in s.ends) s.last (asks_in asks) (asks_in new) fewer old.held;
+    are_open = old.are_open;
   }
 
   -- the asks are the same ones
-  pub same_locked : (s : ShardState) (asks new : List (CallNo × Ask)) → ((call : CallNo) → asks_in new call ≡ asks_in asks call) → IsLocked places (locked s asks) → IsLocked places (locked s new)
-  same_locked s asks new same old = dropped_locked s asks new (subst (AreFewer (asks_in asks)) (sym (λ i call. same call i)) (fewer_itself (asks_in asks))) old
+  pub same_locked : (s : ShardState) (asks new : List (CallNo × Ask)) (keys : OpenState) → ((call : CallNo) → asks_in new call ≡ asks_in asks call) → IsLocked places (locked s asks keys)
+      → IsLocked places (locked s new keys)
+  same_locked s asks new keys same old = dropped_locked s asks new keys (subst (AreFewer (asks_in asks)) (sym (λ i call. same call i)) (fewer_itself (asks_in asks))) old
 
   -- a shard that begins
-  pub new_locked : (s : ShardState) (asks : List (CallNo × Ask)) → asks ≡ [] → s.part.rows ≡ [] → s.part.skew ≡ skew
+  pub new_locked : (s : ShardState) (asks : List (CallNo × Ask)) (keys : OpenState) → asks ≡ [] → keys ≡ record { since = []; whole = true } → s.part.rows ≡ [] → s.part.skew ≡ skew
       → names s.ends ≡ (shard_names places node number).cells → s.lease.name ≡ (shard_names places node number).lease
-      → skew ≡ (node_names places node).skew → IsLocked places (locked s asks)
-  new_locked s asks none no_rows part cells lease same = record {
+      → skew ≡ (node_names places node).skew → IsLocked places (locked s asks keys)
+  new_locked s asks keys none no_keys no_rows part cells lease same = record {
     cells = cells;
     lease = lease;
     skew = same;
     part = part;
     held = none_are_held s.part.rows (lists_in s.ends) s.last (asks_in asks) (λ key. rw no_rows refl) (λ call. rw none refl);
+    are_open = subst (λ (k : OpenState). AreOpen k s.part.rows) (sym no_keys) (subst (AreOpen (record { since = []; whole = true })) (sym no_rows) none_open);
   }
 
 -- ---- an ask that is given up

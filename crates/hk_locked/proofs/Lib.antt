@@ -1,2 +1,4 @@
+pub mod ByRow
 pub mod Keeping
 pub mod Reading
+pub mod Moments

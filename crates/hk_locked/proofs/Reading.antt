@@ -1,5 +1,5 @@
 -- What readers see under a shard's lock.
-use Rattle.std.proofs.Common.{◌≡◌, ◌≢◌, ◌⊎◌, inl, inr, ℕ, ◌+◌, ◌/◌, ◌<◌, ◌≤◌, List, [], ◌∷◌, length, sum, Option, Some, None, Result, Ok, Err, refl, sym, ap, ◌∙◌, subst, arith, le_refl, slice_index_or, slice_set}
+use Rattle.std.proofs.Common.{◌≡◌, ℕ, ◌+◌, ◌/◌, ◌<◌, ◌≤◌, List, [], length, sum, Option, Some, None, Result, Ok, Err, refl, sym, ap, ◌∙◌, subst, arith, le_refl, slice_set}
 use Rattle.std.specs.Prelude.{IfOk}
 use Rattle.std.specs.Option.{IsSomeAnd, IfSome}
 use Rattle.std.proofs.lemmas.Nat.{mod_below}
@@ -9,9 +9,7 @@ use mathlib.Core.List.{IsPrefix}
 use Rattle.hk_base.specs.declared.call.CallNo.{CallNo}
 use Rattle.hk_base.specs.declared.call.Op.{Op}
 use Rattle.hk_base.specs.declared.call.Answer.{Answer}
-use Rattle.hk_base.specs.declared.call.Reply.{Reply}
 use Rattle.hk_node.specs.Calls.{lease_end}
-use Rattle.hk_outside.specs.declared.desk.DeskReply.TheVariants.{Told as TellsTold, Unknown as TellsNothing}
 use Rattle.hk_snap.specs.declared.rule.Publication.{Publication}
 use Rattle.hk_snap.specs.declared.local.Local.{Local}
 use Rattle.hk_snap.specs.Locals.{local_of}
@@ -20,14 +18,13 @@ use Rattle.hk_snap.specs.Ends.{End, Reader, at, names, seen_at, looked, Loads, w
 use Rattle.hk_snap.specs.Leases.{Lease, Looks as LooksAtLease}
 use Rattle.hk_snap.proofs.Lists.{same_long}
 use Rattle.hk_snap.proofs.Prefixes.{prefix_self, prefix_trans}
-use Rattle.hk_shard.specs.Shard.{ShardState, IsShard}
 use Rattle.hk_told.specs.declared.ask.Ask.{Ask}
 use Rattle.hk_told.specs.declared.asks.Look.{Look}
 use Rattle.hk_told.specs.declared.asks.Look.TheVariants.{Gone, Waits, Told}
-use Rattle.hk_told.specs.Held.{Asks, IsHeld}
+use Rattle.hk_told.specs.Held.{IsHeld}
 use Rattle.hk_told.specs.Kept.{asks_in, LooksAs}
-use Rattle.hk_told.specs.Shown.{BeginsIn, Starts, Looks, LooksAt, LooksOn}
-use Rattle.hk_told.proofs.Telling.{asks_are_shown, looks_are_joined, at_once_is_shown, after_looks_is_shown, unknown_is_shown}
+use Rattle.hk_told.specs.Shown.{BeginsIn, LooksAt}
+use Rattle.hk_told.proofs.Telling.{asks_are_shown}
 use Rattle.hk_locked.specs.Places.{NodeNames, node_names, shard_names}
 use Rattle.hk_locked.specs.Locked.{lists_in, LockedState, IsLocked, ReaderState, IsReader}
 use Rattle.hk_locked.specs.Steps.{end_at, IsSameBut, IsLaterLease, IsGrown, Meets, MeetsLease, Reads, Begins, replies_with, StartsAt, LooksOnce, LooksFor}

@@ -1,3 +1,5 @@
+pub mod ByRow
 pub mod Locked
 pub mod Places
 pub mod Steps
+pub mod Moments

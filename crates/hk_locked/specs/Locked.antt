@@ -9,27 +9,31 @@ use Rattle.hk_shard.specs.Shard.{ShardState}
 use Rattle.hk_told.specs.declared.ask.Ask.{Ask}
 use Rattle.hk_told.specs.Held.{Lists, IsHeld}
 use Rattle.hk_told.specs.Kept.{asks_in}
+use Rattle.hk_due.specs.Keys.{OpenState, AreOpen}
 use Rattle.hk_locked.specs.Places.{NodeNames, node_names, shard_names}
 
 -- the list of each key: all that was published in its cell
 abbrev pub lists_in : List End → Lists
 lists_in ends key = seen_at ends (cell_of key)
 
--- a shard under its lock: which one of which node, its node's skew, and the asks of updates that wait
+-- a shard under its lock: which one of which node, its node's skew, the asks of updates that wait, and the keys of its open rows
 pub record LockedState : Type 0 where
   pub node : NodeId
   pub number : ℕ
   pub skew : ℕ
   pub shard : ShardState
   pub asks : List (CallNo × Ask)
+  pub open_keys : OpenState
 
--- Its cells and its skew are those that the list of names has for it, and its cells' lists show of each ask what it was told.
+-- Its cells and its skew are those that the list of names has for it, and its cells' lists show of each ask what it was told. The keys are those of its open
+-- rows.
 pub record IsLocked (places : List NodeNames) (s : LockedState) : Type 0 where
   pub cells : names s.shard.ends ≡ (shard_names places s.node s.number).cells
   pub lease : s.shard.lease.name ≡ (shard_names places s.node s.number).lease
   pub skew : s.skew ≡ (node_names places s.node).skew
   pub part : s.shard.part.skew ≡ s.skew
   pub held : IsHeld s.shard.part.rows (lists_in s.shard.ends) s.shard.last (asks_in s.asks)
+  pub are_open : AreOpen s.open_keys s.shard.part.rows
 
 -- a reader of a shard: which one of which node, its node's skew, and what was seen of its cells and its lease
 pub record ReaderState : Type 0 where

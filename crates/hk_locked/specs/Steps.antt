@@ -1,7 +1,6 @@
 -- What a reader has seen after the calls that are made with it under a shard's lock.
-use Rattle.std.specs.Prelude.{◌≡◌, ◌≢◌, ◌⊎◌, ⊤, ℕ, ◌+◌, ◌<◌, ◌≤◌, false, List, [], ◌∷◌, length, Option, Some, None}
+use Rattle.std.specs.Prelude.{◌≡◌, ◌≢◌, ◌⊎◌, ⊤, ℕ, ◌+◌, ◌-◌, ◌<◌, ◌≤◌, false, List, [], ◌∷◌, length, Bool, nat_lt, Option, Some, None}
 use Rattle.std.specs.Option.{IfSome}
-use Rattle.atomic_table.specs.Seated.{TableId}
 use mathlib.Core.List.{IsPrefix}
 use Rattle.hk_base.specs.declared.call.CallNo.{CallNo}
 use Rattle.hk_base.specs.declared.call.Op.{Op}
@@ -11,7 +10,7 @@ use Rattle.hk_node.specs.Calls.{lease_end}
 use Rattle.hk_snap.specs.declared.local.Local.{Local}
 use Rattle.hk_snap.specs.Locals.{local_of}
 use Rattle.hk_snap.specs.Snapshots.{cell_of, last_shown}
-use Rattle.hk_snap.specs.Ends.{End, at, seen_at}
+use Rattle.hk_snap.specs.Ends.{End, at}
 use Rattle.hk_snap.specs.Leases.{Lease, Looks as LooksAtLease}
 use Rattle.hk_node.specs.declared.event.NodeEvent.TheVariants.{Call}
 use Rattle.hk_node.specs.Stepped.{replies_of}
@@ -79,6 +78,10 @@ pub record Ticks (now : ℕ) (old new : ReaderState) : Type 0 where
   pub looked : LooksAtLease old.lease new.lease
   pub clock : now ≤ new.lease.now
 
+-- of a lease of this length less is left than has gone
+abbrev pub is_short : ℕ → ℕ → ℕ → Bool
+is_short length_of_lease end now = nat_lt (end - now) (length_of_lease - (end - now))
+
 -- A read of the key without the lock, by one load of its cell and one of the lease, at a reading of the clock: it is told by what was seen.
 pub record Reads (key : List ℕ) (now : ℕ) (old new : ReaderState) (told : Local) : Type 0 where
   pub same : IsSameBut key old new
@@ -143,6 +146,7 @@ pub record GivesUp (call : CallNo) (old new : LockedState) : Type 0 where
   pub number : new.number ≡ old.number
   pub skew : new.skew ≡ old.skew
   pub shard : new.shard ≡ old.shard
+  pub open_keys : new.open_keys ≡ old.open_keys
   pub left : asks_in new.asks call ≡ given_up (asks_in old.asks call)
   pub others : AreOthersSame call (asks_in old.asks) (asks_in new.asks)
 

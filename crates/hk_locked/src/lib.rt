@@ -2,16 +2,23 @@
 //!
 //! What stands under the lock is a [`LockedShard`]: the shard, the asks of updates that wait, and the completions of their calls. A [`ShardReader`] reads what a
 //! shard shows. Under the lock it is brought to what the shard shows now, before and after a call's step ([`LockedShard::start`]), and an ask can be looked at
-//! ([`LockedShard::look`]): what it was told is shown by what the reader has seen of its key's cell. So what passes the lock is of the reader alone.
+//! ([`LockedShard::look`]): what it was told is shown by what the reader has seen of its key's cell. So what passes the lock is of the reader alone. A read is told
+//! from its key's row, with no step ([`LockedShard::read_row`]).
+//!
+//! Beside them stand the keys of the shard's open rows, which follow each step by what it reports: what is to be sent again ([`LockedShard::due`]) is found by
+//! a look-up, with no look at other rows.
 //!
 //! The caller names the cells of the shards of all its nodes once ([`Places`]), makes each [`LockedShard`] of the shard that has these cells, and draws the
 //! tickets of steps above the last one.
 #![tactic(auto)]
 
+mod by_row;
+mod copying;
 mod locked;
 mod places;
 mod reader;
 
+pub use by_row::RowRead;
 pub use locked::{Given, LockedShard, Started};
 pub use places::Places;
 pub use reader::ShardReader;

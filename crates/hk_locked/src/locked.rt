@@ -1,10 +1,12 @@
 //! A shard under its lock.
 
-ghost use Rattle.std.specs.Prelude.{◌≡◌, ◌<◌, ◌≤◌, ◌∷◌, [], true, None, Some, IsTrue, IfOk, OnOk, OnErr, MatchOption};
+ghost use Rattle.std.specs.Prelude.{◌≡◌, ◌<◌, ◌≤◌, ◌∷◌, [], true, false, None, Some, IsTrue, IfOk, OnOk, OnErr, MatchOption};
+ghost use Rattle.std.specs.Option.{option_copied, IfSome};
 ghost use Rattle.std.specs.List.{AllByRecursion};
 ghost use Rattle.hk_base.specs.Range.{IsLetter};
 ghost use Rattle.hk_base.specs.declared.time.TheConstants.{MAX_TIME};
 ghost use Rattle.hk_node.specs.Sound.{IsEvent};
+ghost use Rattle.hk_node.specs.Outs.{IsOutOf};
 ghost use Rattle.hk_node.specs.Laws.{IsNoCall};
 ghost use Rattle.hk_shard.specs.Shard.{IsShard, IsApplied};
 ghost use Rattle.hk_snap.specs.Ends.{names};
@@ -15,16 +17,23 @@ ghost use Rattle.hk_base.specs.declared.call.CallNo.{CallNo};
 ghost use Rattle.hk_node.specs.declared.event.NodeEvent.TheVariants.{Call};
 ghost use Rattle.hk_node.specs.Stepped.{replies_of};
 ghost use Rattle.hk_node.specs.Steps.{node_step};
+ghost use Rattle.hk_node.specs.Calls.{lease_end};
+ghost use Rattle.hk_due.specs.Keys.{AreOpen};
 ghost use Rattle.hk_locked.specs.Places.{shard_names, node_names};
-ghost use Rattle.hk_locked.specs.Steps.{IsGrown, Meets, MeetsLease, Ticks, Trims, Begins, StartsAt, LooksFor, GivesUp, HasNoAsk, HasCalled, AreOneOrNone, replies_with};
+ghost use Rattle.hk_locked.specs.ByRow.{ReadsRow};
+ghost use Rattle.hk_locked.specs.Moments.{WasApplied, WasDue, WasJournal, WasQuiet};
+ghost use Rattle.hk_locked.specs.Steps.{IsGrown, Meets, MeetsLease, Ticks, Trims, Begins, StartsAt, LooksFor, GivesUp, HasNoAsk, HasCalled, AreOneOrNone, replies_with, is_short};
 ghost use Rattle.hk_told.specs.declared.asks.Look.TheVariants.{Gone};
 
+use crate::by_row::{RowRead, told_by};
+use crate::copying::share_journal;
 use crate::places::Places;
 use crate::reader::ShardReader;
 use hk_base::{Answer, CallNo, Key, Letters, Memory, NodeId, Op, Replies, Reply, State};
 use hk_callback::{Callbacks, Completion};
+use hk_due::{Due, OpenKeys};
 use hk_journal::Journal;
-use hk_node::{NodeEvent, NodeOut, Report};
+use hk_node::{Node, NodeEvent, NodeOut, Report};
 use hk_shard::Shard;
 use hk_snap::cell_of;
 use hk_told::{Ask, Asks, Look};
@@ -52,8 +61,8 @@ pub struct Started {
     pub letters: Letters,
 }
 
-/// A shard of a node as it stands under its lock, with the asks of updates that wait and the completions of their calls. Contracts see which shard of which
-/// node it is, the node's skew, the shard, and the asks by the numbers of their calls.
+/// A shard of a node as it stands under its lock, with the asks of updates that wait, the completions of their calls, and the keys of its open rows. Contracts
+/// see which shard of which node it is, the node's skew, the shard, the asks by the numbers of their calls, and the keys.
 #[derive(Drop)]
 pub struct LockedShard<F: Completion + Copy + Drop, P: Places> {
     node: NodeId,
@@ -62,6 +71,7 @@ pub struct LockedShard<F: Completion + Copy + Drop, P: Places> {
     shard: Shard,
     asks: Asks,
     completions: Callbacks<F>,
+    open_keys: OpenKeys,
     of: PhantomData<P>,
 }
 
@@ -70,9 +80,9 @@ impl<F: Completion + Copy + Drop, P: Places> Model for LockedShard<F, P> {
 
     ghost Value = { LockedState };
 
-    ghost view = { λ s. record { node = s.node; number = s.number; skew = s.skew; shard = s.shard; asks = s.asks } };
+    ghost view = { λ s. record { node = s.node; number = s.number; skew = s.skew; shard = s.shard; asks = s.asks; open_keys = s.open_keys } };
 
-    ghost invariant = { λ s. IsLocked P.places (record { node = s.node; number = s.number; skew = s.skew; shard = s.shard; asks = s.asks }) };
+    ghost invariant = { λ s. IsLocked P.places (record { node = s.node; number = s.number; skew = s.skew; shard = s.shard; asks = s.asks; open_keys = s.open_keys }) };
 }
 
 // Calls the completion of the reply's call, if it has one. One that finds no memory is dropped.
@@ -126,6 +136,13 @@ fn forget<F: Completion + Drop>(completions: &mut Callbacks<F>, asks: &mut Asks,
     asks.forget(call);
 }
 
+// The end of the lease of a node, 0 where it is not ready.
+fn lease_end(part: &Node) -> u64
+    ensures { result ≡ lease_end part.now }
+{
+    if part.ready() { part.granted() } else { 0 }
+}
+
 // What every shard keeps.
 fn keeps(shard: &Shard)
     ensures { IsShard shard.now }
@@ -165,11 +182,34 @@ fn answer_of(replies: Replies) -> Option<Answer>
     }
 }
 
+// Makes the step of an event. The keys of the open rows follow it.
+fn step<R: Wait>(
+    rt: &R,
+    alloc: Global,
+    shard: &mut Shard,
+    keys: &mut OpenKeys,
+    ticket: u64,
+    event: NodeEvent,
+) -> Result<NodeOut, Memory>
+    requires ticket { shard.old.last < ticket }
+    requires event { IsEvent event }
+    ensures out { IfOk result (λ out. IsOutOf out shard.old.part (node_step shard.old.part event)) }
+    ensures applied { OnOk result (IsApplied shard.old ticket event shard.new) }
+    ensures followed { OnOk result (AreOpen keys.old shard.old.part.rows → AreOpen keys.new shard.new.part.rows) }
+    ensures shard { OnErr result (shard.new ≡ shard.old) }
+    ensures unfollowed { OnErr result (keys.new ≡ keys.old) }
+{
+    let out = shard.apply(rt, alloc, ticket, event)?;
+    keys.follow(out.report.rows.as_slice(), shard.part(), ticket);
+    Ok(out)
+}
+
 // Makes the step of a call. Its completion and its ask are kept before, and dropped where it was answered at once or was not made.
 fn make_call<F: Completion + Drop, R: Wait>(
     rt: &R,
     alloc: Global,
     shard: &mut Shard,
+    keys: &mut OpenKeys,
     completions: &mut Callbacks<F>,
     asks: &mut Asks,
     ticket: u64,
@@ -183,13 +223,15 @@ fn make_call<F: Completion + Drop, R: Wait>(
     ensures called { IfOk result (λ started. HasCalled shard.old (asks_in asks.old) ticket call key.now op.now shard.new (asks_in asks.new) started.answer) }
     ensures ticket { IfOk result (λ started. started.ticket ≡ ticket) }
     ensures letters { IfOk result (λ started. AllByRecursion IsLetter started.letters) }
+    ensures followed { OnOk result (AreOpen keys.old shard.old.part.rows → AreOpen keys.new shard.new.part.rows) }
     ensures shard { OnErr result (shard.new ≡ shard.old) }
+    ensures unfollowed { OnErr result (keys.new ≡ keys.old) }
     ensures asks { OnErr result ((other : CallNo) → asks_in asks.new other ≡ asks_in asks.old other) }
 {
     let event = call_event(call, key, op)?;
     let ask = new_ask(key, ticket)?;
     keep(completions, asks, call, ask, tell)?;
-    let Ok(out) = shard.apply(rt, alloc, ticket, event) else {
+    let Ok(out) = step(rt, alloc, shard, keys, ticket, event) else {
         forget(completions, asks, call);
         return Err(Memory);
     };
@@ -231,6 +273,7 @@ impl<F: Completion + Copy + Drop, P: Places> LockedShard<F, P> {
             shard,
             asks: Asks::new(alloc),
             completions: Callbacks::new(alloc),
+            open_keys: OpenKeys::new(alloc),
             of: PhantomData,
         }
     }
@@ -250,6 +293,28 @@ impl<F: Completion + Copy + Drop, P: Places> LockedShard<F, P> {
         }
     }
 
+    /// Whether it is the node's shard of this number.
+    pub fn is_of(&self, node: NodeId, number: u8) -> bool
+        ensures { IsTrue result → (self.now.node ≡ node) × (self.now.number ≡ number) }
+    {
+        self.node == node && self.number == number
+    }
+
+    /// Whether a row is open, one that is not Valid.
+    pub fn has_open(&self) -> bool
+        ensures { result ≡ false → WasQuiet P.places self.now.node self.now.number }
+    {
+        !self.open_keys.is_empty()
+    }
+
+    /// What is to be sent again of the least key behind this one, or of all, that is open since a step of a ticket up to `before`. It looks at no row but that
+    /// key's, unless memory was wanting for keys of open rows.
+    pub fn due(&self, after: Option<&Key>, before: u64) -> Result<Option<Due>, Memory>
+        ensures { IfOk result (λ due. WasDue P.places self.now.node self.now.number (option_copied after.entry) before due) }
+    {
+        self.open_keys.due(self.shard.part(), after, before)
+    }
+
     /// Makes the step of an event that is no call, publishes the rows that it changed, calls the completions of its replies and tells the asks. After `Memory`
     /// nothing has changed.
     pub fn apply<R: Wait>(
@@ -264,10 +329,18 @@ impl<F: Completion + Copy + Drop, P: Places> LockedShard<F, P> {
         requires no_call { IsNoCall event }
         ensures letters { IfOk result (λ given. AllByRecursion IsLetter given.letters) }
         ensures applied { OnOk result (IsApplied self.old.shard ticket event self.new.shard) }
+        ensures step { IfOk result (λ given. WasApplied P.places self.old.node self.old.number event given.letters) }
         ensures err { OnErr result (self.new ≡ self.old) }
     {
         keeps(&self.shard);
-        let out = self.shard.apply(rt, alloc, ticket, event)?;
+        let out = step(
+            rt,
+            alloc,
+            &mut self.shard,
+            &mut self.open_keys,
+            ticket,
+            event,
+        )?;
         let NodeOut {
             letters,
             replies,
@@ -317,6 +390,29 @@ impl<F: Completion + Copy + Drop, P: Places> LockedShard<F, P> {
         Ok(())
     }
 
+    /// What a read of the key is told from its row, by one load of the key's cell and one of the lease by the reader. It is shown by what the reader has seen as long
+    /// as the lease runs, whose end is told with it. None where the row is not Valid. No step is made.
+    pub fn read_row<R: Wait>(
+        &mut self,
+        rt: &R,
+        key: &Key,
+        reader: &mut ShardReader<P>,
+    ) -> Result<Option<RowRead>, Memory>
+        ensures same { self.new ≡ self.old }
+        ensures read { IfOk result (λ read. IfSome read (λ r. ReadsRow key.now reader.old reader.new r.end r.answer)) }
+        ensures grown { IsGrown key.now reader.old reader.new }
+    {
+        keeps(&self.shard);
+        self.meet(rt, key, reader)?;
+        self.meet_lease(rt, reader)?;
+        let part = self.shard.part();
+        let end = lease_end(part);
+        let Some(answer) = told_by(part, key)? else {
+            return Ok(None);
+        };
+        Ok(Some(RowRead { answer, end }))
+    }
+
     // Makes the step of a call.
     fn begin<R: Wait>(
         &mut self,
@@ -341,6 +437,7 @@ impl<F: Completion + Copy + Drop, P: Places> LockedShard<F, P> {
             rt,
             alloc,
             &mut self.shard,
+            &mut self.open_keys,
             &mut self.completions,
             &mut self.asks,
             ticket,
@@ -396,6 +493,15 @@ impl<F: Completion + Copy + Drop, P: Places> LockedShard<F, P> {
         Ok(self.asks.look(call, ticket))
     }
 
+    // Whether of a lease of this length less is left than has gone.
+    fn is_short(&self, length: u64) -> bool
+        ensures { result ≡ is_short length (lease_end self.now.shard.part) self.now.shard.part.clock }
+    {
+        let part = self.shard.part();
+        let left = lease_end(part).saturating_sub(part.now());
+        left < length.saturating_sub(left)
+    }
+
     // Raises the clock to a reading, where it is below that.
     fn raise<R: Wait>(&mut self, rt: &R, alloc: Global, ticket: u64, now: u64) -> Result<(), Memory>
         requires ticket { self.old.shard.last < ticket }
@@ -409,7 +515,8 @@ impl<F: Completion + Copy + Drop, P: Places> LockedShard<F, P> {
         Ok(())
     }
 
-    /// Raises the clock to a reading, where it is below that, and the reader sees it by one load of the lease. Where it answers `Memory` the clock may have risen.
+    /// Raises the clock to a reading, where it is below that, and the reader sees it by one load of the lease. It gives whether of a lease of this length less is
+    /// left then than has gone. Where it answers `Memory` the clock may have risen.
     pub fn tick<R: Wait>(
         &mut self,
         rt: &R,
@@ -417,16 +524,19 @@ impl<F: Completion + Copy + Drop, P: Places> LockedShard<F, P> {
         reader: &mut ShardReader<P>,
         ticket: u64,
         now: u64,
-    ) -> Result<(), Memory>
+        length: u64,
+    ) -> Result<bool, Memory>
         requires ticket { self.old.shard.last < ticket }
         requires now { now ≤ MAX_TIME }
         ensures ticks { OnOk result (Ticks now reader.old reader.new) }
+        ensures short { IfOk result (λ short. short ≡ is_short length reader.new.lease.end reader.new.lease.now) }
         ensures err { OnErr result (reader.new ≡ reader.old) }
     {
         self.raise(rt, alloc, ticket, now)?;
+        let short = self.is_short(length);
         self.meet_lease(rt, reader)?;
         reader.ticked = now;
-        Ok(())
+        Ok(short)
     }
 
     /// Nobody waits any more for what the call is told. It takes no memory.
@@ -460,5 +570,12 @@ impl<F: Completion + Copy + Drop, P: Places> LockedShard<F, P> {
         ensures { result.now ≡ self.now.shard.journal }
     {
         self.shard.journal()
+    }
+
+    /// A copy of the journal, in which keys and contents are shared.
+    pub fn copy_journal(&self, alloc: Global) -> Result<Journal, Memory>
+        ensures { IfOk result (λ journal. WasJournal P.places self.now.node self.now.number journal) }
+    {
+        share_journal(alloc, self.shard.journal().as_slice())
     }
 }

@@ -1,6 +1,6 @@
 //! What reads a shard without its lock.
 
-ghost use Rattle.std.specs.Prelude.{◌≡◌, ◌≤◌, ℕ, length, IfOk};
+ghost use Rattle.std.specs.Prelude.{◌≡◌, ◌≤◌, ◌+◌, ℕ, length, IsTrue, IfOk};
 ghost use Rattle.std.specs.Option.{IfSome};
 ghost use Rattle.hk_locked.specs.Steps.{IsGrown, Reads};
 ghost use Rattle.hk_snap.specs.Ends.{names};
@@ -9,10 +9,13 @@ ghost use Rattle.hk_locked.specs.Places.{shard_names, node_names};
 use crate::places::Places;
 use hk_base::{Key, Memory, NodeId};
 use hk_outside::Clock;
-use hk_snap::{LeaseCell, Local, SnapReader, read_local};
+use hk_snap::{CELLS, LeaseCell, Local, SnapReader, cell_of, read_local};
 use std::alloc::Global;
 use std::marker::{Model, PhantomData};
 use std::sync::Wait;
+
+// So many reads go past a cell that showed another key.
+const PASSES: u8 = 15;
 
 /// Reads what a shard shows: its cells and its lease cell. Contracts see which shard of which node it is, the node's skew, and what it has seen. It is of the
 /// cells that the list of names has for this shard.
@@ -25,6 +28,8 @@ pub struct ShardReader<P: Places> {
     pub(crate) lease: LeaseCell,
     // A reading of a clock to which the shard was ticked, and which was seen of it since.
     pub(crate) ticked: u64,
+    // For each cell, how many more reads are to go past it.
+    passes: [u8; CELLS],
     of: PhantomData<P>,
 }
 
@@ -61,6 +66,7 @@ impl<P: Places> ShardReader<P> {
             cells,
             lease,
             ticked: 0,
+            passes: [0; CELLS],
             of: PhantomData,
         }
     }
@@ -84,6 +90,33 @@ impl<P: Places> ShardReader<P> {
         ensures { result ≤ self.now.lease.now }
     {
         self.ticked
+    }
+
+    /// Whether a read is to look at the key's cell. It counts the reads that go past it.
+    pub fn looks_at_cell(&mut self, key: &Key) -> bool
+        ensures { self.new ≡ self.old }
+    {
+        let cell = usize::from(cell_of(key));
+        let left = self.passes[cell];
+        self.passes[cell] = left.saturating_sub(1);
+        left == 0
+    }
+
+    /// The key's cell showed another key, or too little: the next reads go past it.
+    pub fn pass_cell(&mut self, key: &Key)
+        ensures { self.new ≡ self.old }
+    {
+        self.passes[usize::from(cell_of(key))] = PASSES;
+    }
+
+    /// Whether a lease that ends at `end` is sure to run at a reading of the clock.
+    pub fn is_within(&self, end: u64, now: u64) -> bool
+        ensures { IsTrue result → now + self.now.skew ≤ end }
+    {
+        match now.checked_add(self.skew) {
+            Some(latest) => latest <= end,
+            None => false,
+        }
     }
 
     /// Answers a read of the key from what the shard shows, without its lock: by one load of the lease, one of the key's cell, and then a reading of the clock.

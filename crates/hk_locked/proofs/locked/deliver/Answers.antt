@@ -1,5 +1,5 @@
 use Rattle.std.proofs.Common.{◌≡◌, [], ◌∷◌, List, length, refl, sym, ap, ◌∙◌, subst, arith}
-use Rattle.std.specs.Vec.Iter.{into_iter_items, into_iter_len}
+use Rattle.std.specs.Vec.Iter.{into_iter_items}
 use Rattle.hk_base.specs.declared.call.Reply.{Reply}
 use Rattle.hk_told.specs.Held.{Delivers}
 use Rattle.hk_told.specs.Kept.{asks_in}

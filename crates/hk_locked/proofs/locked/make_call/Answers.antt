@@ -1,6 +1,4 @@
-use Rattle.std.proofs.Common.{◌≡◌, None, ap, ◌∙◌}
 use Rattle.hk_told.specs.Kept.{asks_in}
-use Rattle.hk_locked.specs.Steps.{replies_with}
 use Rattle.hk_locked.proofs.Keeping.{one_given, called_waits, called_at_once, called_letters}
 use Rattle.hk_locked.proofs.locked.make_call.Goals as goal
 
@@ -9,7 +7,7 @@ answer_of-requires g c = (c.args.call, one_given c.args.shard.now c.args.call c.
 
 pub returns-in_default-answer_of-clause-called : goal.returns-in_default-answer_of-clause-called
 returns-in_default-answer_of-clause-called g c =
-    called_waits c.args.shard.now c.apply.new.self c.args.ticket c.args.call c.args.key.now c.args.op.now c.in_ok-event.event c.in-Ok.out.replies c.in_ok-ask.ask (asks_in c.args.asks.now) (asks_in c.keep.new.asks)
+    called_waits c.args.shard.now c.step.new.shard c.args.ticket c.args.call c.args.key.now c.args.op.now c.in_ok-event.event c.in-Ok.out.replies c.in_ok-ask.ask (asks_in c.args.asks.now) (asks_in c.keep.new.asks)
     c.in_ok-event.ensures c.in_ok-keep.ensures.none c.in_ok-ask.ensures c.in_ok-keep.ensures.kept c.in-Ok.ensures.applied c.in-Ok.ensures.out.replies
     (c.in_default-answer_of.ensures c.args.call (one_given c.args.shard.now c.args.call c.args.key.now c.args.op.now c.in_ok-event.event c.in-Ok.out.replies c.requires.shard c.in_ok-event.ensures c.in-Ok.ensures.out.replies))
 
@@ -18,7 +16,7 @@ returns-in_default-answer_of-clause-letters g c = called_letters c.args.shard.no
 
 pub returns-clause-called : goal.returns-clause-called
 returns-clause-called g c =
-    called_at_once c.args.shard.now c.apply.new.self c.args.ticket c.args.call c.args.key.now c.args.op.now c.in_ok-event.event c.in-Ok.out.replies c.in_ok-ask.ask (asks_in c.args.asks.now) (asks_in c.keep.new.asks)
+    called_at_once c.args.shard.now c.step.new.shard c.args.ticket c.args.call c.args.key.now c.args.op.now c.in_ok-event.event c.in-Ok.out.replies c.in_ok-ask.ask (asks_in c.args.asks.now) (asks_in c.keep.new.asks)
     (asks_in c.forget-2.new.asks) c.in-Some.answer c.in_ok-event.ensures c.in_ok-keep.ensures.none c.in_ok-keep.ensures.kept c.in-Ok.ensures.applied c.in-Ok.ensures.out.replies
     (c.in-Some.ensures c.args.call (one_given c.args.shard.now c.args.call c.args.key.now c.args.op.now c.in_ok-event.event c.in-Ok.out.replies c.requires.shard c.in_ok-event.ensures c.in-Ok.ensures.out.replies)) c.forget-2.ensures.gone c.forget-2.ensures.others
 

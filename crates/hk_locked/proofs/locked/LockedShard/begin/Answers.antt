@@ -8,10 +8,10 @@ pub invariant_of-self-2 : goal.invariant_of-self-2
 invariant_of-self-2 g c =
     let up : c.self.inside.shard.last < c.args.ticket = subst (λ (s : LockedState). s.shard.last < c.args.ticket) (sym c.self.view_is) c.requires.ticket in
     called_locked _ c.self.inside.node c.self.inside.number c.self.inside.skew c.self.inside.shard c.make_call.new.shard c.args.ticket c.args.call c.args.key.now c.args.op.now
-    c.in_ok-started.started.answer c.self.inside.asks c.make_call.new.asks c.keeps.ensures up c.in_ok-started.ensures.called c.self.invariant
+    c.in_ok-started.started.answer c.self.inside.asks c.make_call.new.asks c.self.inside.open_keys c.make_call.new.keys c.keeps.ensures up c.in_ok-started.ensures.called c.in_ok-started.ensures.followed c.self.invariant
 
 pub returns-clause-begins : goal.returns-clause-begins
 returns-clause-begins g c =
-    subst (λ (s : LockedState). Begins s (record { node = c.self.inside.node; number = c.self.inside.number; skew = c.self.inside.skew; shard = c.make_call.new.shard; asks = c.make_call.new.asks }) c.args.call c.args.key.now c.args.ticket c.args.op.now c.in_ok-started.started.answer) c.self.view_is
+    subst (λ (s : LockedState). Begins s (record { node = c.self.inside.node; number = c.self.inside.number; skew = c.self.inside.skew; shard = c.make_call.new.shard; asks = c.make_call.new.asks; open_keys = c.make_call.new.keys }) c.args.call c.args.key.now c.args.ticket c.args.op.now c.in_ok-started.started.answer) c.self.view_is
     (begins g.P.Places.places c.self.inside.node c.self.inside.number c.self.inside.skew c.self.inside.shard c.make_call.new.shard c.args.ticket c.args.call c.args.key.now c.args.op.now
-    c.in_ok-started.started.answer c.self.inside.asks c.make_call.new.asks c.keeps.ensures c.in_ok-started.ensures.called c.self.invariant)
+    c.in_ok-started.started.answer c.self.inside.asks c.make_call.new.asks c.self.inside.open_keys c.make_call.new.keys c.keeps.ensures c.in_ok-started.ensures.called c.self.invariant)

@@ -1,4 +1,4 @@
-use Rattle.std.proofs.Common.{rules, ◌≡◌, true, IsTrue, sym, ◌∙◌, subst}
+use Rattle.std.proofs.Common.{rules, IsTrue, sym, ◌∙◌, subst}
 use Rattle.hk_locked.specs.Locked.{LockedState}
 use Rattle.hk_locked.specs.Steps.{Meets}
 use Rattle.hk_locked.proofs.Keeping.{dropped_locked}
@@ -6,7 +6,7 @@ use Rattle.hk_locked.proofs.Reading.{looks_for}
 use Rattle.hk_locked.proofs.locked.LockedShard.look.Goals as goal
 
 pub invariant_of-self : goal.invariant_of-self
-invariant_of-self g c = dropped_locked _ c.self.inside.node c.self.inside.number c.self.inside.skew c.self.inside.shard c.self.inside.asks c.look.new.self c.look.ensures.fewer c.self.invariant
+invariant_of-self g c = dropped_locked _ c.self.inside.node c.self.inside.number c.self.inside.skew c.self.inside.shard c.self.inside.asks c.look.new.self c.self.inside.open_keys c.look.ensures.fewer c.self.invariant
 
 pub returns-clause-looks : goal.returns-clause-looks
 returns-clause-looks g c =

@@ -1,4 +1,4 @@
-use Rattle.std.proofs.Common.{rules, ◌≡◌, IsTrue, true, length, ap, ◌∙◌}
+use Rattle.std.proofs.Common.{rules, IsTrue, length, ap, ◌∙◌}
 use Rattle.std.proofs.lemmas.List.{length-set}
 use Rattle.hk_snap.specs.Ends.{Reader}
 use Rattle.hk_locked.proofs.Reading.{met_names, met_inside}
@@ -20,7 +20,7 @@ returns-clause-met g c =
     let is : IsTrue c.is_read_by.result = search rules in
     let same = c.is_read_by.ensures is in
     met_inside g.P.Places.places
-    (record { node = c.self.inside.node; number = c.self.inside.number; skew = c.self.inside.skew; shard = c.self.inside.shard; asks = c.self.inside.asks }) c.args.self.now
+    (record { node = c.self.inside.node; number = c.self.inside.number; skew = c.self.inside.skew; shard = c.self.inside.shard; asks = c.self.inside.asks; open_keys = c.self.inside.open_keys }) c.args.self.now
     (record { node = c.reader.inside.node; number = c.reader.inside.number; skew = c.reader.inside.skew; cells = c.reader.inside.cells; lease = c.reader.inside.lease }) c.args.reader.now
     c.args.key.now c.cell_of.result c.meet.new.reader c.self.view_is c.reader.view_is c.self.invariant c.reader.invariant.0 same.0 same.1
     c.cell_of.ensures.cell c.cell_of.ensures.below c.keeps.ensures.cells c.in_ok-meet.ensures.met c.in_ok-meet.ensures.grown
