@@ -19,7 +19,7 @@ use std::sync::{Arc, Wait};
 use std::thread;
 use std::thread::Threads;
 
-// What the shard's cell shows is told with no entry in its journal; what it doesn't show is asked there. The shard is ticked once, as the clock stands still.
+// What the shard's cell shows is told with no entry in its journal, and so is what its row has beside. The shard is ticked once, as the clock stands still.
 fn local_reads<R: Wait + Abort + Copy + Drop, P: Places>(rt: R, alloc: Global, founded: Founded)
     requires { node_names P.places founded.node ≡ names_of founded }
 {
@@ -34,7 +34,7 @@ fn local_reads<R: Wait + Abort + Copy + Drop, P: Places>(rt: R, alloc: Global, f
     let write = Op::Write(content(&rt, alloc, data.as_slice()));
     assert!(rt; is_stored(&rt, &mut desk, &k, write));
     assert!(rt; finds(&rt, &mut desk, &k, data.as_slice(), 262_144));
-    assert_eq!(rt; entries(&rt, &shards), 4);
+    assert_eq!(rt; entries(&rt, &shards), 3);
 }
 
 #[test]

@@ -91,6 +91,7 @@ pub fn desk<R: Wait + Abort + Copy + Drop, P: Places>(
         number,
         shards,
         Sequence::new(alloc),
+        Sequence::new(alloc),
         Quiet { number: 0 },
     )
     .expect(&rt, "memory");

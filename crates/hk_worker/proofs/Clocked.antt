@@ -1,5 +1,5 @@
 -- Asks by a clock, one after the other.
-use Rattle.std.proofs.Common.{◌≡◌, ◌≢◌, ◌⊎◌, inl, inr, ℕ, ◌+◌, ◌<◌, ◌≤◌, ◌==◌, if◌then◌else◌, List, [], ◌∷◌, ◌++◌, Bool, true, false, Option, Some, None, Result, Ok, Err, refl, sym, ap, ◌∙◌, subst, arith}
+use Rattle.std.proofs.Common.{◌≡◌, inl, inr, ℕ, ◌+◌, ◌<◌, ◌==◌, if◌then◌else◌, List, [], ◌∷◌, ◌++◌, Bool, true, false, Option, Result, Ok, Err, refl, sym, ap, ◌∙◌, subst, arith}
 use Rattle.std.proofs.lemmas.Bool.{ne_eqb}
 use mathlib.Core.List.{IsPrefix}
 use Rattle.hk_base.specs.declared.memory.Memory.{Memory}
@@ -9,9 +9,9 @@ use Rattle.hk_outside.specs.declared.desk.DeskReply.TheVariants.{Told, Unknown, 
 use Rattle.hk_snap.specs.declared.rule.Publication.{Publication}
 use Rattle.hk_snap.proofs.Prefixes.{prefix_self, prefix_trans}
 use Rattle.hk_told.specs.Shown.{Shown}
-use Rattle.hk_worker.specs.Asking.{PostState, HasAsked, call_number, reader_of}
+use Rattle.hk_worker.specs.Asking.{PostState, call_number, reader_of}
 use Rattle.hk_worker.specs.Turns.{seen_of, Rise}
-use Rattle.hk_worker.specs.Reading.{HasLooked, AsksByClock, ClockAsk, ClockAsksInTurn, post_after_asks, IsShownByClock, AreShownByClock, ClockAsksAreShown, ClockListsGrow, counts_by_clock, ClockCountsRise}
+use Rattle.hk_worker.specs.Reading.{AsksByClock, post_after_asks, IsShownByClock, ClockAsksAreShown, ClockListsGrow, counts_by_clock, ClockCountsRise}
 use Rattle.hk_worker.proofs.Turns.{rise_from, has_grown, seen_grown, same_seen}
 
 -- ---- lists

@@ -1,5 +1,5 @@
 -- What an ask tells is told too from before a look that came first.
-use Rattle.std.proofs.Common.{◌≡◌, ◌⊎◌, inl, inr, ℕ, ◌+◌, ◌-◌, ◌<◌, ◌≤◌, min, List, [], ◌∷◌, ◌++◌, Option, Some, None, true, Result, Ok, Err, refl, sym, ap, ◌∙◌, subst, arith, append_assoc, le_trans}
+use Rattle.std.proofs.Common.{◌≡◌, inl, inr, ℕ, ◌+◌, ◌-◌, ◌≤◌, min, List, ◌∷◌, ◌++◌, Option, Some, None, true, Result, Ok, Err, sym, ap, ◌∙◌, subst, arith, append_assoc, le_trans}
 use Rattle.std.specs.Option.{IfSome}
 use mathlib.Core.List.{IsPrefix}
 use Rattle.hk_base.specs.declared.time.TheConstants.{MAX_TIME}
@@ -17,8 +17,8 @@ use Rattle.hk_told.specs.Shown.{Begun, Shown, NotEnded, TellsShown, TellsUnknown
 use Rattle.hk_locked.specs.Locked.{ReaderState}
 use Rattle.hk_locked.specs.Steps.{end_at, IsGrown}
 use Rattle.hk_locked.proofs.Reading.{grown_on}
-use Rattle.hk_worker.specs.Asking.{PostState, Tells, HasAsked, AsksAtPost, call_number, reader_at, reader_of}
-use Rattle.hk_worker.specs.Reading.{HasLooked, HasRisen, HasAskedByClock, AsksByClock}
+use Rattle.hk_worker.specs.Asking.{PostState, Tells, HasAsked, AsksAtPost, call_number, reader_of}
+use Rattle.hk_worker.specs.Reading.{HasLooked, HasAskedByClock, AsksByClock}
 
 -- ---- what is shown
 module _ (old first grown : List Publication) (call : CallNo) (key : List ℕ) (op : Op) where
@@ -62,7 +62,7 @@ module _ (call : CallNo) (key : List ℕ) (op : Op) (old mid new : End) (more : 
   joined : (grown : List Publication) → new.seen ≡ mid.seen ++ grown → new.seen ≡ old.seen ++ (more.0 ++ grown)
   joined grown is = is ∙ (ap (λ (l : List Publication). l ++ grown) (sym more.1) ∙ append_assoc old.seen more.0 grown)
 
-  tells_from : (end now skew : ℕ) (answer : Answer) → TellsShown call key op end now skew mid new answer → TellsShown call key op end now skew old new answer
+  pub tells_from : (end now skew : ℕ) (answer : Answer) → TellsShown call key op end now skew mid new answer → TellsShown call key op end now skew old new answer
   tells_from end now skew answer t = (
     more.0 ++ t.0,
     (mid.loads - old.loads) + t.1,
@@ -98,7 +98,10 @@ asked_earlier key old mid new l a = record {
   may = (let p = l.asks in let q = a.may in omega (arith, p, q));
   asks = a.asks ∙ ap (λ n. n + 1) l.asks;
   node = a.node ∙ l.node;
+  lease = a.lease ∙ l.lease;
   number = a.number ∙ l.number;
+  ticked = a.ticked ∙ l.ticked;
+  worker = a.worker ∙ l.worker;
   grown = grown_on key (reader_of key old) (reader_of key mid) (reader_of key new) l.grown a.grown;
   others = λ shard apart. a.others shard apart ∙ l.others shard apart;
 }

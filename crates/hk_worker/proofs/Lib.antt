@@ -1,3 +1,4 @@
+pub mod ByRow
 pub mod Clocked
 pub mod Earlier
 pub mod Freely
@@ -5,3 +6,6 @@ pub mod Local
 pub mod Posts
 pub mod Telling
 pub mod Turns
+pub mod Asked
+pub mod Placed
+pub mod Ticking

@@ -6,6 +6,8 @@ use Rattle.std.specs.Prelude.{IfOk}
 use Rattle.hk_base.specs.declared.stamp.NodeId.{NodeId}
 use Rattle.hk_base.specs.declared.call.CallNo.{CallNo}
 use Rattle.hk_base.specs.declared.call.Op.{Op}
+use Rattle.hk_base.specs.declared.letter.Actor.{Actor}
+use Rattle.hk_link.specs.Ends.{End as LinkEnd}
 use Rattle.hk_outside.specs.declared.desk.DeskReply.{DeskReply}
 use Rattle.hk_outside.specs.declared.desk.DeskReply.TheVariants.{Told, Unknown, Spent}
 use Rattle.hk_shard.specs.Shard.{shard_of}
@@ -46,16 +48,28 @@ one_reader_later node readers i r are below is = record {
 }
 
 -- ---- an ask
-module _ (key : List ℕ) (op : Op) (call : CallNo) (old : PostState) (i : ℕ) (before r : ReaderState) where
+module _ (key : List ℕ) (op : Op) (call : CallNo) (old : PostState) (outlets : List (Actor × LinkEnd)) (i : ℕ) (before r : ReaderState) where
   abbrev after : PostState
-  after = record { node = old.node; number = old.number; asks = old.asks + 1; readers = slice_set old.readers i r }
+  after = record {
+    node = old.node;
+    lease = old.lease;
+    number = old.number;
+    asks = old.asks + 1;
+    ticked = old.ticked;
+    readers = slice_set old.readers i r;
+    worker = old.worker;
+    outlets = outlets;
+  }
 
   has_asked : i ≡ shard_of key → i < length old.readers → old.asks < 4294967295 → before ≡ slice_index_or old.readers i no_reader → IsGrown key before r → HasAsked key old after
   has_asked is below may stands grown = record {
     may = may;
     asks = refl;
     node = refl;
+    lease = refl;
     number = refl;
+    ticked = refl;
+    worker = refl;
     grown = subst (λ j. IsGrown key (reader_at old j) (reader_at after j)) is
         (subst (λ o. IsGrown key o (reader_at after i)) stands (subst (IsGrown key before) (sym (get_or-set_same old.readers i r no_reader below)) grown));
     others = λ other apart. get_or-set_other old.readers i other r no_reader (λ e. apart (e ∙ is));

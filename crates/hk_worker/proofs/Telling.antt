@@ -1,11 +1,10 @@
 -- What a desk tells is shown by what its reader has seen.
-use Rattle.std.proofs.Common.{◌≡◌, ℕ, ◌+◌, ◌<◌, ◌≤◌, List, Option, Some, None, Bool, true, is_some, IsTrue, refl, sym, ap, ◌∙◌, subst, arith}
+use Rattle.std.proofs.Common.{◌≡◌, ℕ, ◌+◌, ◌<◌, ◌≤◌, List, Option, Some, None, is_some, IsTrue, refl, sym, ap, ◌∙◌, subst, arith}
 use Rattle.std.proofs.lemmas.Bool.{false≢true}
-use mathlib.Core.List.{IsPrefix}
 use Rattle.hk_base.specs.declared.call.CallNo.{CallNo}
 use Rattle.hk_base.specs.declared.call.Op.{Op}
 use Rattle.hk_base.specs.declared.call.Answer.{Answer}
-use Rattle.hk_outside.specs.Desk.{answers, is_update}
+use Rattle.hk_outside.specs.Desk.{answers}
 use Rattle.hk_outside.specs.declared.desk.DeskReply.TheVariants.{Told, Unknown}
 use Rattle.hk_told.specs.declared.asks.Look.{Look}
 use Rattle.hk_told.specs.declared.asks.Look.TheVariants as how

@@ -1,5 +1,5 @@
 -- Asks of a post, one after the other.
-use Rattle.std.proofs.Common.{◌≡◌, ◌≢◌, ◌⊎◌, ⊎_elim, inl, inr, ℕ, ◌+◌, ◌*◌, ◌<◌, ◌≤◌, List, [], ◌∷◌, ◌++◌, Bool, true, false, leb, Option, Some, Result, Ok, Err, refl, sym, ap, ◌∙◌, subst, arith, unwrap_or, slice_index_or}
+use Rattle.std.proofs.Common.{◌≡◌, ◌≢◌, ◌⊎◌, inl, inr, ℕ, ◌+◌, ◌*◌, ◌<◌, ◌≤◌, List, [], ◌∷◌, ◌++◌, true, false, leb, Some, Result, Ok, Err, sym, ap, ◌∙◌, subst, arith, unwrap_or}
 use Rattle.std.proofs.lemmas.Bool.Decides.{leb_tells}
 use mathlib.Core.List.{IsPrefix}
 use Rattle.hk_base.specs.declared.memory.Memory.{Memory}
@@ -12,12 +12,11 @@ use Rattle.hk_snap.specs.Snapshots.{cell_of}
 use Rattle.hk_snap.specs.Ends.{End, Reader, at}
 use Rattle.hk_snap.proofs.Prefixes.{prefix_self, prefix_trans}
 use Rattle.hk_shard.specs.Shard.{shard_of}
-use Rattle.hk_told.specs.Shown.{Begun, Shown, NotEnded}
 use Rattle.hk_locked.specs.Locked.{ReaderState}
 use Rattle.hk_locked.specs.Steps.{end_at, IsGrown}
-use Rattle.hk_worker.specs.Asking.{PostState, HasAsked, AsksAtPost, IsTicked, call_number, no_reader, reader_at, reader_of}
+use Rattle.hk_worker.specs.Asking.{PostState, HasAsked, AsksAtPost, call_number, reader_at, reader_of}
 use Rattle.hk_worker.proofs.Posts.{nat_cases}
-use Rattle.hk_worker.specs.Turns.{IsUnasked, PostAsk, AsksInTurn, post_after, seen_of, IsShownIn, AreShownAt, AsksAreShown, ListsGrow, TicksAskNothing, with_count, counts_of, Rise, CountsRise, UpdatesDiffer}
+use Rattle.hk_worker.specs.Turns.{IsUnasked, post_after, seen_of, IsShownIn, AsksAreShown, ListsGrow, TicksAskNothing, with_count, counts_of, Rise, CountsRise, UpdatesDiffer}
 
 -- ---- counts
 pub rise_from : (a b : ℕ) (counts : List ℕ) → b ≡ a → Rise b counts → Rise a counts

@@ -2,3 +2,4 @@ pub mod Asking
 pub mod Founding
 pub mod Reading
 pub mod Turns
+pub mod Working

@@ -17,13 +17,40 @@ use hk_overseer::send_all;
 use hk_told::Look;
 use std::alloc::Global;
 use std::sync::Wait;
-use std::thread;
+use std::{hint, thread};
 
 /// After so many looks the outcome of an update is told as unknown.
 pub const TURNS: u64 = 100_000;
 
 // So often a desk looks, before it makes its call, whether the key's row is Valid.
 const LOOKS: u64 = 1_000;
+
+// Who looks again and again rings at each of so many looks, so that the node's workers send again what got lost.
+const LOOKS_A_RING: u64 = 256;
+
+// So often it looks again at once, before other threads go first.
+const LOOKS_AT_ONCE: u64 = 64;
+
+// A pause behind a look is so long.
+const SPINS: u32 = 64;
+
+/// What is done between two looks.
+pub(crate) fn pause<F: Completion + Copy + Drop, P: Places, R: Wait>(
+    rt: &R,
+    shards: &Shards<F, P>,
+    look: u64,
+) {
+    if look % LOOKS_A_RING == LOOKS_A_RING - 1 {
+        shards.bell().ring(rt);
+    }
+    if look >= LOOKS_AT_ONCE {
+        thread::yield_now();
+        return;
+    }
+    for _ in 0..SPINS {
+        hint::spin_loop();
+    }
+}
 
 // Waits until the key's row is Valid, for so many looks at most.
 fn settle<F: Completion + Copy + Drop, P: Places, R: Wait>(
@@ -32,11 +59,11 @@ fn settle<F: Completion + Copy + Drop, P: Places, R: Wait>(
     shard: u8,
     key: &Key,
 ) {
-    for _look in 0..LOOKS {
+    for look in 0..LOOKS {
         if shards.lock_of(shard).lock(rt).is_settled(key) {
             return;
         }
-        thread::yield_now();
+        pause(rt, shards, look);
     }
 }
 
@@ -133,10 +160,10 @@ fn wait<F: Completion + Copy + Drop, P: Places, R: Wait>(
     ensures waits { IfOk result (λ told. (turns : ℕ) × (told ≡ None → turns ≡ 100000) × LooksOften turns key.now ticket reader.old reader.new told) }
     ensures grown { IsGrown key.now reader.old reader.new }
 {
-    for _turn in 0..TURNS {
+    for looked in 0..TURNS {
         match turn(rt, shards, reader, key, call, ticket)? {
             Look::Told(answer) => return Ok(Some(answer)),
-            Look::Waits => thread::yield_now(),
+            Look::Waits => pause(rt, shards, looked),
             Look::Gone => return Err(Memory),
         }
     }
@@ -183,6 +210,7 @@ pub(crate) fn ask<F: Completion + Copy + Drop, P: Places, R: Wait>(
     if let Some(answer) = answer {
         return Ok(DeskReply::Told(answer));
     }
+    shards.bell().ring(rt);
     if let Some(answer) = wait(rt, shards, reader, key, call, ticket)? {
         return Ok(DeskReply::Told(answer));
     }

@@ -40,7 +40,14 @@ impl<F: Completion + Copy + Drop, P: Places> Post<F, P> {
         ensures suits { IfOk result (λ told. IfSome told (λ answer. answers Read answer ≡ true)) }
     {
         let shard = usize::from(shard_of(key));
-        look(rt, self.alloc, &mut self.readers[shard], clock, key)
+        look(
+            rt,
+            self.alloc,
+            &self.shards,
+            &mut self.readers[shard],
+            clock,
+            key,
+        )
     }
 
     // The same of a read. None for any other operation.
@@ -96,22 +103,17 @@ impl<F: Completion + Copy + Drop, P: Places> Post<F, P> {
 /// Asks operations at the post of a [`NodeDesk`], with a clock. A read is told from what the shard of its key shows, with no lock, where that shows the key's
 /// row. For any other ask the shard is ticked to the clock first.
 #[derive(Drop)]
-pub struct ClockDesk<
-    C: Clock + Send + Sync + Drop + 'static,
-    R: Wait + Drop,
-    F: Completion + Copy + Drop,
-    P: Places,
-> {
+pub struct ClockDesk<C: Clock + Drop, R: Wait + Drop, F: Completion + Copy + Drop, P: Places> {
     pub desk: NodeDesk<R, F, P>,
     clock: Arc<C>,
 }
 
-impl<
-    C: Clock + Send + Sync + Drop + 'static,
-    R: Wait + Drop,
-    F: Completion + Copy + Drop,
-    P: Places,
-> ClockDesk<C, R, F, P> {
+impl<C: Clock + Drop, R: Wait + Drop, F: Completion + Copy + Drop, P: Places> ClockDesk<
+    C,
+    R,
+    F,
+    P,
+> {
     /// The desk with this clock. It takes no memory.
     pub fn new(desk: NodeDesk<R, F, P>, clock: Arc<C>) -> ClockDesk<C, R, F, P>
         ensures { result.desk ≡ desk }
@@ -120,12 +122,8 @@ impl<
     }
 }
 
-impl<
-    C: Clock + Send + Sync + Drop + 'static,
-    R: Wait + Drop,
-    F: Completion + Copy + Drop,
-    P: Places,
-> Desk for ClockDesk<C, R, F, P> {
+impl<C: Clock + Drop, R: Wait + Drop, F: Completion + Copy + Drop, P: Places> Desk
+    for ClockDesk<C, R, F, P> {
     ghost asks = { λ desk. None };
 
     fn ask(&mut self, key: &Key, op: &Op) -> Result<DeskReply, Memory>

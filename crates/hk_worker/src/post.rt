@@ -1,9 +1,11 @@
 //! A thread's place at the shards of a node.
 
-ghost use Rattle.std.specs.Prelude.{◌≡◌, ◌<◌, ◌≤◌, ℕ, length, IfOk, OnOk, OnErr};
+ghost use Rattle.std.specs.Prelude.{◌≡◌, ◌<◌, ◌≤◌, ◌^◌, ℕ, true, length, IsTrue, IfOk, OnOk, OnErr};
 ghost use Rattle.hk_base.specs.declared.time.TheConstants.{MAX_TIME};
 ghost use Rattle.hk_outside.specs.Desk.{Suits};
-ghost use Rattle.hk_worker.specs.Asking.{AsksAtPost, AreReadersBelow, HaveTicked, IsTicked, call_number};
+ghost use Rattle.hk_worker.specs.Asking.{AsksAtPost, AreReadersBelow, HaveTicked, HaveAsked, AsksBy, IsTicked, call_number};
+ghost use Rattle.std.specs.Arc.{arc_value};
+ghost use Rattle.hk_worker.specs.Working.{HasWorked, WereQuietBelow};
 
 use crate::asking::ask;
 use crate::shards::Shards;
@@ -12,8 +14,9 @@ use hk_callback::Completion;
 use hk_link::Outlet;
 use hk_locked::{Places, ShardReader};
 use hk_outside::DeskReply;
-use hk_overseer::Outlets;
+use hk_overseer::{Gate, Outlets};
 use hk_shard::{SHARDS, shard_of};
+use hk_turns::{Inlets, Worker};
 use std::alloc::Global;
 use std::marker::Model;
 use std::sync::{Arc, Wait};
@@ -21,28 +24,43 @@ use std::sync::{Arc, Wait};
 // The numbers of a post's calls are this many apart from those of the next post.
 const NUMBERS: u64 = 4_294_967_296;
 
-/// A thread's place at the shards of a node: its readers of them, its outlets to other nodes, and the numbers of its calls. Contracts see the node, the post's
-/// number, how many asks were made, and the readers.
+/// A thread's place at the shards of a node: its readers of them, its inlets and its outlets to others, what it has to do as a worker, and the numbers of its
+/// calls. Contracts see these, the node and how long its leases are, the post's number, how many asks were made, and the greatest reading that it ticked to.
 #[derive(Drop)]
 pub struct Post<F: Completion + Copy + Drop, P: Places> {
     pub(crate) alloc: Global,
-    node: NodeId,
     number: u32,
     asks: u32,
+    ticked: u64,
     pub(crate) shards: Arc<Shards<F, P>>,
     pub(crate) readers: Vec<ShardReader<P>>,
+    worker: Worker,
     outlets: Vec<(Actor, Outlet)>,
     tell: F,
 }
 
 impl<F: Completion + Copy + Drop, P: Places> Model for Post<F, P> {
-    ghost use Rattle.hk_worker.specs.Asking.{PostState, IsPost};
+    ghost use Rattle.std.specs.Arc.{arc_value};
+    ghost use Rattle.std.specs.Coded.{codes};
+    ghost use Rattle.hk_link.specs.contracts.rule.Known as known;
+    ghost use Rattle.hk_worker.specs.Asking.{PostState, AreReadersBelow};
 
     ghost Value = { PostState };
 
-    ghost view = { λ p. record { node = p.node; number = p.number; asks = p.asks; readers = p.readers.items } };
+    ghost coded = { Prim.hlevel (codes, known.the_row.coded) };
 
-    ghost invariant = { λ p. IsPost (record { node = p.node; number = p.number; asks = p.asks; readers = p.readers.items }) };
+    ghost view = { λ p. record {
+      node = (arc_value p.shards).node;
+      lease = (arc_value p.shards).lease;
+      number = p.number;
+      asks = p.asks;
+      ticked = p.ticked;
+      readers = p.readers.items;
+      worker = p.worker;
+      outlets = p.outlets.items;
+    } };
+
+    ghost invariant = { λ p. AreReadersBelow 8 (arc_value p.shards).node p.readers.items };
 }
 
 // The number of the post's call of this number, counted from 1.
@@ -53,30 +71,37 @@ fn call_number(post: u32, asks: u32) -> CallNo
 }
 
 impl<F: Completion + Copy + Drop, P: Places> Post<F, P> {
-    /// A post of the node with these shards. Each post of a node has another number. `tell` is called with the
-    /// answer of each update of this post that had to wait.
+    /// A post of the node with these shards. Each post of a node has another number. It takes parcels from `inlets`, and letters go by `outlets`. `tell` is
+    /// called with the answer of each update of this post that had to wait.
     pub fn new<R: Wait>(
         rt: &R,
         alloc: Global,
         node: u16,
         number: u32,
         shards: Arc<Shards<F, P>>,
+        inlets: Inlets,
         outlets: Outlets,
         tell: F,
     ) -> Result<Post<F, P>, Memory>
         ensures node { IfOk result (λ post. post.node ≡ record { 0 = node }) }
+        ensures lease { IfOk result (λ post. post.lease ≡ (arc_value shards).lease) }
         ensures number { IfOk result (λ post. post.number ≡ number) }
         ensures asks { IfOk result (λ post. post.asks ≡ 0) }
+        ensures ticked { IfOk result (λ post. post.ticked ≡ 0) }
+        ensures inlets { IfOk result (λ post. post.worker.inlets ≡ inlets) }
+        ensures outlets { IfOk result (λ post. post.outlets ≡ outlets) }
     {
-        let node = NodeId(node);
+        let node = shards_node(&shards, node)?;
         let readers = readers_of(rt, alloc, &shards, node)?;
+        let worker = Worker::new(alloc, node, shards.managers(), inlets)?;
         Ok(Post {
             alloc,
-            node,
             number,
             asks: 0,
+            ticked: 0,
             shards,
             readers,
+            worker,
             outlets: outlets.into_vec(),
             tell,
         })
@@ -109,13 +134,53 @@ impl<F: Completion + Copy + Drop, P: Places> Post<F, P> {
         )
     }
 
-    /// Raises the clocks of all shards to a reading. One above the limit counts as the limit. After `Memory` the shards before the refused one have it.
+    /// Raises the clocks of all shards to a reading. One above the limit counts as the limit. Where the reading is above all that the post ticked to before, each
+    /// shard of whose lease less than half is left then is to ask each of its managers for a lease once. After `Memory` the shards before the refused one have it.
     pub fn tick<R: Wait>(&mut self, rt: &R, now: u64) -> Result<(), Memory>
         ensures ticked { OnOk result (IsTicked 8 now self.old self.new) }
         ensures err { OnErr result ((count : ℕ) × (count < 8) × IsTicked count now self.old self.new) }
     {
         let now = now.min(MAX_TIME);
-        tick_all(rt, self.alloc, &self.shards, &mut self.readers, now)
+        let rises = self.ticked < now;
+        self.ticked = self.ticked.max(now);
+        tick_all(
+            rt,
+            self.alloc,
+            &self.shards,
+            &mut self.readers,
+            &mut self.worker,
+            rises,
+            now,
+        )
+    }
+
+    /// Makes turns of a worker at the post. See [`crate::work`].
+    pub(crate) fn work<G: Gate, R: Wait>(&mut self, rt: &R, gate: &mut G, turns: u64) -> u64
+        ensures made { HasWorked P.places G.answers G.closed result self.old gate.old self.new gate.new }
+        ensures most { result ≤ turns }
+        ensures fewer { result < turns → G.closed gate.new ≡ true }
+    {
+        hk_turns::work(
+            rt,
+            self.alloc,
+            &*self.shards,
+            &mut self.worker,
+            &mut self.outlets,
+            gate,
+            turns,
+        )
+    }
+
+    /// Whether its worker may sleep until the bell of the shards is rung: its last turn found nothing to do, and no row of a shard is open.
+    pub fn rests<R: Wait>(&self, rt: &R) -> bool
+        ensures { IsTrue result → WereQuietBelow 8 P.places self.now.node }
+    {
+        self.worker.rests() && !self.shards.has_open(rt)
+    }
+
+    /// The shards.
+    pub fn shards(&self) -> &Arc<Shards<F, P>> {
+        &self.shards
     }
 
     /// Checkpoints each shard whose journal has at least so many entries, and drops what is handed out. After `Memory` the shards before the refused one are
@@ -130,21 +195,52 @@ impl<F: Completion + Copy + Drop, P: Places> Post<F, P> {
     }
 }
 
-// Raises the clocks of the readers' shards, one after the other.
+// The number of the node, which is that of the shards.
+fn shards_node<F: Completion + Copy + Drop, P: Places>(
+    shards: &Shards<F, P>,
+    node: u16,
+) -> Result<NodeId, Memory>
+    ensures node { IfOk result (λ id. id ≡ record { 0 = node }) }
+    ensures same { IfOk result (λ id. id ≡ shards.now.node) }
+{
+    let id = NodeId(node);
+    if shards.node() != id {
+        return Err(Memory);
+    }
+    Ok(id)
+}
+
+// Where a shard's lease is short after a rise, it is to ask for one.
+fn note_lease(worker: &mut Worker, shard: u8, rises: bool, short: bool)
+    requires { shard < 8 }
+    ensures { AsksBy rises short shard worker.old worker.new }
+{
+    if rises {
+        if short {
+            worker.ask_leases(shard);
+        }
+    }
+}
+
+// Raises the clocks of the readers' shards, one after the other. Where the reading rises, those of whose lease less than half is left are to ask for one.
 fn tick_all<F: Completion + Copy + Drop, P: Places, R: Wait>(
     rt: &R,
     alloc: Global,
     shards: &Shards<F, P>,
     readers: &mut Vec<ShardReader<P>>,
+    worker: &mut Worker,
+    rises: bool,
     now: u64,
 ) -> Result<(), Memory>
     requires long { length readers.old.items ≡ 8 }
     requires now { now ≤ MAX_TIME }
     ensures ticked { OnOk result (HaveTicked 8 now readers.old.items readers.new.items) }
-    ensures err { OnErr result ((count : ℕ) × (count < 8) × HaveTicked count now readers.old.items readers.new.items) }
+    ensures asked { OnOk result (HaveAsked 8 rises shards.now.lease readers.new.items worker.old worker.new) }
+    ensures err { OnErr result ((count : ℕ) × (count < 8) × HaveTicked count now readers.old.items readers.new.items × HaveAsked count rises shards.now.lease readers.new.items worker.old worker.new) }
 {
-    for shard in 0..8 {
-        shards.tick(rt, alloc, &mut readers[shard], now)?;
+    for shard in 0..SHARDS {
+        let short = shards.tick(rt, alloc, &mut readers[usize::from(shard)], now)?;
+        note_lease(worker, shard, rises, short);
     }
     Ok(())
 }

@@ -1,6 +1,7 @@
 //! The eight shards of a node.
 
-ghost use Rattle.std.specs.Prelude.{◌≡◌, ◌≤◌, ◌<◌, true, IfOk, OnOk, OnErr};
+ghost use Rattle.std.specs.Prelude.{◌≡◌, ◌≤◌, ◌<◌, true, false, IfOk, OnOk, OnErr};
+ghost use Rattle.std.specs.Option.{option_copied};
 ghost use Rattle.std.specs.List.{AllByRecursion};
 ghost use Rattle.hk_base.specs.Range.{IsLetter};
 ghost use Rattle.hk_base.specs.declared.time.TheConstants.{MAX_TIME};
@@ -11,17 +12,23 @@ ghost use Rattle.hk_node.specs.Laws.{IsNoCall};
 ghost use Rattle.hk_node.specs.Made.{founder};
 ghost use Rattle.hk_shard.specs.Shard.{IsNew};
 ghost use Rattle.hk_locked.specs.Places.{node_names};
-ghost use Rattle.hk_locked.specs.Steps.{Ticks};
+ghost use Rattle.hk_locked.specs.Moments.{WasApplied, WasDue, WasJournal, WasQuiet};
+ghost use Rattle.hk_locked.specs.Steps.{Ticks, is_short};
 ghost use Rattle.hk_worker.specs.Founding.{IsFoundedShard, IsShardNamed, names_of};
+ghost use Rattle.hk_worker.specs.Working.{WereQuietBelow};
 
 use crate::eight::Eight;
 use crate::tickets::Tickets;
-use hk_base::{Letters, MAX_TIME, Memory, NodeId, View};
+use hk_base::{Key, Letters, MAX_TIME, Memory, NodeId, View};
 use hk_callback::Completion;
+use hk_due::Due;
+use hk_journal::Journal;
+use hk_link::Bell;
 use hk_locked::{LockedShard, Places, ShardReader};
 use hk_node::{Node, NodeEvent};
-use hk_shard::Shard;
+use hk_shard::{SHARDS, Shard};
 use hk_snap::{LeaseCell, SnapReader};
+use hk_turns::Workplace;
 use std::alloc::Global;
 use std::marker::Model;
 use std::sync::{Arc, Mutex, Wait};
@@ -33,8 +40,10 @@ pub struct Founded {
     node: NodeId,
     skew: u64,
     lease: u64,
+    managers: u8,
     shards: Eight<Shard>,
     tickets: Arc<Tickets>,
+    bell: Arc<Bell>,
 }
 
 impl Model for Founded {
@@ -56,13 +65,15 @@ impl Model for Founded {
     }) };
 }
 
-/// The eight shards of a node, each under its lock.
+/// The eight shards of a node, each under its lock, and the bell that wakes its workers.
 #[derive(Drop)]
 pub struct Shards<F: Completion + Copy + Drop, P: Places> {
     node: NodeId,
     lease: u64,
+    managers: u8,
     locks: Eight<Mutex<LockedShard<F, P>>>,
     tickets: Arc<Tickets>,
+    bell: Arc<Bell>,
 }
 
 // A shard over a founder.
@@ -113,12 +124,15 @@ impl Founded {
             node,
             skew,
             lease,
+            managers,
             shards,
             tickets,
+            bell,
         } = self;
         Shards {
             node,
             lease,
+            managers,
             locks: Eight {
                 of_0: locked(alloc, node, 0, skew, shards.of_0),
                 of_1: locked(alloc, node, 1, skew, shards.of_1),
@@ -130,6 +144,7 @@ impl Founded {
                 of_7: locked(alloc, node, 7, skew, shards.of_7),
             },
             tickets,
+            bell,
         }
     }
 }
@@ -156,6 +171,7 @@ impl<F: Completion + Copy + Drop, P: Places> Shards<F, P> {
         ensures skew { IfOk result (λ founded. founded.skew ≡ skew) }
         ensures founders { IfOk result (λ founded. AllByRecursion (IsNew (founder node view.now lease_end skew managers)) founded.shards) }
     {
+        let bell = Arc::new(alloc, Bell::new())?;
         let of_0 = founder(rt, alloc, node, view, lease_end, skew, managers)?;
         let of_1 = founder(rt, alloc, node, view, lease_end, skew, managers)?;
         let of_2 = founder(rt, alloc, node, view, lease_end, skew, managers)?;
@@ -179,19 +195,30 @@ impl<F: Completion + Copy + Drop, P: Places> Shards<F, P> {
             node,
             skew,
             lease: lease_end,
+            managers,
             shards,
             tickets,
+            bell,
         })
     }
 
     /// The number of the node.
-    pub fn node(&self) -> NodeId {
+    pub fn node(&self) -> NodeId
+        ensures { result ≡ self.now.node }
+    {
         self.node
     }
 
     /// How long a lease is, in milliseconds.
-    pub fn lease_length(&self) -> u64 {
+    pub fn lease_length(&self) -> u64
+        ensures { result ≡ self.now.lease }
+    {
         self.lease
+    }
+
+    /// How many managers the group has.
+    pub fn managers(&self) -> u8 {
+        self.managers
     }
 
     /// The lock of a shard, 0 to 7.
@@ -202,6 +229,36 @@ impl<F: Completion + Copy + Drop, P: Places> Shards<F, P> {
     /// The numbers of steps.
     pub fn tickets(&self) -> &Tickets {
         &self.tickets
+    }
+
+    /// What wakes the node's workers. Whoever gives them something to do rings it: the outlets to the node (`Outlet::with_bell`), an ask that has to wait, and
+    /// whoever closes their gates.
+    pub fn bell(&self) -> &Arc<Bell> {
+        &self.bell
+    }
+
+    // Whether a row of a shard, 0 to 7, is open.
+    fn has_open_at<R: Wait>(&self, rt: &R, shard: u8) -> bool
+        requires { shard < 8 }
+        ensures { result ≡ false → WasQuiet P.places self.now.node shard }
+    {
+        let held = self.lock_of(shard).lock(rt);
+        if !held.is_of(self.node, shard) {
+            return true;
+        }
+        held.has_open()
+    }
+
+    /// Whether a row of a shard is open, one that is not Valid. A worker sleeps only while none is.
+    pub fn has_open<R: Wait>(&self, rt: &R) -> bool
+        ensures { result ≡ false → WereQuietBelow 8 P.places self.now.node }
+    {
+        for shard in 0..SHARDS {
+            if self.has_open_at(rt, shard) {
+                return true;
+            }
+        }
+        false
     }
 
     // A reader of the shard of this number of this node. Were it another, it would be refused.
@@ -235,40 +292,35 @@ impl<F: Completion + Copy + Drop, P: Places> Shards<F, P> {
         Ok(reader.into_cells())
     }
 
-    /// Makes the step of an event that is no call at a shard, 0 to 7, with a ticket that is drawn under its lock.
-    pub fn apply<R: Wait>(
-        &self,
-        rt: &R,
-        alloc: Global,
-        shard: u8,
-        event: NodeEvent,
-    ) -> Result<Letters, Memory>
-        requires shard { shard < 8 }
-        requires event { IsEvent event }
-        requires no_call { IsNoCall event }
-        ensures { IfOk result (λ letters. AllByRecursion IsLetter letters) }
+    /// A copy of the journal of a shard, 0 to 7.
+    pub fn journal<R: Wait>(&self, rt: &R, alloc: Global, shard: u8) -> Result<Journal, Memory>
+        requires { shard < 8 }
+        ensures { IfOk result (λ journal. WasJournal P.places self.now.node shard journal) }
     {
-        let mut held = self.lock_of(shard).lock(rt);
-        let ticket = self.tickets().draw_above(rt, held.last_ticket());
-        let given = held.apply(rt, alloc, ticket, event)?;
-        Ok(given.letters)
+        let guard = self.lock_of(shard).lock(rt);
+        let held = &*guard;
+        if !held.is_of(self.node, shard) {
+            return Err(Memory);
+        }
+        held.copy_journal(alloc)
     }
 
-    // Raises the clock of the reader's shard to a reading, with a ticket that is drawn under its lock.
+    // Raises the clock of the reader's shard to a reading, with a ticket that is drawn under its lock. It gives whether of its lease less is left than has gone.
     pub(crate) fn tick<R: Wait>(
         &self,
         rt: &R,
         alloc: Global,
         reader: &mut ShardReader<P>,
         now: u64,
-    ) -> Result<(), Memory>
+    ) -> Result<bool, Memory>
         requires { now ≤ MAX_TIME }
         ensures ticks { OnOk result (Ticks now reader.old reader.new) }
+        ensures short { IfOk result (λ short. short ≡ is_short self.now.lease reader.new.lease.end reader.new.lease.now) }
         ensures err { OnErr result (reader.new ≡ reader.old) }
     {
         let mut held = self.lock_of(reader.number()).lock(rt);
         let ticket = self.tickets().draw_above(rt, held.last_ticket());
-        held.tick(rt, alloc, reader, ticket, now)
+        held.tick(rt, alloc, reader, ticket, now, self.lease)
     }
 
     // Checkpoints a shard, 0 to 7, whose journal has at least so many entries, and drops what it hands out.
@@ -281,7 +333,60 @@ impl<F: Completion + Copy + Drop, P: Places> Shards<F, P> {
     ) -> Result<(), Memory>
         requires { shard < 8 }
     {
-        self.lock_of(shard).lock(rt).trim(alloc, entries as usize)?;
+        let journal = self.lock_of(shard).lock(rt).trim(alloc, entries as usize)?;
+        // The lock is free again: what the journal held is given back outside it.
+        drop(journal);
         Ok(())
+    }
+}
+
+impl<F: Completion + Copy + Drop, P: Places> Workplace for Shards<F, P> {
+    ghost applies = { λ shards shard event letters. WasApplied P.places shards.node shard event letters };
+
+    ghost finds = { λ shards shard after before due. WasDue P.places shards.node shard after before due };
+
+    fn ticket<R: Wait>(&self, rt: &R) -> u64 {
+        self.tickets().draw(rt)
+    }
+
+    fn apply<R: Wait>(
+        &self,
+        rt: &R,
+        alloc: Global,
+        shard: u8,
+        event: NodeEvent,
+    ) -> Result<Letters, Memory>
+        requires shard { shard < 8 }
+        requires event { IsEvent event }
+        requires no_call { IsNoCall event }
+        ensures applied { IfOk result (λ letters. WasApplied P.places self.now.node shard event letters) }
+        ensures in_range { IfOk result (λ letters. AllByRecursion IsLetter letters) }
+    {
+        let mut guard = self.lock_of(shard).lock(rt);
+        let held = &mut *guard;
+        if !held.is_of(self.node, shard) {
+            return Err(Memory);
+        }
+        let ticket = self.tickets().draw_above(rt, held.last_ticket());
+        let given = held.apply(rt, alloc, ticket, event)?;
+        Ok(given.letters)
+    }
+
+    fn due<R: Wait>(
+        &self,
+        rt: &R,
+        shard: u8,
+        after: Option<&Key>,
+        before: u64,
+    ) -> Result<Option<Due>, Memory>
+        requires { shard < 8 }
+        ensures { IfOk result (λ due. WasDue P.places self.now.node shard (option_copied after.entry) before due) }
+    {
+        let guard = self.lock_of(shard).lock(rt);
+        let held = &*guard;
+        if !held.is_of(self.node, shard) {
+            return Err(Memory);
+        }
+        held.due(after, before)
     }
 }
