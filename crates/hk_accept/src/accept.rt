@@ -11,15 +11,6 @@ use hk_outside::{Doors, Spawner, Status};
 use std::alloc::Global;
 use std::sync::{Arc, Wait};
 
-/// Which connections are to be served.
-#[derive(Clone, Copy, Debug, PartialEq, Eq)]
-pub struct AcceptOptions {
-    /// The port of 127.0.0.1 that is opened.
-    pub port: u16,
-    /// After so many connections the server is done.
-    pub conns: u32,
-}
-
 // Starts a job for each connection that comes, at most so many.
 fn start_each<D: Doors, S: Spawner, K: Desks + Send + Sync + Drop + 'static>(
     alloc: Global,
@@ -50,30 +41,27 @@ fn start_each<D: Doors, S: Spawner, K: Desks + Send + Sync + Drop + 'static>(
     Status::Done
 }
 
-/// Serves connections, each by a job of its own at a desk of its own, and returns once those jobs have ended.
+/// Serves the connections that come through open doors, each by a job of its own at a desk of its own, and returns once those jobs have ended.
 ///
-/// Done: so many connections were taken as the options say, or no more came, and each got a job. Memory: there was none to count the jobs. DoorFault: the port
-/// could not be opened, or the next connection could not be taken. SpawnFault: a connection got no job, and was closed. Those before it are served to their ends.
+/// Done: so many connections were taken, or no more came, and each got a job. Memory: there was none to count the jobs. DoorFault: the next connection could
+/// not be taken. SpawnFault: a connection got no job, and was closed. Those before it are served to their ends.
 pub fn serve_each<R: Wait, D: Doors, S: Spawner, K: Desks + Send + Sync + Drop + 'static>(
     rt: &R,
     alloc: Global,
     doors: &mut D,
     spawner: &mut S,
     desks: &Arc<K>,
-    options: &AcceptOptions,
+    conns: u32,
 ) -> Status
     ensures ends { EndsServe result }
-    ensures done { result ≡ Status.Done → HasServed (D.left doors.old) (D.left doors.new) (S.taken spawner.old) (S.taken spawner.new) options.now.conns }
+    ensures done { result ≡ Status.Done → HasServed (D.left doors.old) (D.left doors.new) (S.taken spawner.old) (S.taken spawner.new) conns }
     ensures door_fault { result ≡ Status.DoorFault → Rose (D.faults doors.old) (D.faults doors.new) }
     ensures spawn_fault { result ≡ Status.SpawnFault → Rose (S.faults spawner.old) (S.faults spawner.new) }
 {
     let Ok(group) = WaitGroup::new(alloc) else {
         return Status::Memory;
     };
-    if doors.open(options.port).is_err() {
-        return Status::DoorFault;
-    }
-    let status = start_each(alloc, doors, spawner, desks, &group, options.conns);
+    let status = start_each(alloc, doors, spawner, desks, &group, conns);
     group.wait(rt);
     status
 }

@@ -1,6 +1,6 @@
 //! Connections, each served by a job of its own.
 //!
-//! [`serve_each`] opens the doors and starts a job for each connection that comes. The job makes a desk for the connection ([`Desks`]) and serves the connection
+//! [`serve_each`] starts a job for each connection that comes through open doors. The job makes a desk for the connection ([`Desks`]) and serves the connection
 //! there to its end. When `serve_each` returns, all jobs that it started have ended, so no reply is lost on the way. How it ends, and what shows it, stands in its
 //! contract; that each job serves its connection, and that it waits for them, no clause says.
 //!
@@ -9,7 +9,9 @@
 
 mod accept;
 mod desks;
+mod spawner;
 mod visit;
 
-pub use accept::{AcceptOptions, serve_each};
+pub use accept::serve_each;
 pub use desks::Desks;
+pub use spawner::LooseSpawner;

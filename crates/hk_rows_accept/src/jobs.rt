@@ -1,7 +1,7 @@
 //! How servers end whose connections are jobs, and that these run side by side.
 
 use crate::meeting::{Meeting, Seen};
-use hk_accept::{AcceptOptions, Desks, serve_each};
+use hk_accept::{Desks, serve_each};
 use hk_base::{Answer, Memory};
 use hk_outside::{
     DeskReply, FakeDesk, MemoryConnection, MemoryDoors, MemorySink, MemorySource, NoSpawner,
@@ -37,7 +37,7 @@ fn connection(rt: &impl Abort, alloc: Global) -> MemoryConnection {
     }
 }
 
-fn seen(rt: &impl Abort, alloc: Global) -> Arc<Seen> {
+pub fn seen(rt: &impl Abort, alloc: Global) -> Arc<Seen> {
     let seen = Seen {
         written: AtomicU64::new(0),
         stored: AtomicBool::new(false),
@@ -46,7 +46,12 @@ fn seen(rt: &impl Abort, alloc: Global) -> Arc<Seen> {
 }
 
 // Two connections, of which the first waits for the second.
-fn doors(rt: &impl Abort, alloc: Global, seen: &Arc<Seen>, fails: bool) -> MemoryDoors<Meeting> {
+pub fn doors(
+    rt: &impl Abort,
+    alloc: Global,
+    seen: &Arc<Seen>,
+    fails: bool,
+) -> MemoryDoors<Meeting> {
     let mut conns = VecDeque::new(alloc);
     for waits in [true, false] {
         let conn = Meeting {
@@ -64,13 +69,6 @@ fn stores(rt: &impl Abort, alloc: Global) -> Arc<Storing> {
     Arc::new(alloc, Storing { alloc }).expect(rt, "memory")
 }
 
-fn options(conns: u32) -> AcceptOptions {
-    AcceptOptions {
-        port: 11_211,
-        conns,
-    }
-}
-
 #[test]
 fn conns_meet(rt: HostRuntime) {
     let alloc = rt.alloc();
@@ -84,7 +82,7 @@ fn conns_meet(rt: HostRuntime) {
             &mut doors,
             &mut spawner,
             &stores(&rt, alloc),
-            &options(conns),
+            conns,
         );
         assert_eq!(rt; status, Status::Done, "{conns} connections");
         assert_eq!(rt; spawner.taken, 2, "{conns} connections");
@@ -98,19 +96,13 @@ fn conns_meet(rt: HostRuntime) {
 }
 
 #[test]
-fn servers_with_jobs_end(rt: HostRuntime) {
+fn a_connection_with_no_job_is_told(rt: HostRuntime) {
     let alloc = rt.alloc();
-    for (fails, wanted) in [(true, Status::DoorFault), (false, Status::SpawnFault)] {
-        let seen = seen(&rt, alloc);
-        let mut doors = doors(&rt, alloc, &seen, fails);
-        let mut spawner: NoSpawner<HostRuntime> = NoSpawner::new();
-        let desks = stores(&rt, alloc);
-        let status = serve_each(&rt, alloc, &mut doors, &mut spawner, &desks, &options(2));
-        assert_eq!(rt; status, wanted, "doors that fail: {fails}");
-        assert_eq!(rt;
-            seen.written.load(Ordering::SeqCst),
-            0,
-            "doors that fail: {fails}"
-        );
-    }
+    let seen = seen(&rt, alloc);
+    let mut doors = doors(&rt, alloc, &seen, false);
+    let mut spawner: NoSpawner<HostRuntime> = NoSpawner::new();
+    let desks = stores(&rt, alloc);
+    let status = serve_each(&rt, alloc, &mut doors, &mut spawner, &desks, 2);
+    assert_eq!(rt; status, Status::SpawnFault);
+    assert_eq!(rt; seen.written.load(Ordering::SeqCst), 0);
 }

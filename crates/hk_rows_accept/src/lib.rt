@@ -2,6 +2,10 @@
 #![tactic(auto)]
 
 #[cfg(test)]
+mod groups;
+#[cfg(test)]
 mod jobs;
 #[cfg(test)]
 mod meeting;
+#[cfg(test)]
+mod talking;

@@ -1,19 +1,12 @@
-//! What clients send and are told, over the desk of one node, and how servers end.
-
-ghost use Rattle.std.specs.Prelude.{None, Some, refl};
+//! What clients send and are told, over the desk of one node.
 
 use crate::pieces::{SIZES, in_pieces};
 use hk_base::{Answer, Content, Data, Key, Op};
 use hk_conn::{ConnEnd, serve_connection};
-use hk_outside::{
-    Connection, Desk, DeskReply, Failed, HandClock, MemoryConnection, MemoryDoors, MemorySink,
-    MemorySource, Sink, Source, Status,
-};
-use hk_serve::{FounderDesk, ServeOptions, serve};
+use hk_outside::{Desk, DeskReply, HandClock, MemoryConnection, MemorySink, MemorySource};
+use hk_serve::FounderDesk;
 use std::alloc::Global;
-use std::collections::VecDeque;
 use std::process::Abort;
-use std::sync::atomic::{AtomicBool, Ordering};
 use std::sync::{Arc, Wait};
 
 const SETS_AND_GETS: &[u8] = b"set k 7 0 5\r\nhello\r\nget k none\r\ngets k\r\nquit\r\n";
@@ -167,86 +160,4 @@ fn reads_that_a_shard_shows_make_no_call(rt: HostRuntime) {
     assert_eq!(rt; finds(&rt, alloc, &mut desk, b"yyy", b"y"), (true, 4));
     // What no cell shows is told from its row.
     assert_eq!(rt; finds(&rt, alloc, &mut desk, b"k", b"hello"), (true, 4));
-}
-
-// A connection that notes whether all that was written to it so far is the text that is wanted.
-#[derive(Drop)]
-struct Wanting {
-    conn: MemoryConnection,
-    text: &'static [u8],
-    met: Arc<AtomicBool>,
-}
-
-impl Source for Wanting {
-    ghost left = { λ w. None };
-
-    ghost faults = { λ w. w.conn.source.faults };
-
-    ghost beside = { λ w. (Some w.conn.sink.sink.bytes.items, w.conn.sink.sink.faults) };
-
-    fn read(&mut self, room: &mut [u8]) -> Result<usize, Failed> {
-        self.conn.source.read(room)
-    }
-}
-
-impl Sink for Wanting {
-    ghost held = { λ w. Some w.conn.sink.sink.bytes.items };
-
-    ghost faults = { λ w. w.conn.sink.sink.faults };
-
-    ghost beside = { λ w. (None, w.conn.source.faults) };
-
-    fn write(&mut self, piece: &[u8]) -> Result<usize, Failed> {
-        let count = self.conn.sink.write(piece)?;
-        let met = self.conn.sink.sink.bytes.as_slice() == self.text;
-        self.met.store(met, Ordering::SeqCst);
-        Ok(count)
-    }
-}
-
-impl Connection for Wanting {
-    ghost read_keeps = { λ w. refl };
-
-    ghost write_keeps = { λ w. refl };
-
-    ghost one_record = { λ w. refl };
-}
-
-// Doors with so many connections that send the same, of each of which the last notes what was written.
-fn doors(
-    rt: &impl Abort,
-    alloc: Global,
-    met: &Arc<AtomicBool>,
-    fails: bool,
-) -> MemoryDoors<Wanting> {
-    let mut conns = VecDeque::new(alloc);
-    let conn = Wanting {
-        conn: connection(rt, alloc, SETS_AND_GETS),
-        text: VALUES,
-        met: Arc::clone(met).expect(rt, "memory"),
-    };
-    conns.push_back(conn).expect(rt, "memory");
-    MemoryDoors::new(conns, fails)
-}
-
-#[test]
-fn servers_end(rt: HostRuntime) {
-    let alloc = rt.alloc();
-    let rows = [
-        ("the stated number", 1, false, Status::Done, true),
-        ("no more come", 2, false, Status::Done, true),
-        ("no door opens", 1, true, Status::DoorFault, false),
-    ];
-    for (name, conns, fails, wanted, serves) in &rows {
-        let met = Arc::new(alloc, AtomicBool::new(false)).expect(&rt, "memory");
-        let mut doors = doors(&rt, alloc, &met, *fails);
-        let options = ServeOptions {
-            skew: 0,
-            port: 11_211,
-            conns: *conns,
-        };
-        let status = serve(rt, alloc, hand_clock(&rt, alloc, 1), &mut doors, &options);
-        assert_eq!(rt; status, *wanted, "{name}");
-        assert_eq!(rt; met.load(Ordering::SeqCst), *serves, "{name}");
-    }
 }

@@ -1,4 +1,3 @@
 pub mod Lone
 pub mod Asking
 pub mod Showing
-pub mod Serving

@@ -1,0 +1,120 @@
+//! What makes the desks of connections.
+
+ghost use Rattle.std.specs.Prelude.{◌≡◌, length, IfOk};
+
+use crate::completion::Unheard;
+use crate::desk::{GroupDesk, LeaseTerms, Ringing};
+use crate::lines::split_all;
+use crate::load::Load;
+use hk_accept::Desks;
+use hk_base::{Actor, Memory};
+use hk_link::Outlet;
+use hk_locked::Places;
+use hk_outside::Clock;
+use hk_overseer::Outlets;
+use hk_shard::SHARDS;
+use hk_snap::LeaseCell;
+use hk_turns::Inlets;
+use hk_worker::{ClockDesk, NodeDesk, Post, Shards};
+use std::alloc::Global;
+use std::sync::{Arc, Mutex, Wait};
+
+/// What all desks share.
+#[derive(Drop)]
+pub(crate) struct Station<R: Wait + Drop, C: Drop> {
+    pub(crate) rt: R,
+    pub(crate) alloc: Global,
+    pub(crate) clock: Arc<C>,
+    pub(crate) load: Arc<Load>,
+    pub(crate) terms: LeaseTerms,
+    /// The posts of a node below this number are those of its workers.
+    pub(crate) workers: u32,
+}
+
+/// Makes a desk for each connection, at the nodes in turn.
+#[derive(Drop)]
+pub(crate) struct GroupDesks<R: Wait + Drop, C: Drop, P: Places> {
+    pub(crate) station: Station<R, C>,
+    /// The shards of the nodes, those of node 0 first.
+    pub(crate) nodes: Vec<Arc<Shards<Unheard, P>>>,
+    /// To each node and manager. They are split for each desk.
+    pub(crate) outlets: Mutex<Vec<(Actor, Outlet)>>,
+}
+
+// What looks at the leases of the node's shards.
+fn lease_cells<R: Wait, P: Places>(
+    rt: &R,
+    alloc: Global,
+    shards: &Shards<Unheard, P>,
+) -> Result<Vec<LeaseCell>, Memory>
+    ensures { IfOk result (λ leases. length leases.items ≡ 8) }
+{
+    let mut leases = Vec::new(alloc);
+    for shard in 0..SHARDS {
+        let (_cells, lease) = shards.reader(rt, alloc, shard)?;
+        leases.push(lease)?;
+    }
+    Ok(leases)
+}
+
+// What the desk at these shards does beside asking.
+fn new_ringing<R: Wait + Drop, C: Clock + Drop, P: Places>(
+    station: &Station<R, C>,
+    shards: &Shards<Unheard, P>,
+) -> Result<Ringing<C>, Memory> {
+    Ok(Ringing {
+        clock: Arc::try_clone(&station.clock)?,
+        terms: station.terms,
+        leases: lease_cells(&station.rt, station.alloc, shards)?,
+        bell: Arc::try_clone(shards.bell())?,
+        load: Arc::try_clone(&station.load)?,
+        asks: 0,
+        bytes: 0,
+    })
+}
+
+// The post of this connection.
+fn new_post<R: Wait + Drop, C: Drop, P: Places>(
+    station: &Station<R, C>,
+    shards: &Arc<Shards<Unheard, P>>,
+    number: u32,
+    outlets: Outlets,
+) -> Result<Post<Unheard, P>, Memory> {
+    Post::new(
+        &station.rt,
+        station.alloc,
+        shards.node().0,
+        station.workers.saturating_add(number),
+        Arc::try_clone(shards)?,
+        Inlets::new(station.alloc),
+        outlets,
+        Unheard,
+    )
+}
+
+impl<
+    R: Wait + Copy + Send + Sync + Drop + 'static,
+    C: Clock + Send + Sync + Drop + 'static,
+    P: Places + Send + Sync + 'static,
+> Desks for GroupDesks<R, C, P> {
+    type Desk = GroupDesk<C, R, P>;
+
+    // The node is that of the connection's number modulo the number of nodes.
+    fn desk(&self, number: u32) -> Result<GroupDesk<C, R, P>, Memory> {
+        let count = self.nodes.len();
+        if count == 0 {
+            return Err(Memory);
+        }
+        let station = &self.station;
+        let shards = &self.nodes[number as usize % count];
+        let outlets = split_all(station.alloc, &mut *self.outlets.lock(&station.rt))?;
+        let post = new_post(station, shards, number, outlets)?;
+        let ringing = new_ringing(station, shards)?;
+        let clock = Arc::try_clone(&station.clock)?;
+        Ok(GroupDesk {
+            rt: station.rt,
+            desk: ClockDesk::new(NodeDesk::new(station.rt, post), clock),
+            ringing,
+        })
+    }
+}

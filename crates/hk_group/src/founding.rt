@@ -1,0 +1,95 @@
+//! The nodes of a group, before anything happened.
+
+ghost use Rattle.std.specs.Prelude.{◌≡◌, ◌≤◌, ◌<◌, map, IfOk};
+ghost use Rattle.hk_base.specs.declared.time.TheConstants.{MAX_TIME};
+ghost use Rattle.hk_worker.specs.Founding.{names_of};
+ghost use Rattle.hk_group.specs.Founding.{AreNamed, IsGroup, counted, first_view};
+
+use crate::completion::Unheard;
+use crate::group::Group;
+use hk_base::{MAX_TIME, Members, Memory, NodeId, View};
+use hk_worker::{Founded, Shards, Tickets};
+use std::alloc::Global;
+use std::marker::Brand;
+use std::sync::{Arc, Wait};
+
+// So many numbers from 0 on.
+fn counted(alloc: Global, nodes: u8) -> Result<Vec<NodeId>, Memory>
+    ensures { IfOk result (λ ids. ids.items ≡ counted 0 nodes) }
+{
+    let mut ids = Vec::new(alloc);
+    for number in 0..nodes {
+        ids.push(NodeId(u16::from(number)))?;
+    }
+    Ok(ids)
+}
+
+/// The first view of a group of so many nodes.
+pub(crate) fn first_view(alloc: Global, nodes: u8) -> Result<View, Memory>
+    ensures { IfOk result (λ view. view ≡ first_view nodes) }
+{
+    let members = counted(alloc, nodes)?;
+    Ok(View {
+        epoch: 1,
+        members: Members::from_vec(members),
+        next: u32::from(nodes),
+    })
+}
+
+// When the first leases end. With no managers they are never over.
+fn first_end(group: &Group) -> u64
+    requires { IsGroup group.now }
+    ensures { result ≤ MAX_TIME }
+{
+    if group.managers == 0 {
+        MAX_TIME
+    } else {
+        group.lease
+    }
+}
+
+// The shards of the node of this number.
+fn found_node<R: Wait>(
+    rt: &R,
+    alloc: Global,
+    view: &View,
+    group: &Group,
+    number: u8,
+    tickets: &Arc<Tickets>,
+) -> Result<Founded, Memory>
+    requires group { IsGroup group.now }
+    requires view { view.now ≡ first_view group.now.nodes }
+    requires number { number < group.now.nodes }
+    ensures { IfOk result (λ founded. founded.node ≡ record { 0 = number }) }
+{
+    Shards::<Unheard, Brand>::founders(
+        rt,
+        alloc,
+        NodeId(u16::from(number)),
+        view,
+        first_end(group),
+        group.skew,
+        group.managers,
+        Arc::try_clone(tickets)?,
+    )
+}
+
+/// The shards of all nodes, node 0 first. So a list of their names, in this order, names each.
+pub(crate) fn found_nodes<R: Wait>(
+    rt: &R,
+    alloc: Global,
+    view: &View,
+    group: &Group,
+) -> Result<Vec<Founded>, Memory>
+    requires group { IsGroup group.now }
+    requires view { view.now ≡ first_view group.now.nodes }
+    ensures { IfOk result (λ nodes. AreNamed (map names_of nodes.items) nodes.items) }
+{
+    let tickets = Arc::new(alloc, Tickets::new())?;
+    let mut nodes = Vec::new(alloc);
+    for number in 0..group.nodes {
+        let node = found_node(rt, alloc, view, group, number, &tickets)?;
+        nodes.push(node)?;
+    }
+    Ok(nodes)
+}
