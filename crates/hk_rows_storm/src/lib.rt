@@ -3,3 +3,7 @@
 
 #[cfg(test)]
 mod assemble;
+#[cfg(test)]
+mod conclude;
+#[cfg(test)]
+mod storm;

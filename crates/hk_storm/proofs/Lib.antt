@@ -6,3 +6,5 @@ mod Comparing
 mod Outcoming
 mod Concluding
 mod Reporting
+mod Founders
+mod Endings

@@ -99,3 +99,11 @@ IsConcluded S.Gap opts groups held held' = HasTold S.Gap opts groups held held'
 IsConcluded S.WriteFault opts groups held held' = HasBegun opts groups held held'
 IsConcluded S.Memory opts groups held held' = Appends held held' []
 IsConcluded status opts groups held held' = ⊥
+
+-- the statuses with which a storm may end
+abbrev pub EndsStorm : Status → Type 0
+EndsStorm S.Done = ⊤
+EndsStorm S.Gap = ⊤
+EndsStorm S.WriteFault = ⊤
+EndsStorm S.Memory = ⊤
+EndsStorm status = ⊥

@@ -5,3 +5,6 @@ pub mod Outcomes
 pub mod Text
 pub mod Concluded
 pub mod Losses
+pub mod Gate
+pub mod Founding
+pub mod Stormed

@@ -6,26 +6,38 @@
 //! The caller owes what [`are_groups`] tests, and the limits of [`StormOpts`].
 #![tactic(auto)]
 
+mod caller;
 mod calls;
 mod compare;
+mod crew;
 mod draw;
 mod ending;
 mod follow;
+mod founding;
+mod gate;
 mod groups;
 mod losses;
 mod opts;
 mod outcomes;
+mod quiet;
 mod report;
+mod running;
+mod seat;
+mod storming;
 mod tally;
 mod text;
+mod wiring;
+mod worker;
 mod written;
 
 pub use calls::StormCall;
 pub use compare::Unlike;
 pub use draw::draw_calls;
 pub use ending::conclude;
+pub use gate::StormGate;
 pub use groups::{StormGroup, StormGroups, are_groups};
 pub use losses::Losses;
 pub use opts::{StormOpts, is_storm};
 pub use outcomes::Outcomes;
 pub use report::Report;
+pub use storming::storm;
