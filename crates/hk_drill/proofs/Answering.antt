@@ -57,7 +57,7 @@ written_told : (text : List ℕ) (stop : Option (ℕ × Stop)) (course : Option 
 written_told text None course = tt
 written_told text (Some stop) course = stop_told stop.1
 
-transcript_told : (bytes : List ℕ) → IsTold (transcript bytes).status
+pub transcript_told : (bytes : List ℕ) → IsTold (transcript bytes).status
 unfolding transcript
 transcript_told bytes = written_told (followed bytes).text (followed bytes).stop (followed bytes).course
 

@@ -1,16 +1,16 @@
 -- A run that is drawn is a run.
-use Rattle.std.proofs.Common.{◌≡◌, ℕ, zero, suc, ◌+◌, ◌-◌, ◌≤◌, List, [], ◌∷◌, ◌++◌, length, Bool, true, false, if◌then◌else◌, nat_lt, ◌==◌, Option, Some, None, Result, Ok, Err, OnOk, take, refl, sym, ap, subst, ◌∙◌, arith, append-nil}
+use Rattle.std.proofs.Common.{◌≡◌, ℕ, zero, suc, ◌≤◌, List, length, Bool, true, false, if◌then◌else◌, nat_lt, ◌==◌, Option, Some, None, Result, Ok, Err, take, refl, sym, ap, subst, ◌∙◌, arith, append-nil}
 use Rattle.std.specs.Io.KnownBytes.{Appends}
 use Rattle.hk_world.specs.declared.event.Event.{Event}
 use Rattle.hk_world.specs.declared.refused.Refused.{Refused}
 use Rattle.hk_world.specs.declared.shown.Shown.{Shown}
-use Rattle.hk_world.specs.Sound.{IsEvent, IsHeader}
+use Rattle.hk_world.specs.Sound.{IsEvent}
 use Rattle.hk_world.specs.Steps.{Accepted, world_step}
 use Rattle.hk_script.specs.Drawn.{GeneratorState, draw, call_drawn, take_drawn, resend_drawn, replay_drawn, kind_drawn, event_drawn, generator_step}
 use Rattle.hk_safety.specs.Run.{RunState, world_of, IsRun, RunsAreLegal}
 use Rattle.hk_safety.specs.Push.{with_event, IsPushed}
 use Rattle.hk_drill.specs.Drilled.{AllLegal}
-use Rattle.hk_drill.specs.Generated.{Counts, Drawing, group_of, first_drawing, with_replies, drawing_with, next_drawn, next_drawing, drawn_on, generated}
+use Rattle.hk_drill.specs.Generated.{Counts, Drawing, first_drawing, with_replies, drawing_with, next_drawn, next_drawing, drawn_on, generated}
 use Rattle.hk_drill.proofs.Runs.{run_more}
 
 -- ---- an event that is drawn may happen

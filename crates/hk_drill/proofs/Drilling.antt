@@ -271,17 +271,17 @@ module _ (E : Type 0) (turn : ℕ) (l l1 l2 : Option (List ℕ)) (g g1 g2 : Opti
           }
 
 -- ---- the end
-status_ends : (stop : Stop) → EndsDrill (status_of stop)
+pub status_ends : (stop : Stop) → EndsDrill (status_of stop)
 status_ends Bad = tt
 status_ends Long = tt
 status_ends Lines = tt
 status_ends Letters = tt
 
-written_ends : (text : List ℕ) (stop : Option (ℕ × Stop)) (course : Option Course) → EndsDrill (written text stop course).status
+pub written_ends : (text : List ℕ) (stop : Option (ℕ × Stop)) (course : Option Course) → EndsDrill (written text stop course).status
 written_ends text None course = tt
 written_ends text (Some stop) course = status_ends stop.1
 
-not_done : (stop : Stop) → status_of stop ≡ Done → ⊥
+pub not_done : (stop : Stop) → status_of stop ≡ Done → ⊥
 not_done Bad e = cc
 not_done Long e = cc
 not_done Lines e = cc

@@ -3,7 +3,7 @@ use Rattle.std.proofs.Common.{◌≡◌, ℕ, ◌+◌, List, [], ◌∷◌, Bool
 use Rattle.hk_world.specs.declared.event.Header.{Header}
 use Rattle.hk_world.specs.Sound.{IsHeader}
 use Rattle.hk_script.specs.Lines.{header_of}
-use Rattle.hk_safety.specs.Run.{IsRun, RunsAreLegal}
+use Rattle.hk_safety.specs.Run.{RunState, IsRun, RunsAreLegal}
 use Rattle.hk_drill.specs.declared.stop.Stop.{Stop}
 use Rattle.hk_drill.specs.Transcript.{Course, Next, Followed, line_at, limit_at, is_skipped, first_course, follow, follow_under, script_from, lines_of, followed}
 use Rattle.hk_drill.specs.Drilled.{AllLegal}
@@ -43,9 +43,13 @@ unfolding script_from
 script_runs [] n = tt
 script_runs (line ∷ lines) n = rw script_from-cons (begins_at n line lines (limit_at n line) (script_runs lines (n + 1)))
 
-course_legal : RunsAreLegal → (course : Option Course) → IfSome course (λ c. IsRun c.run) → IfSome course (λ c. AllLegal c.run)
-course_legal legal None is = tt
-course_legal legal (Some c) is = legal c.run is
+course_has : (P : RunState → Type 0) → ((run : RunState) → IsRun run → P run) → (course : Option Course) → IfSome course (λ c. IsRun c.run) → IfSome course (λ c. P c.run)
+course_has P all None is = tt
+course_has P all (Some c) is = all c.run is
+
+-- what all runs have, the run that was followed has
+pub told_has : (P : RunState → Type 0) → ((run : RunState) → IsRun run → P run) → (input : List ℕ) → IfSome (followed input).course (λ c. P c.run)
+told_has P all input = course_has P all (followed input).course (script_runs (lines_of input) 1)
 
 pub told_legal : RunsAreLegal → (input : List ℕ) → IfSome (followed input).course (λ c. AllLegal c.run)
-told_legal legal input = course_legal legal (followed input).course (script_runs (lines_of input) 1)
+told_legal legal input = told_has AllLegal legal input

@@ -12,3 +12,4 @@ pub mod Turns
 pub mod Answering
 pub mod Drawings
 pub mod Marking
+pub mod Jointly

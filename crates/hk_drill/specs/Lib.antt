@@ -5,3 +5,4 @@ pub mod Progress
 pub mod Drilled
 pub mod Generated
 pub mod Marks
+pub mod Together

@@ -4,7 +4,7 @@ use crate::line::is_skipped;
 use crate::stop::Stop;
 use crate::text::{put_refused, put_shown};
 use hk_base::Memory;
-use hk_safety::LiveRun;
+use hk_joint::NotedRun;
 use hk_script::{LineFault, read_event};
 use hk_world::{Event, Header, Refused, Shown, WorldFault};
 use std::alloc::Global;
@@ -16,7 +16,7 @@ pub const MAX_LETTERS: u64 = 4_000_000;
 /// How far a script has come: the run of the events that were accepted, and how many event lines there were.
 #[derive(Drop)]
 pub(crate) struct Course {
-    pub(crate) run: LiveRun,
+    pub(crate) run: NotedRun,
     pub(crate) count: u64,
 }
 
@@ -35,12 +35,12 @@ impl Course {
     ghost use Rattle.hk_drill.specs.Transcript.{first_course, event_at, read_at};
     ghost use Rattle.hk_drill.specs.Taken.{IsTaken, course_shown};
 
-    /// The course before the first line behind this header.
-    pub(crate) fn new(alloc: Global, header: Header) -> Result<Course, Memory>
+    /// The course before the first line behind this header. If it is `batched`, the batches of its run are noted.
+    pub(crate) fn new(alloc: Global, header: Header, batched: bool) -> Result<Course, Memory>
         requires { IsHeader header }
         ensures { IfOk result (λ course. course ≡ first_course header) }
     {
-        let run = LiveRun::new(alloc, header)?;
+        let run = NotedRun::new(alloc, header, batched)?;
         Ok(Course { run, count: 0 })
     }
 
@@ -49,7 +49,7 @@ impl Course {
         requires { self.old.count + 1 < 2 ^ 64 }
         ensures { IfOk result (λ stop. IsTaken stop self.new text.old.items text.new.items (course_shown self.old shown.now)) }
     {
-        if self.run.world()?.letters() > MAX_LETTERS {
+        if self.run.live().world()?.letters() > MAX_LETTERS {
             return Ok(Some(Stop::Letters));
         }
         self.count += 1;
@@ -78,7 +78,7 @@ impl Course {
         requires room { self.old.count + 1 < 2 ^ 64 }
         ensures { IfOk result (λ stop. IsTaken stop self.new text.old.items text.new.items (event_at self.old (Some event))) }
     {
-        let event = self.run.shared(event)?;
+        let event = self.run.live().shared(event)?;
         match self.run.push(alloc, &event) {
             Ok(shown) => self.show(&shown, text),
             Err(WorldFault::Refused(refused)) => {

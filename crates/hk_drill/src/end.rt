@@ -85,15 +85,15 @@ fn write_keys<K: Sink>(alloc: Global, sink: &mut K, run: &LiveRun) -> Result<(),
     Ok(())
 }
 
-// Writes the line with the numbers of events, calls and letters.
+/// Writes the line with the numbers of events, calls and letters.
 #[tactic(auto, unfolding(crate::specs::Transcript::counts_text), using(crate::proofs::Telling::front_nothing))]
-fn write_end<K: Sink>(alloc: Global, sink: &mut K, course: &Course) -> Result<(), Fault>
+pub(crate) fn write_end<K: Sink>(alloc: Global, sink: &mut K, course: &Course) -> Result<(), Fault>
     ensures all { OnOk result (Appends (K.held sink.old) (K.held sink.new) (counts_text course.now)) }
     ensures front { HasFront (K.held sink.old) (K.held sink.new) (counts_text course.now) }
     ensures later { K.faults sink.old ≤ K.faults sink.new }
     ensures failed { IfErr result (IsSinkFault (K.faults sink.old) (K.faults sink.new)) }
 {
-    let world = course.run.world()?;
+    let world = course.run.live().world()?;
     let mut text = Vec::new(alloc);
     put_end(&mut text, course.count, world.calls(), world.letters())?;
     write_text(sink, text.as_slice())
@@ -107,7 +107,7 @@ fn write_course<K: Sink>(alloc: Global, sink: &mut K, course: &Course) -> Result
     ensures later { K.faults sink.old ≤ K.faults sink.new }
     ensures failed { IfErr result (IsSinkFault (K.faults sink.old) (K.faults sink.new)) }
 {
-    write_keys(alloc, sink, &course.run)?;
+    write_keys(alloc, sink, course.run.live())?;
     write_end(alloc, sink, course)
 }
 

@@ -4,6 +4,8 @@
 //! begin with `#` say nothing. It is followed as far as it is in the grammar and within the limits: each event is made by the world of
 //! the group, or refused. The transcript tells what each event showed, and for each key that a call named the history of its calls and
 //! one order of them. That this order is legal is proved for every script, and stands in the contract of `drill`.
+//!
+//! `joint` follows a script in the same way, and writes at its end one order of the calls on all keys, and its batches.
 #![tactic(auto)]
 
 mod course;
@@ -14,6 +16,7 @@ mod line;
 mod script;
 mod stop;
 mod text;
+mod together;
 mod top;
 
 pub use course::MAX_LETTERS;
@@ -21,4 +24,5 @@ pub use generate::generate as generate_run;
 pub use line::{MAX_LINE_LEN, MAX_LINES};
 pub use stop::Stop;
 pub use text::put_answer;
+pub use together::joint;
 pub use top::drill;

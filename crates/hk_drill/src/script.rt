@@ -24,10 +24,17 @@ pub(crate) struct Script {
     pub(crate) course: Option<Course>,
     /// What the lines told and is not written yet.
     pub(crate) text: Vec<u8>,
+    /// Whether the batches of its run are noted.
+    batched: bool,
 }
 
 // Takes a line before the header: it says nothing, or it is the header.
-fn begin(alloc: Global, line: &[u8], course: &mut Option<Course>) -> Result<Option<Stop>, Memory>
+fn begin(
+    alloc: Global,
+    line: &[u8],
+    batched: bool,
+    course: &mut Option<Course>,
+) -> Result<Option<Stop>, Memory>
     requires { course.old ≡ None }
     ensures { IfOk result (λ stop. IsBegun stop course.new (begun_by line.now)) }
 {
@@ -37,7 +44,7 @@ fn begin(alloc: Global, line: &[u8], course: &mut Option<Course>) -> Result<Opti
     let Ok(header) = read_header(line) else {
         return Ok(Some(Stop::Bad));
     };
-    *course = Some(Course::new(alloc, header)?);
+    *course = Some(Course::new(alloc, header, batched)?);
     Ok(None)
 }
 
@@ -46,6 +53,7 @@ fn pass_line(
     alloc: Global,
     number: u64,
     line: &[u8],
+    batched: bool,
     course: &mut Option<Course>,
     text: &mut Vec<u8>,
 ) -> Result<Option<Stop>, Memory>
@@ -59,12 +67,12 @@ fn pass_line(
     if let Some(course) = course {
         return course.take_line(alloc, line, text);
     }
-    begin(alloc, line, course)
+    begin(alloc, line, batched, course)
 }
 
 impl Script {
-    /// A script of which nothing has come.
-    pub(crate) fn new(alloc: Global) -> Script
+    /// A script of which nothing has come. If it is `batched`, the batches of its run are noted.
+    pub(crate) fn new(alloc: Global, batched: bool) -> Script
         ensures at { IsAt [] [] result.number result.line.items result.course }
         ensures counted { IsCounted result.number result.course }
         ensures text { result.text.items ≡ [] }
@@ -74,6 +82,7 @@ impl Script {
             line: Vec::new(alloc),
             course: None,
             text: Vec::new(alloc),
+            batched,
         }
     }
 
@@ -85,7 +94,14 @@ impl Script {
         ensures counted { IfOk result (λ stop. stop ≡ None → IsCounted self.new.number self.new.course) }
         ensures line { self.new.line ≡ self.old.line }
     {
-        let stop = pass_line(alloc, self.number, line, &mut self.course, &mut self.text)?;
+        let stop = pass_line(
+            alloc,
+            self.number,
+            line,
+            self.batched,
+            &mut self.course,
+            &mut self.text,
+        )?;
         if stop.is_none() {
             self.number += 1;
         }

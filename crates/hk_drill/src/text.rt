@@ -1,6 +1,7 @@
 //! The text of what a run shows: `specs/Text.antt` says how each thing is written.
 
 mod answers;
+mod joined;
 mod keys;
 mod letters;
 mod parts;
@@ -14,6 +15,7 @@ use answers::put_refusal;
 use hk_base::{CallNo, Memory, NodeId, Reply, View};
 use hk_script::{put_number, put_text};
 use hk_world::{Refused, Shown};
+pub(crate) use joined::put_joined;
 pub(crate) use keys::put_key;
 use letters::put_letters;
 use views::put_view;

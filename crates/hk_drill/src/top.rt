@@ -16,8 +16,8 @@ use std::alloc::Global;
 /// How many bytes of a script are read at once.
 const PIECE_LEN: usize = 4096;
 
-// Follows a script to its end, or to the line at which it stops. What a piece tells is written before the next is read.
-fn follow<S: Source, K: Sink>(
+/// Follows a script to its end, or to the line at which it stops. What a piece tells is written before the next is read.
+pub(crate) fn follow<S: Source, K: Sink>(
     alloc: Global,
     source: &mut S,
     sink: &mut K,
@@ -68,7 +68,7 @@ fn drill_to_end<S: Source, K: Sink>(
     ensures writes_later { K.faults sink.old ≤ K.faults sink.new }
 {
     runs_are_legal();
-    let mut script = Script::new(alloc);
+    let mut script = Script::new(alloc, false);
     match follow(alloc, source, sink, &mut script)? {
         None => finish(alloc, sink, &mut script),
         Some(stop) => write_stop(alloc, sink, script.number, stop),

@@ -15,5 +15,6 @@ pub mod Segments
 pub mod Together
 pub mod Legality
 pub mod OneByOne
+pub mod Notes
 pub mod ByEvent
 pub mod Standings

@@ -1,5 +1,5 @@
 -- Lists whose elements stand by their events.
-use Rattle.std.proofs.Common.{◌≡◌, ◌⊎◌, ℕ, zero, suc, Bool, true, false, cond, ◌+◌, ◌||◌, not, List, [], ◌∷◌, ◌++◌, map, length, ◌<◌, ◌≤◌, ◌∙◌, sym, refl, ap, ap₂, subst, inl, inr, ⊎_elim, arith, eqb}
+use Rattle.std.proofs.Common.{◌≡◌, ◌⊎◌, ℕ, zero, suc, Bool, true, false, cond, ◌+◌, ◌||◌, not, List, [], ◌∷◌, ◌++◌, map, ◌<◌, ◌≤◌, ◌∙◌, sym, refl, ap, ap₂, subst, inl, inr, ⊎_elim, arith, eqb}
 use Rattle.std.specs.Prelude.{⊤}
 use Rattle.std.specs.List.{filter, flat_map, list_any, position_or_len, range_with_len}
 use Rattle.std.proofs.lemmas.Bool.{false≢true, eqb-true, eqb-false, ne_eqb}

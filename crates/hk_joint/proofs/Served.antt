@@ -1,5 +1,5 @@
 -- What is complete when a call is served: a change is begun above it all, and a call that changes nothing finds no less.
-use Rattle.std.proofs.Common.{append_assoc, ◌≡◌, ℕ, List, [], ◌∷◌, ◌++◌, ◌<◌, ◌≤◌, ◌∙◌, sym, refl, ap, subst, inl, inr, ⊎_elim, arith, Some, None}
+use Rattle.std.proofs.Common.{append_assoc, ◌≡◌, ℕ, List, [], ◌++◌, ◌<◌, ◌≤◌, ◌∙◌, sym, ap, subst, inl, inr, ⊎_elim, arith, Some, None}
 use Rattle.std.specs.Prelude.{⊤}
 use Rattle.hk_base.specs.declared.call.Answer.{Answer}
 use Rattle.hk_base.specs.declared.call.Reply.{Reply}

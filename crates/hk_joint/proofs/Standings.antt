@@ -1,6 +1,5 @@
 -- The printed orders of keys with their events, as standings have them.
-use Rattle.std.proofs.Common.{◌≡◌, ℕ, zero, suc, Bool, cond, arith, List, [], ◌∷◌, map, flat_map, ◌∙◌, sym, refl, ap, ap₂}
-use Rattle.hk_history.specs.declared.event.Entry.{Entry}
+use Rattle.std.proofs.Common.{◌≡◌, ℕ, zero, suc, Bool, cond, arith, List, [], ◌∷◌, map, flat_map, sym, refl, ap, ap₂}
 use Rattle.hk_register.specs.Printed.{Slot, entry_of, entries, tag_at}
 use Rattle.hk_safety.specs.declared.placed.Placed.{Placed}
 use Rattle.hk_safety.specs.Run.{RunState, named}

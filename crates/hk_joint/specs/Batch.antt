@@ -84,6 +84,10 @@ abbrev pub noted_all : BatchingState → List (Option Reading) → BatchingState
 noted_all s [] = s
 noted_all s (reading ∷ rest) = noted_all (noted s reading) rest
 
+-- the events of a run, noted one by one
+abbrev pub noted_run : RunState → BatchingState
+noted_run run = noted_all no_batch (readings_from (start run.header) run.events)
+
 -- Noting each event of a run gives the calls of its batches.
 abbrev pub BatchesAreFound : Type 0
-BatchesAreFound = (run : RunState) → ended (noted_all no_batch (readings_from (start run.header) run.events)) ≡ map calls_of (batches run)
+BatchesAreFound = (run : RunState) → ended (noted_run run) ≡ map calls_of (batches run)

@@ -6,6 +6,7 @@
 
 mod batch;
 mod laws;
+mod noted;
 mod order;
 mod placing;
 mod worked;
@@ -15,6 +16,7 @@ pub use laws::{
     batches_are_found, joint_orders_are_legal, keys_keep_their_order, moments_are_first,
     moments_follow_completions, placed_are_joint,
 };
+pub use noted::NotedRun;
 pub use order::{JointEntries, joint_order, live_joint_order};
 pub use placing::sort_by_event;
 pub use worked::worked_runs;

@@ -45,7 +45,7 @@ fn put_entry(out: &mut Vec<u8>, entry: &Entry) -> Result<(), Memory>
     put_tag(out, entry.tag)
 }
 
-fn put_order(out: &mut Vec<u8>, order: &[Entry]) -> Result<(), Memory>
+pub(super) fn put_order(out: &mut Vec<u8>, order: &[Entry]) -> Result<(), Memory>
     ensures { OnOk result (out.new.items ≡ out.old.items ++ order_text order.now) }
 {
     for entry in order {

@@ -1,11 +1,6 @@
-use Rattle.std.proofs.Common.{rules, ◌≡◌, ◌++◌, List, ℕ, map, sym, ap, ◌∙◌}
-use Rattle.std.specs.Result.{OnOk}
-use Rattle.hk_history.specs.declared.event.Entry.{Entry}
-use Rattle.hk_safety.specs.declared.marked.Mark.{Mark}
-use Rattle.hk_safety.specs.Marks.{mark_of}
+use Rattle.std.proofs.Common.{rules, ◌≡◌}
 use Rattle.hk_safety.specs.Run.{history, printed}
-use Rattle.hk_drill.specs.Marks.{marked_text}
-use Rattle.hk_drill.proofs.Marking.{marked_key, told_key_of}
+use Rattle.hk_drill.proofs.Marking.{told_key_of}
 use Rattle.hk_drill.proofs.end.put_key_of.Goals as goal
 
 pub returns : goal.returns

@@ -1,4 +1,4 @@
-use Rattle.std.proofs.Common.{rules, ◌≡◌, map, subst, ◌∙◌, ap, sym, List}
+use Rattle.std.proofs.Common.{map, subst, ◌∙◌, ap, List}
 use Rattle.hk_safety.specs.declared.placed.Placed.{Placed}
 use Rattle.hk_safety.proofs.Asked.{answer_is}
 use Rattle.hk_joint.specs.Joint.{joint_order, entries_of}

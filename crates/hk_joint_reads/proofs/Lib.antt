@@ -1,0 +1,4 @@
+pub mod Loading
+pub mod Rounds
+pub mod Latest
+pub mod Still
