@@ -33,6 +33,7 @@ fn put_numbers(out: &mut Vec<u8>, name: &[u8], numbers: &[u64]) -> Result<(), Me
 pub fn tell(alloc: Global, bytes: &[u8], out: &mut Vec<u8>) -> Result<(), Memory> {
     match read_command(words(alloc, bytes)?.as_slice()) {
         Some(Command::Drill) => put(out, b"drill"),
+        Some(Command::Joint) => put(out, b"joint"),
         Some(
             Command::Generate {
                 start,
@@ -46,18 +47,31 @@ pub fn tell(alloc: Global, bytes: &[u8], out: &mut Vec<u8>) -> Result<(), Memory
                 &[start, u64::from(count), u64::from(nodes)],
             )
         }
-        Some(
-            Command::Serve {
-                lease,
-                skew,
-                port,
-                conns,
-            },
-        ) => {
+        Some(Command::Storm(opts)) => {
+            put_numbers(
+                out,
+                b"storm",
+                &[
+                    opts.start,
+                    u64::from(opts.calls),
+                    u64::from(opts.nodes),
+                    u64::from(opts.workers),
+                ],
+            )
+        }
+        Some(Command::Serve(group)) => {
             put_numbers(
                 out,
                 b"serve",
-                &[lease, skew, u64::from(port), u64::from(conns)],
+                &[
+                    u64::from(group.nodes),
+                    u64::from(group.workers),
+                    u64::from(group.managers),
+                    group.lease,
+                    group.skew,
+                    u64::from(group.port),
+                    u64::from(group.conns),
+                ],
             )
         }
         Some(Command::Watch { writes }) => put_numbers(out, b"watch", &[u64::from(writes)]),

@@ -1,8 +1,9 @@
 //! The program: it makes the real objects of the outside, makes the one call, and ends with its status.
 #![tactic(auto)]
 
+use hk_accept::LooseSpawner;
 use hk_cli::hermes;
-use hk_outside::{NoSpawner, ReaderSource, SteadyClock, TcpDoors, WriterSink};
+use hk_outside::{ReaderSource, SteadyClock, TcpDoors, WriterSink};
 use std::process::ExitCode;
 use std::sync::Arc;
 use std::{env, io};
@@ -33,7 +34,7 @@ fn main(rt: HostRuntime) -> io::Result<ExitCode> {
     let mut sink = WriterSink::new(io::writer(&rt));
     let clock = Arc::new(alloc, SteadyClock::new(rt))?;
     let mut doors = TcpDoors::new(rt);
-    let mut spawner: NoSpawner<HostRuntime> = NoSpawner::new();
+    let mut spawner = LooseSpawner::new(rt);
     let status = hermes(
         rt,
         alloc,

@@ -3,10 +3,12 @@ use Rattle.std.proofs.Common.{◌≡◌, ℕ, ◌<◌, ◌≤◌, ◌^◌, List,
 use Rattle.std.specs.List.{AllByRecursion}
 use Rattle.std.proofs.lemmas.Bool.Decides.{nat_tests}
 use Rattle.hk_base.specs.declared.time.TheConstants.{MAX_TIME}
+use Rattle.hk_storm.specs.declared.opts.StormOpts.{StormOpts}
+use Rattle.hk_group.specs.declared.group.Group.{Group}
 use Rattle.hk_cli.specs.declared.words.Command.{Command}
-use Rattle.hk_cli.specs.declared.words.Command.TheVariants.{Drill, Generate, Serve, Watch}
-use Rattle.hk_cli.specs.Words.{Given, option, IsGenerate, IsServe, IsWatch, IsCommand, IsCommandRead, WordsTellCommands}
-use Rattle.hk_cli.specs.Options.{option_count, option_is, value_of, ranged, generate_of, serve_of, watch_of, alone, command_of}
+use Rattle.hk_cli.specs.declared.words.Command.TheVariants.{Drill, Joint, Generate, Storm, Serve, Watch}
+use Rattle.hk_cli.specs.Words.{Given, option, IsGenerate, IsStorm, IsServe, IsWatch, IsCommand, IsCommandRead, WordsTellCommands}
+use Rattle.hk_cli.specs.Options.{option_count, option_is, value_of, ranged, generate_of, storm_of, serve_of, watch_of, alone, command_of, group_of}
 use Rattle.hk_script.specs.Parts.{is_text}
 use Rattle.hk_script.proofs.Choices.{chosen, held, bind_some, some_same, no_some, text_is}
 use Rattle.hk_cli.proofs.Orders.{AreApart, IsNamed, first_of, order_all, order_found, order_length, found_order, are_read, are_again}
@@ -100,13 +102,78 @@ generate_again s c n words is =
     let d = ap (ranged 1 16) (again.values (codes "nodes") ∙ found.1.1.0) ∙ ranged_again 1 16 n is.some_nodes is.few_nodes in
     rw three (rw (a, b, d) refl)
 
--- ---- serve
-abbrev asked : ℕ → ℕ → ℕ → ℕ → List Given
-asked l e p c = option (codes "nodes") 1 ∷ option (codes "workers") 1 ∷ option (codes "managers") 0 ∷ option (codes "lease") l ∷ option (codes "skew") e ∷ option (codes "port") p
-    ∷ option (codes "conns") c ∷ []
+-- ---- storm
+abbrev stormed : ℕ → ℕ → ℕ → ℕ → List Given
+stormed s n w c = option (codes "start") s ∷ option (codes "nodes") n ∷ option (codes "workers") w ∷ option (codes "calls") c ∷ []
 
-asked_apart : (l e p c : ℕ) → AreApart (asked l e p c)
-asked_apart l e p c = (
+stormed_apart : (s n w c : ℕ) → AreApart (stormed s n w c)
+stormed_apart s n w c = (((refl, refl), ((refl, refl), ((refl, refl), tt))), (((refl, refl), ((refl, refl), tt)), (((refl, refl), tt), (tt, tt))))
+
+stormed_named : (s n w c : ℕ) → s < 2 ^ 64 → n < 2 ^ 64 → w < 2 ^ 64 → c < 2 ^ 64 → AllByRecursion IsNamed (stormed s n w c)
+stormed_named s n w c a b d e = ((refl, a), ((refl, b), ((refl, d), ((refl, e), tt))))
+
+storm_takes : (words : List (List ℕ)) (command : Command) → storm_of words ≡ Some command → IsCommand command (codes "storm" ∷ words)
+unfolding storm_of
+storm_takes words command e =
+    let k = length words in
+    let four = held (option_is 4 (option_count k words)) _ command e in
+    let s = bind_some (value_of (codes "start") k words) _ command four.1 in
+    let n = bind_some (ranged 1 8 (value_of (codes "nodes") k words)) _ command s.2 in
+    let w = bind_some (ranged 1 8 (value_of (codes "workers") k words)) _ command n.2 in
+    let c = bind_some (ranged 1 20000 (value_of (codes "calls") k words)) _ command w.2 in
+    let is : Storm (record { start = s.0; nodes = n.0; workers = w.0; calls = c.0 }) ≡ command = some_same _ command c.2 in
+    let read = are_read k words 4 (counted (option_count k words) 4 four.0) in
+    let ns = ranged_takes 1 8 _ n.0 n.1 in
+    let ws = ranged_takes 1 8 _ w.0 w.1 in
+    let cs = ranged_takes 1 20000 _ c.0 c.1 in
+    let at : (name : List ℕ) (v : ℕ) → value_of name k words ≡ Some v → first_of name read.given ≡ Some v = λ name v h. sym (read.values name) ∙ h in
+    let a = at (codes "start") s.0 s.1 in
+    let order = found_order (stormed s.0 n.0 w.0 c.0) read.given (stormed_apart s.0 n.0 w.0 c.0) read.many (
+      a,
+      (at (codes "nodes") n.0 ns.0, (at (codes "workers") w.0 ws.0, (at (codes "calls") c.0 cs.0, tt))),
+    ) in
+    subst (λ (o : Command). IsCommand o (codes "storm" ∷ words)) is (
+      words,
+      refl,
+      record {
+        start_fits = small_of (codes "start") read.given s.0 read.small a;
+        some_nodes = ns.1;
+        few_nodes = ns.2;
+        some_workers = ws.1;
+        few_workers = ws.2;
+        some_calls = cs.1;
+        few_calls = cs.2;
+        options = (read.given, order, read.are);
+      },
+    )
+
+storm_again : (opts : StormOpts) (words : List (List ℕ)) → IsStorm opts words → storm_of words ≡ Some (Storm opts)
+unfolding storm_of
+storm_again opts words is =
+    let listed = stormed opts.start opts.nodes opts.workers opts.calls in
+    let order = is.options.1 in
+    let ns = is.few_nodes in
+    let ws = is.few_workers in
+    let cs = is.few_calls in
+    let apart = stormed_apart opts.start opts.nodes opts.workers opts.calls in
+    let names = stormed_named opts.start opts.nodes opts.workers opts.calls is.start_fits (omega (arith, ns)) (omega (arith, ws)) (omega (arith, cs)) in
+    let all = order_all IsNamed listed is.options.0 order names in
+    let again = are_again (length words) is.options.0 words (omega arith) all is.options.2 in
+    let found = order_found listed is.options.0 apart order in
+    let four : option_is 4 (option_count (length words) words) ≡ true = ap (option_is 4) (again.counted ∙ ap (λ k. Some k) (order_length listed is.options.0 order)) in
+    let start = again.values (codes "start") ∙ found.0 in
+    let nodes = ap (ranged 1 8) (again.values (codes "nodes") ∙ found.1.0) ∙ ranged_again 1 8 opts.nodes is.some_nodes ns in
+    let workers = ap (ranged 1 8) (again.values (codes "workers") ∙ found.1.1.0) ∙ ranged_again 1 8 opts.workers is.some_workers ws in
+    let calls = ap (ranged 1 20000) (again.values (codes "calls") ∙ found.1.1.1.0) ∙ ranged_again 1 20000 opts.calls is.some_calls cs in
+    rw four (rw (start, nodes, workers, calls) refl)
+
+-- ---- serve
+abbrev asked : Group → List Given
+asked g = option (codes "nodes") g.nodes ∷ option (codes "workers") g.workers ∷ option (codes "managers") g.managers ∷ option (codes "lease") g.lease ∷ option (codes "skew") g.skew
+    ∷ option (codes "port") g.port ∷ option (codes "conns") g.conns ∷ []
+
+asked_apart : (g : Group) → AreApart (asked g)
+asked_apart g = (
   ((refl, refl), ((refl, refl), ((refl, refl), ((refl, refl), ((refl, refl), ((refl, refl), tt)))))),
   (
     ((refl, refl), ((refl, refl), ((refl, refl), ((refl, refl), ((refl, refl), tt))))),
@@ -117,40 +184,48 @@ asked_apart l e p c = (
   ),
 )
 
-asked_named : (l e p c : ℕ) → l < 2 ^ 64 → e < 2 ^ 64 → p < 2 ^ 64 → c < 2 ^ 64 → AllByRecursion IsNamed (asked l e p c)
-asked_named l e p c ls es ps cs = ((refl, omega arith), ((refl, omega arith), ((refl, omega arith), ((refl, ls), ((refl, es), ((refl, ps), ((refl, cs), tt)))))))
+asked_named : (g : Group) (words : List (List ℕ)) → IsServe g words → AllByRecursion IsNamed (asked g)
+asked_named g words is =
+    let n = is.few_nodes in
+    let w = is.few_workers in
+    let m = is.few_managers in
+    let l = is.lease_fits in
+    let e = is.skew_fits in
+    let p = is.port_fits in
+    let c = is.few_conns in (
+      (refl, omega (arith, n)),
+      ((refl, omega (arith, w)), ((refl, omega (arith, m)), ((refl, omega (arith, l)), ((refl, omega (arith, e)), ((refl, omega (arith, p)), ((refl, omega (arith, c)), tt)))))),
+    )
 
 serve_takes : (words : List (List ℕ)) (command : Command) → serve_of words ≡ Some command → IsCommand command (codes "serve" ∷ words)
 unfolding serve_of
 serve_takes words command e =
     let k = length words in
     let seven = held (option_is 7 (option_count k words)) _ command e in
-    let n = bind_some (ranged 1 1 (value_of (codes "nodes") k words)) _ command seven.1 in
-    let w = bind_some (ranged 1 1 (value_of (codes "workers") k words)) _ command n.2 in
-    let m = bind_some (ranged 0 0 (value_of (codes "managers") k words)) _ command w.2 in
+    let n = bind_some (ranged 1 16 (value_of (codes "nodes") k words)) _ command seven.1 in
+    let w = bind_some (ranged 1 8 (value_of (codes "workers") k words)) _ command n.2 in
+    let m = bind_some (ranged 0 9 (value_of (codes "managers") k words)) _ command w.2 in
     let l = bind_some (ranged 0 MAX_TIME (value_of (codes "lease") k words)) _ command m.2 in
     let s = bind_some (ranged 0 MAX_TIME (value_of (codes "skew") k words)) _ command l.2 in
     let p = bind_some (ranged 1 65535 (value_of (codes "port") k words)) _ command s.2 in
     let c = bind_some (ranged 1 1000000 (value_of (codes "conns") k words)) _ command p.2 in
-    let is : Serve l.0 s.0 p.0 c.0 ≡ command = some_same _ command c.2 in
+    let g : Group = group_of n.0 w.0 m.0 l.0 s.0 p.0 c.0 in
+    let is : Serve g ≡ command = some_same _ command c.2 in
     let read = are_read k words 7 (counted (option_count k words) 7 seven.0) in
-    let ns = ranged_takes 1 1 _ n.0 n.1 in
-    let ws = ranged_takes 1 1 _ w.0 w.1 in
-    let ms = ranged_takes 0 0 _ m.0 m.1 in
+    let ns = ranged_takes 1 16 _ n.0 n.1 in
+    let ws = ranged_takes 1 8 _ w.0 w.1 in
+    let ms = ranged_takes 0 9 _ m.0 m.1 in
     let ls = ranged_takes 0 MAX_TIME _ l.0 l.1 in
     let ss = ranged_takes 0 MAX_TIME _ s.0 s.1 in
     let ps = ranged_takes 1 65535 _ p.0 p.1 in
     let cs = ranged_takes 1 1000000 _ c.0 c.1 in
-    let one : n.0 ≡ 1 = omega (arith, ns.1, ns.2) in
-    let single : w.0 ≡ 1 = omega (arith, ws.1, ws.2) in
-    let none : m.0 ≡ 0 = omega (arith, ms.2) in
     let at : (name : List ℕ) (v : ℕ) → value_of name k words ≡ Some v → first_of name read.given ≡ Some v = λ name v h. sym (read.values name) ∙ h in
-    let order = found_order (asked l.0 s.0 p.0 c.0) read.given (asked_apart l.0 s.0 p.0 c.0) read.many (
-      at (codes "nodes") 1 (ns.0 ∙ ap (λ x. Some x) one),
+    let order = found_order (asked g) read.given (asked_apart g) read.many (
+      at (codes "nodes") n.0 ns.0,
       (
-        at (codes "workers") 1 (ws.0 ∙ ap (λ x. Some x) single),
+        at (codes "workers") w.0 ws.0,
         (
-          at (codes "managers") 0 (ms.0 ∙ ap (λ x. Some x) none),
+          at (codes "managers") m.0 ms.0,
           (
             at (codes "lease") l.0 ls.0,
             (
@@ -168,6 +243,11 @@ serve_takes words command e =
       words,
       refl,
       record {
+        some_nodes = ns.1;
+        few_nodes = ns.2;
+        some_workers = ws.1;
+        few_workers = ws.2;
+        few_managers = ms.2;
         lease_fits = ls.2;
         skew_fits = ss.2;
         some_port = ps.1;
@@ -178,25 +258,21 @@ serve_takes words command e =
       },
     )
 
-serve_again : (l e p c : ℕ) (words : List (List ℕ)) → IsServe l e p c words → serve_of words ≡ Some (Serve l e p c)
+serve_again : (g : Group) (words : List (List ℕ)) → IsServe g words → serve_of words ≡ Some (Serve g)
 unfolding serve_of
-serve_again l e p c words is =
+serve_again g words is =
     let order = is.options.1 in
-    let ls = is.lease_fits in
-    let es = is.skew_fits in
-    let ps = is.port_fits in
-    let cs = is.few_conns in
-    let all = order_all IsNamed (asked l e p c) is.options.0 order (asked_named l e p c (omega (arith, ls)) (omega (arith, es)) (omega (arith, ps)) (omega (arith, cs))) in
+    let all = order_all IsNamed (asked g) is.options.0 order (asked_named g words is) in
     let again = are_again (length words) is.options.0 words (omega arith) all is.options.2 in
-    let found = order_found (asked l e p c) is.options.0 (asked_apart l e p c) order in
-    let seven : option_is 7 (option_count (length words) words) ≡ true = ap (option_is 7) (again.counted ∙ ap (λ k. Some k) (order_length (asked l e p c) is.options.0 order)) in
-    let nodes = ap (ranged 1 1) (again.values (codes "nodes") ∙ found.0) ∙ ranged_again 1 1 1 (omega arith) (omega arith) in
-    let workers = ap (ranged 1 1) (again.values (codes "workers") ∙ found.1.0) ∙ ranged_again 1 1 1 (omega arith) (omega arith) in
-    let managers = ap (ranged 0 0) (again.values (codes "managers") ∙ found.1.1.0) ∙ ranged_again 0 0 0 (omega arith) (omega arith) in
-    let lease = ap (ranged 0 MAX_TIME) (again.values (codes "lease") ∙ found.1.1.1.0) ∙ ranged_again 0 MAX_TIME l (omega arith) ls in
-    let skew = ap (ranged 0 MAX_TIME) (again.values (codes "skew") ∙ found.1.1.1.1.0) ∙ ranged_again 0 MAX_TIME e (omega arith) es in
-    let port = ap (ranged 1 65535) (again.values (codes "port") ∙ found.1.1.1.1.1.0) ∙ ranged_again 1 65535 p is.some_port ps in
-    let conns = ap (ranged 1 1000000) (again.values (codes "conns") ∙ found.1.1.1.1.1.1.0) ∙ ranged_again 1 1000000 c is.some_conns cs in
+    let found = order_found (asked g) is.options.0 (asked_apart g) order in
+    let seven : option_is 7 (option_count (length words) words) ≡ true = ap (option_is 7) (again.counted ∙ ap (λ k. Some k) (order_length (asked g) is.options.0 order)) in
+    let nodes = ap (ranged 1 16) (again.values (codes "nodes") ∙ found.0) ∙ ranged_again 1 16 g.nodes is.some_nodes is.few_nodes in
+    let workers = ap (ranged 1 8) (again.values (codes "workers") ∙ found.1.0) ∙ ranged_again 1 8 g.workers is.some_workers is.few_workers in
+    let managers = ap (ranged 0 9) (again.values (codes "managers") ∙ found.1.1.0) ∙ ranged_again 0 9 g.managers (omega arith) is.few_managers in
+    let lease = ap (ranged 0 MAX_TIME) (again.values (codes "lease") ∙ found.1.1.1.0) ∙ ranged_again 0 MAX_TIME g.lease (omega arith) is.lease_fits in
+    let skew = ap (ranged 0 MAX_TIME) (again.values (codes "skew") ∙ found.1.1.1.1.0) ∙ ranged_again 0 MAX_TIME g.skew (omega arith) is.skew_fits in
+    let port = ap (ranged 1 65535) (again.values (codes "port") ∙ found.1.1.1.1.1.0) ∙ ranged_again 1 65535 g.port is.some_port is.port_fits in
+    let conns = ap (ranged 1 1000000) (again.values (codes "conns") ∙ found.1.1.1.1.1.1.0) ∙ ranged_again 1 1000000 g.conns is.some_conns is.few_conns in
     rw seven (rw (nodes, workers, managers, lease, skew, port, conns) refl)
 
 -- ---- watch
@@ -243,9 +319,9 @@ watch_again w words is =
     rw one (rw writes refl)
 
 -- ---- all commands
-alone_takes : (words : List (List ℕ)) (command : Command) → alone words ≡ Some command → (words ≡ []) × (Drill ≡ command)
-alone_takes [] command e = (refl, some_same Drill command e)
-alone_takes (word ∷ words) command e = absurd (no_some command e)
+alone_takes : (name : Command) (words : List (List ℕ)) (command : Command) → alone name words ≡ Some command → (words ≡ []) × (name ≡ command)
+alone_takes name [] command e = (refl, some_same name command e)
+alone_takes name (word ∷ words) command e = absurd (no_some command e)
 
 pub command_takes : (words : List (List ℕ)) (command : Command) → command_of words ≡ Some command → IsCommand command words
 unfolding command_of
@@ -253,17 +329,28 @@ command_takes [] command e = absurd (no_some command e)
 command_takes (name ∷ words) command e = elim (chosen (is_text name (codes "drill")) _ _ (Some command) e) [
   | inl drill ↦
       let name_is = text_is name (codes "drill") drill.0 in
-      let rest = alone_takes words command drill.1 in
+      let rest = alone_takes Drill words command drill.1 in
       subst (λ (k : Command). IsCommand k (name ∷ words)) rest.1 (rw (name_is, rest.0) refl)
-  | inr other ↦
-      elim (chosen (is_text name (codes "generate")) _ _ (Some command) other.1) [
-        | inl g ↦ subst (λ (w : List ℕ). IsCommand command (w ∷ words)) (sym (text_is name (codes "generate") g.0)) (generate_takes words command g.1)
-        | inr last ↦
-            elim (chosen (is_text name (codes "serve")) _ _ (Some command) last.1) [
-              | inl s ↦ subst (λ (w : List ℕ). IsCommand command (w ∷ words)) (sym (text_is name (codes "serve") s.0)) (serve_takes words command s.1)
-              | inr more ↦
-                  let v = held (is_text name (codes "watch")) (watch_of words) command more.1 in
-                  subst (λ (w : List ℕ). IsCommand command (w ∷ words)) (sym (text_is name (codes "watch") v.0)) (watch_takes words command v.1)
+  | inr behind ↦
+      elim (chosen (is_text name (codes "joint")) _ _ (Some command) behind.1) [
+        | inl joint ↦
+            let name_is = text_is name (codes "joint") joint.0 in
+            let rest = alone_takes Joint words command joint.1 in
+            subst (λ (k : Command). IsCommand k (name ∷ words)) rest.1 (rw (name_is, rest.0) refl)
+        | inr other ↦
+            elim (chosen (is_text name (codes "generate")) _ _ (Some command) other.1) [
+              | inl g ↦ subst (λ (w : List ℕ). IsCommand command (w ∷ words)) (sym (text_is name (codes "generate") g.0)) (generate_takes words command g.1)
+              | inr last ↦
+                  elim (chosen (is_text name (codes "storm")) _ _ (Some command) last.1) [
+                    | inl t ↦ subst (λ (w : List ℕ). IsCommand command (w ∷ words)) (sym (text_is name (codes "storm") t.0)) (storm_takes words command t.1)
+                    | inr lone ↦
+                        elim (chosen (is_text name (codes "serve")) _ _ (Some command) lone.1) [
+                          | inl s ↦ subst (λ (w : List ℕ). IsCommand command (w ∷ words)) (sym (text_is name (codes "serve") s.0)) (serve_takes words command s.1)
+                          | inr more ↦
+                              let v = held (is_text name (codes "watch")) (watch_of words) command more.1 in
+                              subst (λ (w : List ℕ). IsCommand command (w ∷ words)) (sym (text_is name (codes "watch") v.0)) (watch_takes words command v.1)
+                        ]
+                  ]
             ]
       ]
 ]
@@ -271,8 +358,10 @@ command_takes (name ∷ words) command e = elim (chosen (is_text name (codes "dr
 pub command_again : (words : List (List ℕ)) (command : Command) → IsCommand command words → command_of words ≡ Some command
 unfolding command_of
 command_again words Drill is = rw is refl
+command_again words Joint is = rw is refl
 command_again words (Generate s c n) is = ap command_of is.1 ∙ generate_again s c n is.0 is.2
-command_again words (Serve l e p c) is = ap command_of is.1 ∙ serve_again l e p c is.0 is.2
+command_again words (Storm opts) is = ap command_of is.1 ∙ storm_again opts is.0 is.2
+command_again words (Serve g) is = ap command_of is.1 ∙ serve_again g is.0 is.2
 command_again words (Watch w) is = ap command_of is.1 ∙ watch_again w is.0 is.2
 
 command_read_at : (o : Option Command) (words : List (List ℕ)) → command_of words ≡ o → IsCommandRead o words

@@ -1,13 +1,15 @@
 -- What becomes of the words that a program is called with.
-use Rattle.std.specs.Prelude.{◌≡◌, ℕ, ◌≤◌, List, [], map, Option, None, Some, String, string_bytes, codes, ⊤}
-use Rattle.hk_base.specs.declared.time.TheConstants.{MAX_TIME}
+use Rattle.std.specs.Prelude.{ℕ, ◌≤◌, List, map, Option, None, Some, String, string_bytes, codes, ⊤}
 use Rattle.hk_outside.specs.declared.status.Status.{Status}
 use Rattle.hk_drill.specs.Drilled.{EndsDrill}
 use Rattle.hk_drill.specs.Generated.{EndsGenerate}
-use Rattle.hk_serve.specs.Serving.{EndsServe}
+use Rattle.hk_storm.specs.Storm.{IsStorm}
+use Rattle.hk_storm.specs.Concluded.{EndsStorm}
+use Rattle.hk_accept.specs.Serving.{EndsServe}
+use Rattle.hk_group.specs.Founding.{IsGroup}
 use Rattle.hk_watching.specs.Watching.{EndsWatch}
 use Rattle.hk_cli.specs.declared.words.Command.{Command}
-use Rattle.hk_cli.specs.declared.words.Command.TheVariants.{Drill, Generate, Serve, Watch}
+use Rattle.hk_cli.specs.declared.words.Command.TheVariants.{Drill, Joint, Generate, Storm, Serve, Watch}
 use Rattle.hk_cli.specs.Words.{IsCommand}
 
 -- the bytes of each word
@@ -25,14 +27,18 @@ usage_line = codes "usage: hermes drill | generate | storm | serve\n"
 -- the statuses with which a command may end
 abbrev pub MayEnd : Command → Status → Type 0
 MayEnd Drill status = EndsDrill status
+MayEnd Joint status = EndsDrill status
 MayEnd (Generate start count nodes) status = EndsGenerate status
-MayEnd (Serve lease skew port conns) status = EndsServe status
+MayEnd (Storm opts) status = EndsStorm status
+MayEnd (Serve group) status = EndsServe status
 MayEnd (Watch writes) status = EndsWatch status
 
 -- what words read as a command are within
 abbrev pub IsInRange : Option Command → Type 0
 IsInRange None = ⊤
 IsInRange (Some Drill) = ⊤
+IsInRange (Some Joint) = ⊤
 IsInRange (Some (Generate start count nodes)) = (1 ≤ nodes) × (nodes ≤ 16)
-IsInRange (Some (Serve lease skew port conns)) = skew ≤ MAX_TIME
+IsInRange (Some (Storm opts)) = IsStorm opts
+IsInRange (Some (Serve group)) = IsGroup group
 IsInRange (Some (Watch writes)) = ⊤

@@ -1,11 +1,11 @@
 -- What the reader makes of options. That this turns specs/Words.antt around is proved in proofs/.
-use Rattle.std.specs.Prelude.{ℕ, zero, suc, false, ◌+◌, ◌==◌, List, [], ◌∷◌, length, Bool, Option, None, Some, nat_eq, nat_le, if◌then◌else◌, option_and_then, codes, take, drop, position}
+use Rattle.std.specs.Prelude.{ℕ, zero, suc, false, ◌+◌, ◌==◌, List, [], ◌∷◌, length, Bool, Option, None, Some, nat_le, if◌then◌else◌, option_and_then, codes, take, drop, position}
 use Rattle.std.specs.Option.{option_map}
-use Rattle.std.specs.Cmp.Lexicographic.{pointwise}
 use Rattle.hk_base.specs.declared.time.TheConstants.{MAX_TIME}
 use Rattle.hk_cli.specs.Words.{Given, option}
+use Rattle.hk_group.specs.declared.group.Group.{Group}
 use Rattle.hk_cli.specs.declared.words.Command.{Command}
-use Rattle.hk_cli.specs.declared.words.Command.TheVariants.{Drill, Generate, Serve, Watch}
+use Rattle.hk_cli.specs.declared.words.Command.TheVariants.{Drill, Joint, Generate, Storm, Serve, Watch}
 use Rattle.hk_script.specs.Parts.{is_text, number_64}
 
 -- a word behind its two dashes
@@ -58,9 +58,9 @@ option_is n None = false
 option_is n (Some m) = m == n
 
 -- the command with no words behind it
-abbrev pub alone : List (List ℕ) → Option Command
-alone [] = Some Drill
-alone words = None
+abbrev pub alone : Command → List (List ℕ) → Option Command
+alone command [] = Some command
+alone command words = None
 
 unfoldable pub generate_of : List (List ℕ) → Option Command
 generate_of words =
@@ -71,17 +71,30 @@ generate_of words =
     (value_of (codes "start") (length words) words)
     else None
 
+unfoldable pub storm_of : List (List ℕ) → Option Command
+storm_of words =
+    if option_is 4 (option_count (length words) words) then
+    option_and_then (λ s. option_and_then (λ n. option_and_then (λ w. option_and_then (λ c. Some (Storm (record { start = s; nodes = n; workers = w; calls = c })))
+    (ranged 1 20000 (value_of (codes "calls") (length words) words)))
+    (ranged 1 8 (value_of (codes "workers") (length words) words)))
+    (ranged 1 8 (value_of (codes "nodes") (length words) words)))
+    (value_of (codes "start") (length words) words)
+    else None
+
+abbrev pub group_of : ℕ → ℕ → ℕ → ℕ → ℕ → ℕ → ℕ → Group
+group_of n w m l e p c = record { nodes = n; workers = w; managers = m; lease = l; skew = e; port = p; conns = c }
+
 unfoldable pub serve_of : List (List ℕ) → Option Command
 serve_of words =
     if option_is 7 (option_count (length words) words) then
-    option_and_then (λ n. option_and_then (λ w. option_and_then (λ m. option_and_then (λ l. option_and_then (λ e. option_and_then (λ p. option_and_then (λ c. Some (Serve l e p c))
+    option_and_then (λ n. option_and_then (λ w. option_and_then (λ m. option_and_then (λ l. option_and_then (λ e. option_and_then (λ p. option_and_then (λ c. Some (Serve (group_of n w m l e p c)))
     (ranged 1 1000000 (value_of (codes "conns") (length words) words)))
     (ranged 1 65535 (value_of (codes "port") (length words) words)))
     (ranged 0 MAX_TIME (value_of (codes "skew") (length words) words)))
     (ranged 0 MAX_TIME (value_of (codes "lease") (length words) words)))
-    (ranged 0 0 (value_of (codes "managers") (length words) words)))
-    (ranged 1 1 (value_of (codes "workers") (length words) words)))
-    (ranged 1 1 (value_of (codes "nodes") (length words) words))
+    (ranged 0 9 (value_of (codes "managers") (length words) words)))
+    (ranged 1 8 (value_of (codes "workers") (length words) words)))
+    (ranged 1 16 (value_of (codes "nodes") (length words) words))
     else None
 
 unfoldable pub watch_of : List (List ℕ) → Option Command
@@ -94,7 +107,9 @@ watch_of words =
 unfoldable pub command_of : List (List ℕ) → Option Command
 command_of [] = None
 command_of (name ∷ words) =
-    if is_text name (codes "drill") then alone words
+    if is_text name (codes "drill") then alone Drill words
+    else (if is_text name (codes "joint") then alone Joint words
     else (if is_text name (codes "generate") then generate_of words
+    else (if is_text name (codes "storm") then storm_of words
     else (if is_text name (codes "serve") then serve_of words
-    else (if is_text name (codes "watch") then watch_of words else None)))
+    else (if is_text name (codes "watch") then watch_of words else None)))))

@@ -1,8 +1,10 @@
 -- The words of a command: specs that are read by a person.
 use Rattle.std.specs.Prelude.{◌≡◌, ◌⊎◌, ℕ, ◌<◌, ◌≤◌, ◌^◌, List, [], ◌∷◌, ◌++◌, Option, None, Some, codes, decimal}
 use Rattle.hk_base.specs.declared.time.TheConstants.{MAX_TIME}
+use Rattle.hk_storm.specs.declared.opts.StormOpts.{StormOpts}
+use Rattle.hk_group.specs.declared.group.Group.{Group}
 use Rattle.hk_cli.specs.declared.words.Command.{Command}
-use Rattle.hk_cli.specs.declared.words.Command.TheVariants.{Drill, Generate, Serve, Watch}
+use Rattle.hk_cli.specs.declared.words.Command.TheVariants.{Drill, Joint, Generate, Storm, Serve, Watch}
 
 -- ---- options
 -- an option and its value
@@ -43,16 +45,32 @@ pub record IsGenerate (start count nodes : ℕ) (words : List (List ℕ)) : Type
   pub few_nodes : nodes ≤ 16
   pub options : GiveEach (option (codes "start") start ∷ option (codes "count") count ∷ option (codes "nodes") nodes ∷ []) words
 
--- one node with one worker and no managers; a lease and a skew within the limit of clocks, a port, 1 to 1,000,000 connections
-pub record IsServe (lease skew port conns : ℕ) (words : List (List ℕ)) : Type 0 where
-  pub lease_fits : lease ≤ MAX_TIME
-  pub skew_fits : skew ≤ MAX_TIME
-  pub some_port : 1 ≤ port
-  pub port_fits : port ≤ 65535
-  pub some_conns : 1 ≤ conns
-  pub few_conns : conns ≤ 1000000
-  pub options : GiveEach (option (codes "nodes") 1 ∷ option (codes "workers") 1 ∷ option (codes "managers") 0 ∷ option (codes "lease") lease
-      ∷ option (codes "skew") skew ∷ option (codes "port") port ∷ option (codes "conns") conns ∷ []) words
+-- a number from 0 on, 1 to 8 nodes with 1 to 8 workers each, 1 to 20,000 calls
+pub record IsStorm (opts : StormOpts) (words : List (List ℕ)) : Type 0 where
+  pub start_fits : opts.start < 2 ^ 64
+  pub some_nodes : 1 ≤ opts.nodes
+  pub few_nodes : opts.nodes ≤ 8
+  pub some_workers : 1 ≤ opts.workers
+  pub few_workers : opts.workers ≤ 8
+  pub some_calls : 1 ≤ opts.calls
+  pub few_calls : opts.calls ≤ 20000
+  pub options : GiveEach (option (codes "start") opts.start ∷ option (codes "nodes") opts.nodes ∷ option (codes "workers") opts.workers ∷ option (codes "calls") opts.calls ∷ []) words
+
+-- 1 to 16 nodes with 1 to 8 workers each, at most 9 managers; a lease and a skew within the limit of clocks, a port, 1 to 1,000,000 connections
+pub record IsServe (g : Group) (words : List (List ℕ)) : Type 0 where
+  pub some_nodes : 1 ≤ g.nodes
+  pub few_nodes : g.nodes ≤ 16
+  pub some_workers : 1 ≤ g.workers
+  pub few_workers : g.workers ≤ 8
+  pub few_managers : g.managers ≤ 9
+  pub lease_fits : g.lease ≤ MAX_TIME
+  pub skew_fits : g.skew ≤ MAX_TIME
+  pub some_port : 1 ≤ g.port
+  pub port_fits : g.port ≤ 65535
+  pub some_conns : 1 ≤ g.conns
+  pub few_conns : g.conns ≤ 1000000
+  pub options : GiveEach (option (codes "nodes") g.nodes ∷ option (codes "workers") g.workers ∷ option (codes "managers") g.managers ∷ option (codes "lease") g.lease
+      ∷ option (codes "skew") g.skew ∷ option (codes "port") g.port ∷ option (codes "conns") g.conns ∷ []) words
 
 -- 1 to 10,000 writes
 pub record IsWatch (writes : ℕ) (words : List (List ℕ)) : Type 0 where
@@ -63,8 +81,10 @@ pub record IsWatch (writes : ℕ) (words : List (List ℕ)) : Type 0 where
 -- the command comes first
 abbrev pub IsCommand : Command → List (List ℕ) → Type 0
 IsCommand Drill words = words ≡ codes "drill" ∷ []
+IsCommand Joint words = words ≡ codes "joint" ∷ []
 IsCommand (Generate start count nodes) words = (options : List (List ℕ)) × (words ≡ codes "generate" ∷ options) × IsGenerate start count nodes options
-IsCommand (Serve lease skew port conns) words = (options : List (List ℕ)) × (words ≡ codes "serve" ∷ options) × IsServe lease skew port conns options
+IsCommand (Storm opts) words = (options : List (List ℕ)) × (words ≡ codes "storm" ∷ options) × IsStorm opts options
+IsCommand (Serve group) words = (options : List (List ℕ)) × (words ≡ codes "serve" ∷ options) × IsServe group options
 IsCommand (Watch writes) words = (options : List (List ℕ)) × (words ≡ codes "watch" ∷ options) × IsWatch writes options
 
 -- what is read: the command that the words are; none where they are no command's

@@ -4,18 +4,23 @@ ghost use Rattle.std.specs.Prelude.{◌≡◌, ◌⊎◌, ℕ, ◌≤◌, take, 
 ghost use Rattle.std.specs.Io.KnownBytes.{Appends};
 ghost use Rattle.hk_outside.specs.Causes.{Rose, Stayed};
 ghost use Rattle.hk_drill.specs.Drilled.{AllLegal, IsDone, IsExact, IsFront, IsStopped, HasTold};
+ghost use Rattle.hk_drill.specs.Together.{IsJointDone, IsJointFront, IsJointTold};
 ghost use Rattle.hk_drill.specs.Generated.{generated, summary};
-ghost use Rattle.hk_serve.specs.Serving.{HasServed};
+ghost use Rattle.hk_storm.specs.Stormed.{IsStormed};
+ghost use Rattle.hk_accept.specs.Serving.{HasServed};
+ghost use Rattle.hk_group.specs.declared.group.Group.{Group as GroupOf};
 ghost use Rattle.hk_watching.specs.Watching.{watched_line};
+ghost use Rattle.hk_storm.specs.declared.opts.StormOpts.{StormOpts};
 ghost use Rattle.hk_cli.specs.declared.words.Command.{Command as CommandOf};
-ghost use Rattle.hk_cli.specs.declared.words.Command.TheVariants.{Drill, Generate, Serve, Watch};
+ghost use Rattle.hk_cli.specs.declared.words.Command.TheVariants.{Drill, Joint, Generate, Storm, Serve, Watch};
 ghost use Rattle.hk_cli.specs.Words.{IsCommand};
 ghost use Rattle.hk_cli.specs.Commands.{texts, IsNoCommand, usage_line, MayEnd, IsInRange};
 
 use crate::words::{Command, read_command};
-use hk_drill::{drill, generate_run};
+use hk_drill::{drill, generate_run, joint};
+use hk_group::serve;
 use hk_outside::{Clock, Doors, Sink, Source, Spawner, Status, write_all};
-use hk_serve::{ServeOptions, serve};
+use hk_storm::storm;
 use hk_watching::watch_writes;
 use std::alloc::Global;
 use std::sync::{Arc, Wait};
@@ -41,6 +46,7 @@ fn perform<
     K: Sink,
     C: Clock + Send + Sync + Drop + 'static,
     D: Doors,
+    P: Spawner,
 >(
     rt: R,
     alloc: Global,
@@ -49,34 +55,46 @@ fn perform<
     sink: &mut K,
     clock: Arc<C>,
     doors: &mut D,
+    spawner: &mut P,
 ) -> Status
     requires { IsInRange command }
     ensures usage { result ≡ Status.Usage → (command ≡ None) × (source.new ≡ source.old) × Appends (K.held sink.old) (K.held sink.new) usage_line }
     ensures no_command { command ≡ None → ((result ≡ Status.Usage) ⊎ (result ≡ Status.WriteFault)) × (source.new ≡ source.old) × ((n : ℕ) × Appends (K.held sink.old) (K.held sink.new) (take n usage_line)) }
     ensures statuses { IfSome command (λ c. MayEnd c result) }
     ensures done { command ≡ Some Drill → result ≡ Status.Done → IsDone Status.Done (S.left source.old) (S.left source.new) (S.given source.old) (S.given source.new) (K.held sink.old) (K.held sink.new) }
-    ensures bad_line { result ≡ Status.BadLine → IsStopped Status.BadLine (S.left source.old) (S.left source.new) (S.given source.old) (S.given source.new) (K.held sink.old) (K.held sink.new) }
-    ensures too_long { result ≡ Status.TooLong → IsStopped Status.TooLong (S.left source.old) (S.left source.new) (S.given source.old) (S.given source.new) (K.held sink.old) (K.held sink.new) }
+    ensures bad_line { command ≡ Some Drill → result ≡ Status.BadLine → IsStopped Status.BadLine (S.left source.old) (S.left source.new) (S.given source.old) (S.given source.new) (K.held sink.old) (K.held sink.new) }
+    ensures too_long { command ≡ Some Drill → result ≡ Status.TooLong → IsStopped Status.TooLong (S.left source.old) (S.left source.new) (S.given source.old) (S.given source.new) (K.held sink.old) (K.held sink.new) }
     ensures front { command ≡ Some Drill → IsFront (S.left source.old) (S.left source.new) (S.given source.old) (S.given source.new) (K.held sink.old) (K.held sink.new) }
-    ensures cut_off { result ≡ Status.ReadFault → HasTold (S.left source.old) (S.left source.new) (S.given source.old) (S.given source.new) (K.held sink.old) (K.held sink.new) }
+    ensures cut_off { command ≡ Some Drill → result ≡ Status.ReadFault → HasTold (S.left source.old) (S.left source.new) (S.given source.old) (S.given source.new) (K.held sink.old) (K.held sink.new) }
     ensures exact { command ≡ Some Drill → Stayed (S.faults source.old) (S.faults source.new) → Stayed (K.faults sink.old) (K.faults sink.new)
+        → IsExact result (S.left source.old) (S.left source.new) (S.given source.old) (S.given source.new) }
+    ensures joint_done { command ≡ Some Joint → result ≡ Status.Done → IsJointDone (S.left source.old) (S.left source.new) (S.given source.old) (S.given source.new) (K.held sink.old) (K.held sink.new) }
+    ensures joint_bad_line { command ≡ Some Joint → result ≡ Status.BadLine → IsJointTold Status.BadLine (S.left source.old) (S.left source.new) (S.given source.old) (S.given source.new) (K.held sink.old) (K.held sink.new) }
+    ensures joint_too_long { command ≡ Some Joint → result ≡ Status.TooLong → IsJointTold Status.TooLong (S.left source.old) (S.left source.new) (S.given source.old) (S.given source.new) (K.held sink.old) (K.held sink.new) }
+    ensures joint_front { command ≡ Some Joint → IsJointFront (S.left source.old) (S.left source.new) (S.given source.old) (S.given source.new) (K.held sink.old) (K.held sink.new) }
+    ensures joint_cut_off { command ≡ Some Joint → result ≡ Status.ReadFault → sink.new ≡ sink.old }
+    ensures joint_exact { command ≡ Some Joint → Stayed (S.faults source.old) (S.faults source.new) → Stayed (K.faults sink.old) (K.faults sink.new)
         → IsExact result (S.left source.old) (S.left source.new) (S.given source.old) (S.given source.new) }
     ensures written { (start count nodes : ℕ) → command ≡ Some (Generate start count nodes) → result ≡ Status.Done
         → Appends (K.held sink.old) (K.held sink.new) (summary start count nodes) }
     ensures legal { (start count nodes : ℕ) → command ≡ Some (Generate start count nodes) → AllLegal (generated start count nodes).run }
     ensures part { (start count nodes : ℕ) → command ≡ Some (Generate start count nodes)
         → (source.new ≡ source.old) × ((n : ℕ) × Appends (K.held sink.old) (K.held sink.new) (take n (summary start count nodes))) }
-    ensures aside { (lease skew port conns : ℕ) → command ≡ Some (Serve lease skew port conns) → (source.new ≡ source.old) × (sink.new ≡ sink.old) }
-    ensures served { (lease skew port conns : ℕ) → command ≡ Some (Serve lease skew port conns) → result ≡ Status.Done → HasServed (D.left doors.old) (D.left doors.new) conns }
+    ensures stormed { (opts : StormOpts) → command ≡ Some (Storm opts) → (source.new ≡ source.old) × IsStormed result opts (K.held sink.old) (K.held sink.new) }
+    ensures aside { (group : GroupOf) → command ≡ Some (Serve group) → (source.new ≡ source.old) × (sink.new ≡ sink.old) }
+    ensures served { (group : GroupOf) → command ≡ Some (Serve group) → result ≡ Status.Done
+        → HasServed (D.left doors.old) (D.left doors.new) (P.taken spawner.old) (P.taken spawner.new) group.conns }
     ensures watched { (writes : ℕ) → command ≡ Some (Watch writes) → result ≡ Status.Done → Appends (K.held sink.old) (K.held sink.new) (watched_line writes) }
     ensures watching { (writes : ℕ) → command ≡ Some (Watch writes)
         → (source.new ≡ source.old) × ((n : ℕ) × Appends (K.held sink.old) (K.held sink.new) (take n (watched_line writes))) }
     ensures read_fault { result ≡ Status.ReadFault → Rose (S.faults source.old) (S.faults source.new) }
     ensures write_fault { result ≡ Status.WriteFault → Rose (K.faults sink.old) (K.faults sink.new) }
     ensures door_fault { result ≡ Status.DoorFault → Rose (D.faults doors.old) (D.faults doors.new) }
+    ensures spawn_fault { result ≡ Status.SpawnFault → Rose (P.faults spawner.old) (P.faults spawner.new) }
 {
     match command {
         Some(Command::Drill) => drill(alloc, source, sink),
+        Some(Command::Joint) => joint(alloc, source, sink),
         Some(
             Command::Generate {
                 start,
@@ -84,14 +102,8 @@ fn perform<
                 nodes,
             },
         ) => generate_run(alloc, start, count, nodes, sink),
-        Some(
-            Command::Serve {
-                skew,
-                port,
-                conns,
-                ..
-            },
-        ) => serve(rt, alloc, clock, doors, &ServeOptions { skew, port, conns }),
+        Some(Command::Storm(opts)) => storm(rt, alloc, &opts, &*clock, sink),
+        Some(Command::Serve(group)) => serve(rt, alloc, clock, &group, doors, spawner),
         Some(Command::Watch { writes }) => watch_writes(rt, alloc, writes, sink),
         None => tell_usage(sink),
     }
@@ -101,15 +113,20 @@ fn perform<
 ///
 /// - `drill` reads a script to its end, or to the line at which it stops, and writes its transcript as it goes. A script is the header of
 ///   a group, and the events of its world: calls, letters that are taken, clocks, crashes, views, leases, copies, and what its managers do.
+/// - `joint` reads a script in the same way. At its end it writes one order of the calls on all keys of the run, and which reads of several keys stand together in it.
 /// - `generate --start S --count C --nodes N` makes a run of C events of N nodes that is drawn from the number S, and writes its summary.
 ///
-/// - `serve --nodes 1 --workers 1 --managers 0 --lease L --skew E --port P --conns C` opens port P of 127.0.0.1 and serves C connections of
-///   memcached clients at one node, one after the other. It reads no source and writes to no sink.
+/// - `storm --start S --nodes N --workers W --calls C` runs N nodes with W workers and W callers each on threads, which make C calls drawn from the number S and lose
+///   letters, and writes whether what they did is a legal run of each shard number, and what became of the calls.
+///
+/// - `serve --nodes N --workers W --managers M --lease L --skew E --port P --conns C` opens port P of 127.0.0.1 and serves C connections of memcached clients at N
+///   nodes in turn, each by a thread of its own. Each node has W workers; M managers give leases of L milliseconds, without managers leases are never over. It
+///   reads no source and writes to no sink.
 ///
 /// - `watch --writes N` writes a key N times in one thread while a watch of it looks in another, and writes one line, which tells the last
 ///   stamp that the watch was told. It reads no source.
 ///
-/// For all other words one line is written, which tells the commands, and the status is Usage. The spawner is not touched.
+/// For all other words one line is written, which tells the commands, and the status is Usage. Only `serve` touches the doors and the spawner.
 pub fn hermes<
     R: Threads + Wait + Copy + Send + Sync + 'static,
     S: Source,
@@ -125,7 +142,7 @@ pub fn hermes<
     sink: &mut K,
     clock: Arc<C>,
     doors: &mut D,
-    _spawner: &mut P,
+    spawner: &mut P,
 ) -> Status
     // Usage comes exactly where the words are no command's, unless writing the line failed; nothing is read then.
     ensures usage { result ≡ Status.Usage → IsNoCommand (texts words.now) × (source.new ≡ source.old) × Appends (K.held sink.old) (K.held sink.new) usage_line }
@@ -139,20 +156,32 @@ pub fn hermes<
     ensures done { IsCommand Drill (texts words.now) → result ≡ Status.Done → IsDone Status.Done (S.left source.old) (S.left source.new) (S.given source.old) (S.given source.new) (K.held sink.old) (K.held sink.new) }
 
     // A read that failed leaves what the lines told whose feed was read, and no more.
-    ensures cut_off { result ≡ Status.ReadFault → HasTold (S.left source.old) (S.left source.new) (S.given source.old) (S.given source.new) (K.held sink.old) (K.held sink.new) }
+    ensures cut_off { IsCommand Drill (texts words.now) → result ≡ Status.ReadFault → HasTold (S.left source.old) (S.left source.new) (S.given source.old) (S.given source.new) (K.held sink.old) (K.held sink.new) }
 
-    // What one read that met a line outside the grammar decides the transcript, whatever would follow. It has written what
+    // What a drill read that met a line outside the grammar decides the transcript, whatever would follow. It has written what
     // the events before that line showed, and the stop line that names it.
-    ensures bad_line { result ≡ Status.BadLine → IsStopped Status.BadLine (S.left source.old) (S.left source.new) (S.given source.old) (S.given source.new) (K.held sink.old) (K.held sink.new) }
+    ensures bad_line { IsCommand Drill (texts words.now) → result ≡ Status.BadLine → IsStopped Status.BadLine (S.left source.old) (S.left source.new) (S.given source.old) (S.given source.new) (K.held sink.old) (K.held sink.new) }
 
     // So has one that met a line that passes a limit: too long, too many, or with an event that would send too many letters.
-    ensures too_long { result ≡ Status.TooLong → IsStopped Status.TooLong (S.left source.old) (S.left source.new) (S.given source.old) (S.given source.new) (K.held sink.old) (K.held sink.new) }
+    ensures too_long { IsCommand Drill (texts words.now) → result ≡ Status.TooLong → IsStopped Status.TooLong (S.left source.old) (S.left source.new) (S.given source.old) (S.given source.new) (K.held sink.old) (K.held sink.new) }
 
     // Whatever the answer, what a drill wrote is a front of the transcript, whatever may still come behind what was read.
     ensures front { IsCommand Drill (texts words.now) → IsFront (S.left source.old) (S.left source.new) (S.given source.old) (S.given source.new) (K.held sink.old) (K.held sink.new) }
 
     // Where no count of faults rose, a drill ends as the transcript says, unless memory ran out.
     ensures exact { IsCommand Drill (texts words.now) → Stayed (S.faults source.old) (S.faults source.new) → Stayed (K.faults sink.old) (K.faults sink.new)
+        → IsExact result (S.left source.old) (S.left source.new) (S.given source.old) (S.given source.new) }
+
+    // A joint order that is done has read its source to the end, and written one order of the calls on all keys, which is legal, and the batches of reads.
+    ensures joint_done { IsCommand Joint (texts words.now) → result ≡ Status.Done → IsJointDone (S.left source.old) (S.left source.new) (S.given source.old) (S.given source.new) (K.held sink.old) (K.held sink.new) }
+
+    // Its statuses are the drill's: at a line at which the script stops it has written that line alone, whatever would follow, and nothing where a read
+    // failed. Whatever the answer, what it wrote is a front of its text.
+    ensures joint_bad_line { IsCommand Joint (texts words.now) → result ≡ Status.BadLine → IsJointTold Status.BadLine (S.left source.old) (S.left source.new) (S.given source.old) (S.given source.new) (K.held sink.old) (K.held sink.new) }
+    ensures joint_too_long { IsCommand Joint (texts words.now) → result ≡ Status.TooLong → IsJointTold Status.TooLong (S.left source.old) (S.left source.new) (S.given source.old) (S.given source.new) (K.held sink.old) (K.held sink.new) }
+    ensures joint_cut_off { IsCommand Joint (texts words.now) → result ≡ Status.ReadFault → sink.new ≡ sink.old }
+    ensures joint_front { IsCommand Joint (texts words.now) → IsJointFront (S.left source.old) (S.left source.new) (S.given source.old) (S.given source.new) (K.held sink.old) (K.held sink.new) }
+    ensures joint_exact { IsCommand Joint (texts words.now) → Stayed (S.faults source.old) (S.faults source.new) → Stayed (K.faults sink.old) (K.faults sink.new)
         → IsExact result (S.left source.old) (S.left source.new) (S.given source.old) (S.given source.new) }
 
     // A run that was generated is told by its summary, and the order of each key is legal.
@@ -164,9 +193,14 @@ pub fn hermes<
     ensures part { (start count nodes : ℕ) → IsCommand (Generate start count nodes) (texts words.now)
         → (source.new ≡ source.old) × ((n : ℕ) × Appends (K.held sink.old) (K.held sink.new) (take n (summary start count nodes))) }
 
-    // A server that is done took the stated number of connections, or all that were left. It reads and writes nothing else.
-    ensures served { (lease skew port conns : ℕ) → IsCommand (Serve lease skew port conns) (texts words.now) → result ≡ Status.Done → HasServed (D.left doors.old) (D.left doors.new) conns }
-    ensures aside { (lease skew port conns : ℕ) → IsCommand (Serve lease skew port conns) (texts words.now) → (source.new ≡ source.old) × (sink.new ≡ sink.old) }
+    // A storm tells what the journals and notes of some groups come to: Done, where they are runs of just the drawn calls, each key's order of which is legal; Gap, where
+    // they are not. Nothing is read.
+    ensures stormed { (opts : StormOpts) → IsCommand (Storm opts) (texts words.now) → (source.new ≡ source.old) × IsStormed result opts (K.held sink.old) (K.held sink.new) }
+
+    // A server that is done took the stated number of connections, or all that were left, and its spawner took a job for each. It reads and writes nothing else.
+    ensures served { (group : GroupOf) → IsCommand (Serve group) (texts words.now) → result ≡ Status.Done
+        → HasServed (D.left doors.old) (D.left doors.new) (P.taken spawner.old) (P.taken spawner.new) group.conns }
+    ensures aside { (group : GroupOf) → IsCommand (Serve group) (texts words.now) → (source.new ≡ source.old) × (sink.new ≡ sink.old) }
 
     // A watch that is done wrote its line, which is a function of the words. Whatever the answer, what was written is a front of that line, and
     // nothing was read.
@@ -178,6 +212,16 @@ pub fn hermes<
     ensures read_fault { result ≡ Status.ReadFault → Rose (S.faults source.old) (S.faults source.new) }
     ensures write_fault { result ≡ Status.WriteFault → Rose (K.faults sink.old) (K.faults sink.new) }
     ensures door_fault { result ≡ Status.DoorFault → Rose (D.faults doors.old) (D.faults doors.new) }
+    ensures spawn_fault { result ≡ Status.SpawnFault → Rose (P.faults spawner.old) (P.faults spawner.new) }
 {
-    perform(rt, alloc, read_command(words), source, sink, clock, doors)
+    perform(
+        rt,
+        alloc,
+        read_command(words),
+        source,
+        sink,
+        clock,
+        doors,
+        spawner,
+    )
 }

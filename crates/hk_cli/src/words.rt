@@ -3,34 +3,28 @@
 ghost use Rattle.std.specs.Prelude.{◌≡◌, ◌≤◌, map, length, string_bytes, IfSome};
 ghost use Rattle.hk_cli.specs.Words.{IsCommandRead};
 ghost use Rattle.hk_cli.specs.Commands.{IsInRange};
-ghost use Rattle.hk_cli.specs.Options.{command_of, generate_of, serve_of, watch_of, option_is, option_count, ranged, value_of};
+ghost use Rattle.hk_cli.specs.Options.{alone, command_of, generate_of, serve_of, storm_of, watch_of, option_is, option_count, ranged, value_of};
 
 use crate::options::{option_count, value_of};
 use hk_base::MAX_TIME;
+use hk_group::Group;
+use hk_storm::StormOpts;
 
 /// What the program is to do.
 #[derive(Clone, Copy, Debug, PartialEq, Eq)]
 pub enum Command {
     /// Read a script, and write its transcript.
     Drill,
+    /// Read a script, and write one order of the calls on all keys.
+    Joint,
     /// Make a run of so many events of so many nodes, drawn from a number, and write its summary.
-    Generate {
-        start: u64,
-        count: u32,
-        nodes: u8,
-    },
-    /// Serve so many connections on a port, at one node whose clock differs from others by `skew` milliseconds at most. The
-    /// lease is a managers' matter, and there are none.
-    Serve {
-        lease: u64,
-        skew: u64,
-        port: u16,
-        conns: u32,
-    },
+    Generate { start: u64, count: u32, nodes: u8 },
+    /// Run a storm, and write what it came to.
+    Storm(StormOpts),
+    /// Serve connections at the nodes of a new group.
+    Serve(Group),
     /// Write a key so often in one thread while a watch of it looks in another, and tell the last stamp that the watch was told.
-    Watch {
-        writes: u32,
-    },
+    Watch { writes: u32 },
 }
 
 // Whether the words are so many options, and so not more than each of them once.
@@ -76,7 +70,25 @@ fn read_generate(words: &[String]) -> Option<Command>
     })
 }
 
-// Serving is for one node with one worker and no managers.
+#[tactic(auto, unfolding(crate::specs::Options::storm_of))]
+fn read_storm(words: &[String]) -> Option<Command>
+    ensures { result ≡ storm_of (map (λ w. string_bytes w) words.now) }
+{
+    if !are_options(words, 4) {
+        return None;
+    }
+    let start = value_of(words, b"start")?;
+    let nodes = ranged(words, b"nodes", 1, 8)?;
+    let workers = ranged(words, b"workers", 1, 8)?;
+    let calls = ranged(words, b"calls", 1, 20_000)?;
+    Some(Command::Storm(StormOpts {
+        start,
+        nodes: nodes as u8,
+        workers: workers as u8,
+        calls: calls as u32,
+    }))
+}
+
 #[tactic(auto, unfolding(crate::specs::Options::serve_of))]
 fn read_serve(words: &[String]) -> Option<Command>
     ensures { result ≡ serve_of (map (λ w. string_bytes w) words.now) }
@@ -84,19 +96,22 @@ fn read_serve(words: &[String]) -> Option<Command>
     if !are_options(words, 7) {
         return None;
     }
-    let _nodes = ranged(words, b"nodes", 1, 1)?;
-    let _workers = ranged(words, b"workers", 1, 1)?;
-    let _managers = ranged(words, b"managers", 0, 0)?;
+    let nodes = ranged(words, b"nodes", 1, 16)?;
+    let workers = ranged(words, b"workers", 1, 8)?;
+    let managers = ranged(words, b"managers", 0, 9)?;
     let lease = ranged(words, b"lease", 0, MAX_TIME)?;
     let skew = ranged(words, b"skew", 0, MAX_TIME)?;
     let port = ranged(words, b"port", 1, 65_535)?;
     let conns = ranged(words, b"conns", 1, 1_000_000)?;
-    Some(Command::Serve {
+    Some(Command::Serve(Group {
+        nodes: nodes as u8,
+        workers: workers as u8,
+        managers: managers as u8,
         lease,
         skew,
         port: port as u16,
         conns: conns as u32,
-    })
+    }))
 }
 
 #[tactic(auto, unfolding(crate::specs::Options::watch_of))]
@@ -112,20 +127,27 @@ fn read_watch(words: &[String]) -> Option<Command>
     })
 }
 
+// The command, with no words behind it.
+fn alone(words: &[String], command: Command) -> Option<Command>
+    ensures { result ≡ alone command (map (λ w. string_bytes w) words.now) }
+{
+    if words.is_empty() {
+        Some(command)
+    } else {
+        None
+    }
+}
+
 #[tactic(auto, unfolding(crate::specs::Options::command_of))]
 fn read(words: &[String]) -> Option<Command>
     ensures { result ≡ command_of (map (λ w. string_bytes w) words.now) }
 {
     let (name, words) = words.split_first()?;
     match name.as_str() {
-        "drill" => {
-            if words.is_empty() {
-                Some(Command::Drill)
-            } else {
-                None
-            }
-        }
+        "drill" => alone(words, Command::Drill),
+        "joint" => alone(words, Command::Joint),
         "generate" => read_generate(words),
+        "storm" => read_storm(words),
         "serve" => read_serve(words),
         "watch" => read_watch(words),
         _ => None,

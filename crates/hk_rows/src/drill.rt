@@ -286,7 +286,7 @@ fn other_words_are_answered_by_one_line(rt: HostRuntime) -> Result<(), Fail> {
         &["watch", "--writes", "5", "--writes", "5"],
         &[
             "serve",
-            "--nodes=2",
+            "--nodes=17",
             "--workers=1",
             "--managers=0",
             "--lease=1",
@@ -315,7 +315,7 @@ fn other_words_are_answered_by_one_line(rt: HostRuntime) -> Result<(), Fail> {
 }
 
 #[test]
-fn a_server_is_done_where_no_connection_comes(rt: HostRuntime) -> Result<(), Fail> {
+fn a_server_that_can_start_no_thread_tells_so(rt: HostRuntime) -> Result<(), Fail> {
     let words = [
         "serve",
         "--nodes",
@@ -331,7 +331,7 @@ fn a_server_is_done_where_no_connection_comes(rt: HostRuntime) -> Result<(), Fai
         "11211",
     ];
     let outcome = call(rt, rt.alloc(), &words, HEADER.to_vec(rt.alloc())?, &[], &[])?;
-    assert_eq!(rt; outcome.status, Status::Done);
+    assert_eq!(rt; outcome.status, Status::SpawnFault);
     assert_eq!(rt; outcome.text.as_slice(), b"".as_slice());
     assert_eq!(rt; outcome.read, 0);
     Ok(())

@@ -18,4 +18,6 @@ mod replies;
 #[cfg(test)]
 mod requests;
 #[cfg(test)]
+mod storms;
+#[cfg(test)]
 mod turns;
