@@ -3,7 +3,7 @@
 //
 // `load PORT PROCESS CONNECTIONS DEPTH REQUESTS SETS` asks over so many connections, each a thread that has DEPTH requests on their way,
 // REQUESTS in all, of which SETS in a hundred are sets; the others are gets. There are 10,000 keys, each with a value of 100 bytes, which
-// are set first.
+// are set first where they are not there yet.
 use std::io::{self, BufRead, BufReader, Read, Write};
 use std::net::TcpStream;
 use std::time::{Duration, Instant};
@@ -67,8 +67,25 @@ fn put_request(out: &mut Vec<u8>, key: u64, is_set: bool) -> io::Result<()> {
     Ok(())
 }
 
+/// Whether the server has the key that is set last.
+fn is_filled(client: &mut Client) -> io::Result<bool> {
+    let mut out = Vec::new();
+    put_request(&mut out, KEYS - 1, false)?;
+    client.stream.write_all(&out)?;
+    client.read_line()?;
+    if client.line == b"END\r\n" {
+        return Ok(false);
+    }
+    let mut rest = [0; VALUE.len() + 7];
+    client.reader.read_exact(&mut rest)?;
+    Ok(true)
+}
+
 fn fill(port: u16) -> io::Result<()> {
     let mut client = Client::new(port)?;
+    if is_filled(&mut client)? {
+        return Ok(());
+    }
     let mut out = Vec::new();
     for key in 0..KEYS {
         put_request(&mut out, key, true)?;

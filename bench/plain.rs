@@ -5,11 +5,14 @@
 // `plain gen EVENTS KEYS NODES` writes a script of so many mixed events instead, none of which is refused. `plain letters
 // LETTERS NODES` writes a script that sends nearly so many letters over few keys. `plain managed EVENTS KEYS` writes one of three nodes
 // and three managers that change the view about every hundred events. `plain random PROFILE START EVENTS MANAGERS` draws a script
-// of events of every kind, some of them refused (`plain/random.rs`); `plain profiles` tells its profiles. `plain generate START COUNT NODES` draws a run as `hermes generate` does. `plain drill` is `plain`.
+// of events of every kind, some of them refused (`plain/random.rs`); `plain profiles` tells its profiles. `plain generate START COUNT NODES` draws a run as `hermes generate` does. `plain drill` is `plain`. `plain joint` writes what
+// `hermes joint` writes.
 #[path = "plain/actors.rs"]
 mod actors;
 #[path = "plain/drill.rs"]
 mod drill;
+#[path = "plain/joint.rs"]
+mod joint;
 #[path = "plain/lines.rs"]
 mod lines;
 #[path = "plain/made.rs"]
@@ -23,6 +26,7 @@ mod world;
 
 use actors::*;
 use drill::*;
+use joint::*;
 use lines::*;
 use made::*;
 use text::*;
@@ -273,7 +277,7 @@ impl Place {
 }
 
 fn usage() -> ! {
-    eprintln!("usage: plain [drill] | plain gen EVENTS KEYS NODES | plain letters LETTERS NODES | plain managed EVENTS KEYS | plain random PROFILE START EVENTS MANAGERS | plain profiles | plain generate START COUNT NODES");
+    eprintln!("usage: plain [drill] | plain joint | plain gen EVENTS KEYS NODES | plain letters LETTERS NODES | plain managed EVENTS KEYS | plain random PROFILE START EVENTS MANAGERS | plain profiles | plain generate START COUNT NODES");
     std::process::exit(2);
 }
 
@@ -283,10 +287,10 @@ fn main() -> io::Result<()> {
     let numbers: Vec<u64> = words.iter().skip(if profile.is_some() { 2 } else { 1 }).map(|word| word.parse().unwrap_or_else(|_| usage())).collect();
     let mut out = io::stdout().lock();
     match (words.first().map_or("drill", String::as_str), &numbers[..]) {
-        ("drill", []) => {
+        (command @ ("drill" | "joint"), []) => {
             let mut input = Vec::new();
             io::stdin().read_to_end(&mut input)?;
-            let (text, status) = transcript(&input);
+            let (text, status) = transcript(&input, command == "joint");
             out.write_all(&text)?;
             std::process::exit(status);
         }

@@ -131,52 +131,76 @@ fn draw(state: u64) -> u64 {
     state.wrapping_mul(6364136223846793005).wrapping_add(1442695040888963407)
 }
 
+// What the threads share, and what each does.
+struct Plan {
+    kind: String,
+    count: u64,
+    entries: u64,
+    keys: Vec<Arc<[u8]>>,
+    cells: Arc<Vec<Cell>>,
+    shard: Mutex<Shard>,
+}
+
+/// Answers, the nanoseconds that went into handing journals out, and how often that was done.
+type Spent = (u64, u64, u64);
+
+// Calls the operation under the lock, and hands the journal out where it has become long.
+fn ask(plan: &Plan, key: &Arc<[u8]>, spent: &mut Spent) {
+    let op = if plan.kind == "set" { Op::Write(content()) } else { Op::Read };
+    let mut shard = plan.shard.lock().unwrap();
+    black_box(shard.apply(key, &op));
+    spent.0 += 1;
+    if plan.entries > 0 && shard.journal.len() as u64 >= plan.entries {
+        let started = Instant::now();
+        let journal = shard.checkpoint();
+        spent.1 += started.elapsed().as_nanos() as u64;
+        spent.2 += 1;
+        drop(shard);
+        drop(journal);
+    }
+}
+
+fn work(plan: &Plan, seed: u64) -> Spent {
+    let mut spent = (0, 0, 0);
+    let mut state = draw(seed);
+    let mut words = [0; WORDS];
+    for _ in 0..plan.count {
+        state = draw(state);
+        let key = &plan.keys[(state >> 33) as usize % plan.keys.len()];
+        if plan.kind == "local" {
+            spent.0 += black_box(read_local(&plan.cells, &mut words, key)).is_some() as u64;
+        } else {
+            ask(plan, key, &mut spent);
+        }
+    }
+    spent
+}
+
+fn filled(keys: &[Arc<[u8]>], cells: &Arc<Vec<Cell>>) -> Shard {
+    let mut shard = Shard { base: Map::new(), part: Map::new(), journal: Vec::new(), changing: Vec::new(), last: 0, cells: cells.clone() };
+    for key in keys {
+        shard.apply(key, &Op::Write(content()));
+    }
+    shard.checkpoint();
+    shard
+}
+
 fn main() {
     let mut line = String::new();
     io::stdin().read_line(&mut line).unwrap();
     let words: Vec<&str> = line.split_ascii_whitespace().collect();
     let numbers: Vec<u64> = words[1..].iter().map(|word| word.parse().unwrap()).collect();
-    let (kind, threads, count, entries) = (words[0], numbers[0], numbers[1], numbers[3]);
-    let keys: Arc<Vec<Arc<[u8]>>> = Arc::new((0..numbers[2]).map(|k| Arc::from(format!("key:{k}").as_bytes())).collect());
-    let cells: Arc<Vec<Cell>> = Arc::new(cells());
-    let mut shard = Shard { base: Map::new(), part: Map::new(), journal: Vec::new(), changing: Vec::new(), last: 0, cells: cells.clone() };
-    for key in keys.iter() {
-        shard.apply(key, &Op::Write(content()));
-    }
-    shard.checkpoint();
-    let shard = Arc::new(Mutex::new(shard));
+    let (kind, threads, count, entries) = (words[0].to_string(), numbers[0], numbers[1], numbers[3]);
+    let keys: Vec<Arc<[u8]>> = (0..numbers[2]).map(|k| Arc::from(format!("key:{k}").as_bytes())).collect();
+    let cells = Arc::new(cells());
+    let shard = Mutex::new(filled(&keys, &cells));
+    let plan = Arc::new(Plan { kind, count, entries, keys, cells, shard });
     let start = Instant::now();
-    let all: Vec<_> = (0..threads)
-        .map(|seed| {
-            let (kind, keys, cells, shard) = (kind.to_string(), keys.clone(), cells.clone(), shard.clone());
-            thread::spawn(move || {
-                let (mut answers, mut handing, mut handed) = (0u64, 0u64, 0u64);
-                let mut state = draw(seed);
-                let mut words = [0; WORDS];
-                for _ in 0..count {
-                    state = draw(state);
-                    let key = &keys[(state >> 33) as usize % keys.len()];
-                    if kind == "local" {
-                        answers += black_box(read_local(&cells, &mut words, key)).is_some() as u64;
-                        continue;
-                    }
-                    let op = if kind == "set" { Op::Write(content()) } else { Op::Read };
-                    let mut shard = shard.lock().unwrap();
-                    black_box(shard.apply(key, &op));
-                    answers += 1;
-                    if entries > 0 && shard.journal.len() as u64 >= entries {
-                        let started = Instant::now();
-                        let journal = shard.checkpoint();
-                        handing += started.elapsed().as_nanos() as u64;
-                        handed += 1;
-                        drop(shard);
-                        drop(journal);
-                    }
-                }
-                (answers, handing, handed)
-            })
-        })
-        .collect();
+    let start_one = |seed| {
+        let plan = plan.clone();
+        thread::spawn(move || work(&plan, seed))
+    };
+    let all: Vec<_> = (0..threads).map(start_one).collect();
     let mut sum = (0, 0, 0);
     for one in all {
         let one = one.join().unwrap();

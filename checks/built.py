@@ -20,4 +20,6 @@ def program(name):
     if is_stale(path):
         print(f"{name}: proving and building it, which may take an hour", file=sys.stderr, flush=True)
         subprocess.run(["rt", "run"], cwd=TOP / "crates" / name, stdin=subprocess.DEVNULL, stdout=subprocess.DEVNULL, stderr=subprocess.DEVNULL)
+        if not path.exists():
+            sys.exit(f"{name}: it was not built; `rt run` in crates/{name} says why")
     return path

@@ -22,6 +22,7 @@ unsafe extern "C" {
 }
 
 const EIO: c_int = 5;
+const ENOMEM: c_int = 12;
 
 /// Calls of one kind: how many were made, and which of them fails; 0 where none does.
 struct Calls {
@@ -54,31 +55,37 @@ static READS: Calls = Calls::new();
 static WRITES: Calls = Calls::new();
 static SHORT: AtomicU64 = AtomicU64::new(0);
 
+/// A request for memory that is refused. The C library itself looks at the number of the error where it makes a thread.
+unsafe fn refused() -> *mut c_void {
+    unsafe { *__errno_location() = ENOMEM };
+    std::ptr::null_mut()
+}
+
 #[unsafe(no_mangle)]
 pub unsafe extern "C" fn malloc(size: usize) -> *mut c_void {
-    if ALLOCATIONS.fail() { std::ptr::null_mut() } else { unsafe { __libc_malloc(size) } }
+    if ALLOCATIONS.fail() { unsafe { refused() } } else { unsafe { __libc_malloc(size) } }
 }
 
 #[unsafe(no_mangle)]
 pub unsafe extern "C" fn calloc(count: usize, size: usize) -> *mut c_void {
-    if ALLOCATIONS.fail() { std::ptr::null_mut() } else { unsafe { __libc_calloc(count, size) } }
+    if ALLOCATIONS.fail() { unsafe { refused() } } else { unsafe { __libc_calloc(count, size) } }
 }
 
 #[unsafe(no_mangle)]
 pub unsafe extern "C" fn realloc(block: *mut c_void, size: usize) -> *mut c_void {
-    if ALLOCATIONS.fail() { std::ptr::null_mut() } else { unsafe { __libc_realloc(block, size) } }
+    if ALLOCATIONS.fail() { unsafe { refused() } } else { unsafe { __libc_realloc(block, size) } }
 }
 
 #[unsafe(no_mangle)]
 pub unsafe extern "C" fn aligned_alloc(align: usize, size: usize) -> *mut c_void {
-    if ALLOCATIONS.fail() { std::ptr::null_mut() } else { unsafe { __libc_memalign(align, size) } }
+    if ALLOCATIONS.fail() { unsafe { refused() } } else { unsafe { __libc_memalign(align, size) } }
 }
 
 #[unsafe(no_mangle)]
 pub unsafe extern "C" fn posix_memalign(block: *mut *mut c_void, align: usize, size: usize) -> c_int {
     let made = unsafe { aligned_alloc(align, size) };
     if made.is_null() {
-        return 12;
+        return ENOMEM;
     }
     unsafe { *block = made };
     0

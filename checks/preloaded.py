@@ -1,5 +1,6 @@
 """Programs that run while one call of the C library fails: what `checks/faults.rs` makes of the environment, and what it tells."""
 import os
+import shutil
 import subprocess
 import sys
 from pathlib import Path
@@ -9,7 +10,9 @@ WRITES_SHORT, READS_SHORT = 1, 2
 
 
 def build(room):
-    """The library that is loaded before a program, built into this folder."""
+    """The library that is loaded before a program, built into this folder. Without a compiler there is nothing to try."""
+    if shutil.which("rustc") is None:
+        sys.exit(print(f"{Path(sys.argv[0]).name}: rustc is not installed, so nothing was refused"))
     library = f"{room}/faults.so"
     source = Path(__file__).resolve().parent / "faults.rs"
     subprocess.run(["rustc", "--edition", "2021", "-O", "--crate-type", "cdylib", "-o", library, source], check=True)

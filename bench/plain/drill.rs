@@ -9,11 +9,13 @@ pub struct Drill {
     pub keys: BTreeMap<Key, KeyRun>,
     pub events: u64,
     pub text: Text,
+    /// Where the joint order is wanted.
+    pub moments: Option<Moments>,
 }
 
 impl Drill {
     pub fn new(world: World) -> Drill {
-        Drill { world, keys: BTreeMap::new(), events: 0, text: Text::default() }
+        Drill { world, keys: BTreeMap::new(), events: 0, text: Text::default(), moments: None }
     }
 
     pub fn event(&mut self, words: &[&[u8]]) -> Result<(), Stop> {
@@ -29,6 +31,9 @@ impl Drill {
             Ok(()) => {
                 self.show(sent);
                 self.keep();
+                if let Some(moments) = &mut self.moments {
+                    moments.note(self.events, &self.world, &self.keys);
+                }
             }
         }
         Ok(())
@@ -82,8 +87,13 @@ impl Drill {
     }
 
     pub fn end(&mut self) {
-        for (key, run) in &self.keys {
-            self.text.key(key, run, &self.world);
+        if let Some(moments) = &mut self.moments {
+            self.text = Text::default();
+            moments.end(&mut self.text, &self.world, &self.keys);
+        } else {
+            for (key, run) in &self.keys {
+                self.text.key(key, run, &self.world);
+            }
         }
         let letters = self.world.letters.len() as u64;
         self.text.str("end ").number(self.events).str(" ").number(self.world.calls).str(" ").number(letters).str("\n");
@@ -91,7 +101,7 @@ impl Drill {
 }
 
 /// Follows a script to its end, or to the line at which it stops.
-pub fn follow(input: &[u8], drill: &mut Option<Drill>) -> Result<(), (u64, Stop)> {
+pub fn follow(input: &[u8], drill: &mut Option<Drill>, is_joint: bool) -> Result<(), (u64, Stop)> {
     let mut words = Vec::new();
     let mut line_number = 0;
     let lines = input.strip_suffix(b"\n").unwrap_or(input).split(|byte| *byte == b'\n');
@@ -109,7 +119,11 @@ pub fn follow(input: &[u8], drill: &mut Option<Drill>) -> Result<(), (u64, Stop)
         words.clear();
         words.extend(line.split(|byte| *byte == b' '));
         match drill {
-            None => *drill = Some(Drill::new(read_header(&words).map_err(|_| (line_number, "bad"))?)),
+            None => {
+                let mut begun = Drill::new(read_header(&words).map_err(|_| (line_number, "bad"))?);
+                begun.moments = is_joint.then(Moments::default);
+                *drill = Some(begun);
+            }
             Some(drill) => drill.event(&words).map_err(|stop| (line_number, stop))?,
         }
     }
@@ -120,14 +134,14 @@ pub fn follow(input: &[u8], drill: &mut Option<Drill>) -> Result<(), (u64, Stop)
     }
 }
 
-/// The transcript of a script, and the status that goes with it.
-pub fn transcript(input: &[u8]) -> (Vec<u8>, i32) {
+/// The transcript of a script, or its joint order, and the status that goes with it.
+pub fn transcript(input: &[u8], is_joint: bool) -> (Vec<u8>, i32) {
     let mut drill = None;
-    let stop = follow(input, &mut drill).err();
+    let stop = follow(input, &mut drill, is_joint).err();
     if let (None, Some(drill)) = (stop, &mut drill) {
         drill.end();
     }
-    let mut text = drill.map_or(Text::default(), |drill| drill.text);
+    let mut text = drill.filter(|_| stop.is_none() || !is_joint).map_or(Text::default(), |drill| drill.text);
     let Some((line, stop)) = stop else { return (text.0, 0) };
     text.str("stop line ").number(line).str(" ").str(stop).str("\n");
     (text.0, if stop == "bad" { 5 } else { 6 })

@@ -6,24 +6,26 @@ use std::collections::BTreeMap;
 
 const MOST_TIME: u64 = 1_000_000_000_000;
 
-/// A command, and its options with the least and the greatest value of each. What a server of more nodes would have is not served yet.
+/// A command, and its options with the least and the greatest value of each.
 type Command = (&'static str, &'static [(&'static str, u64, u64)]);
 
 const COMMANDS: &[Command] = &[
     ("drill", &[]),
+    ("joint", &[]),
     ("generate", &[("start", 0, u64::MAX), ("count", 1, 100_000), ("nodes", 1, 16)]),
+    ("storm", &[("start", 0, u64::MAX), ("nodes", 1, 8), ("workers", 1, 8), ("calls", 1, 20_000)]),
     (
         "serve",
-        &[("nodes", 1, 1), ("workers", 1, 1), ("managers", 0, 0), ("lease", 0, MOST_TIME), ("skew", 0, MOST_TIME), ("port", 1, 65_535), ("conns", 1, 1_000_000)],
+        &[("nodes", 1, 16), ("workers", 1, 8), ("managers", 0, 9), ("lease", 0, MOST_TIME), ("skew", 0, MOST_TIME), ("port", 1, 65_535), ("conns", 1, 1_000_000)],
     ),
     ("watch", &[("writes", 1, 10_000)]),
 ];
 
 /// The options whose values are told, in this order.
-const TOLD: &[&str] = &["start", "count", "lease", "skew", "port", "conns", "writes"];
+const TOLD: &[&str] = &["start", "count", "calls", "nodes", "workers", "managers", "lease", "skew", "port", "conns", "writes"];
 
 pub fn draw(random: &mut Random) -> Drawn {
-    let (name, options) = COMMANDS[[0, 1, 1, 2, 2, 3][random.below(6)]];
+    let (name, options) = COMMANDS[[0, 1, 2, 2, 3, 3, 4, 4, 5][random.below(9)]];
     let mut words = vec![name.to_string()];
     let mut options = options.to_vec();
     while !options.is_empty() {
@@ -88,9 +90,7 @@ fn command(words: &[&str]) -> Option<String> {
         }
     }
     let told = TOLD.iter().filter_map(|option| options.get(option)).map(|value| format!(" {value}")).collect::<String>();
-    // of one node a server tells nothing
-    let nodes = if *name == "generate" { format!(" {}", options["nodes"]) } else { String::new() };
-    Some(format!("{name}{told}{nodes}"))
+    Some(format!("{name}{told}"))
 }
 
 /// The command that words are; a word that is no text is in none.
