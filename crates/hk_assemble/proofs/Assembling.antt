@@ -1,5 +1,5 @@
 -- The whole run, or its first failure.
-use Rattle.std.proofs.Common.{◌≡◌, ◌≢◌, ◌⊎◌, ◌<◌, ◌+◌, ℕ, List, [], ◌∷◌, ◌++◌, length, Option, Some, None, Result, Ok, Err, refl, sym, ap, subst, ◌∙◌, inl, inr, arith, slice_get}
+use Rattle.std.proofs.Common.{◌≡◌, ◌≢◌, ◌⊎◌, ◌<◌, ◌+◌, ℕ, List, [], ◌∷◌, length, Option, Some, None, refl, sym, ap, subst, ◌∙◌, inl, inr, arith, slice_get}
 use Rattle.std.specs.List.{AllByRecursion}
 use Rattle.std.proofs.lemmas.Option.{slice_get_within}
 use Rattle.hk_base.specs.declared.stamp.NodeId.{NodeId}
@@ -12,15 +12,14 @@ use Rattle.hk_world.specs.Start.{start}
 use Rattle.hk_safety.specs.Run.{RunState, world_of}
 use Rattle.hk_merge.specs.declared.note.Note.{Note}
 use Rattle.hk_merge.specs.Merged.{JournalList, Item, Step, Look, In, Rises, journal_or, journal_of, IsFounded, IsItem, AreMerged}
-use Rattle.hk_merge.specs.Placed.{merged, MergedAreMerged}
 use Rattle.hk_merge.specs.Shows.{IsKeptAt, ReadShows, KeptIsShown}
 use Rattle.hk_assemble.specs.declared.gap.Gap.{Gap}
 use Rattle.hk_assemble.specs.declared.gap.Gap.TheVariants as G
 use Rattle.hk_assemble.specs.SentLetters.{Buckets}
-use Rattle.hk_assemble.specs.Course.{Kepts, kept_at, IsCourse}
-use Rattle.hk_assemble.specs.Courses.{OrMemory}
+use Rattle.hk_assemble.specs.Assembly.{Kepts, kept_at, IsAssembly}
+use Rattle.hk_assemble.specs.Assemblies.{OrMemory}
 use Rattle.hk_assemble.specs.Checking.{AreRight, IsFirstWrong}
-use Rattle.hk_assemble.specs.Assembled.{IsKept, FailsNote, FailsFirst, IsGap, IsRunOf, IsAssembled}
+use Rattle.hk_assemble.specs.Assembled.{IsKept, FailsFirst, IsGap, IsRunOf}
 
 holds : (P : Item → Type 0) (items : List Item) (x : Item) → AllByRecursion P items → In items x → P x
 holds P [] x all is = absurd is
@@ -58,16 +57,16 @@ has_journal journals node entry is = by_journal (slice_get journals node.0) refl
     by_journal None at is = absurd is
     by_journal (Some journal) at is = slice_get_within journals node.0 journal at
 
-module _ (header : Header) (journals : JournalList) (notes : List Note) (items : List Item) (run : RunState) (sent : Buckets) (kept : Kepts) (course : IsCourse header run sent kept items) (merged_is : AreMerged journals notes items)
+module _ (header : Header) (journals : JournalList) (notes : List Note) (items : List Item) (run : RunState) (sent : Buckets) (kept : Kepts) (assembly : IsAssembly header run sent kept items) (merged_is : AreMerged journals notes items)
     (shown : KeptIsShown) (rises : (n : NodeId) → Rises (journal_of journals n)) (alone : header.managers ≡ 0) (whole : length journals ≡ header.nodes) where
   founded_kept : (listed : ℕ) (note : Note) → slice_get notes listed ≡ Some note → IsFounded journals note → (answer : Answer) × IsKeptAt header items note answer × (kept_at listed kept ≡ Some answer)
   founded_kept listed note lists (entry, has, at) =
-      let k = shown header journals notes items run.events (world_of run) listed note rises merged_is course.goes lists (entry, has, at) alone (subst (λ (n : ℕ). note.node.0 < n) whole (has_journal journals note.node entry has)) in
-      (k.0, k.1, course.keeps listed k.0 k.2)
+      let k = shown header journals notes items run.events (world_of run) listed note rises merged_is assembly.goes lists (entry, has, at) alone (subst (λ (n : ℕ). note.node.0 < n) whole (has_journal journals note.node entry has)) in
+      (k.0, k.1, assembly.keeps listed k.0 k.2)
 
   told_founded : (listed : ℕ) (note : Note) (answer : Answer) → slice_get notes listed ≡ Some note → kept_at listed kept ≡ Some answer → IsFounded journals note
   told_founded listed note answer lists is =
-      let l = look_in (start header) items run.events listed answer (course.shows listed answer is) in
+      let l = look_in (start header) items run.events listed answer (assembly.shows listed answer is) in
       let item : IsItem journals notes (Look listed l.0) = holds (IsItem journals notes) items (Look listed l.0) merged_is.only l.1 in
       subst (λ (n : Note). IsFounded journals n) (some_note l.0 note (sym item.0 ∙ lists)) item.1
 
@@ -81,7 +80,7 @@ module _ (header : Header) (journals : JournalList) (notes : List Note) (items :
       subst (λ (x : Answer). IsKeptAt header items note x) (some_answer k.0 answer (sym k.2 ∙ is)) k.1
 
   pub run_is : ((i : ℕ) (note : Note) → slice_get notes i ≡ Some note → kept_at i kept ≡ Some note.answer) → IsRunOf header notes items run
-  run_is right = record { same = course.same; goes = course.goes; told = λ listed note lists. course.shows listed note.answer (right listed note lists) }
+  run_is right = record { same = assembly.same; goes = assembly.goes; told = λ listed note lists. assembly.shows listed note.answer (right listed note lists) }
 
   pub gap_is : (gap : Gap) → IsFirstWrong kept notes gap → IsGap header journals notes items gap
   gap_is G.Memory wrong = tt
@@ -90,7 +89,7 @@ module _ (header : Header) (journals : JournalList) (notes : List Note) (items :
   gap_is (G.Note call ticket told k) wrong = (
     run.events,
     world_of run,
-    course.goes,
+    assembly.goes,
     wrong.listed,
     wrong.note,
     wrong.wrong.0,

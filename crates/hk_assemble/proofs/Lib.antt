@@ -1,9 +1,10 @@
 mod Finding
 mod Known
 mod Following
-mod Coursing
+mod Advancing
 mod Least
 mod Turns
 mod Assembling
 mod Tickets
 mod Single
+mod Answered

@@ -11,7 +11,6 @@ use Rattle.hk_base.specs.declared.call.Answer.{Answer}
 use Rattle.hk_base.specs.declared.call.CallNo.{CallNo}
 use Rattle.hk_base.specs.declared.call.Reply.{Reply}
 use Rattle.hk_base.specs.declared.letter.Letter.{Letter}
-use Rattle.hk_base.specs.declared.letter.Actor.TheVariants.{Node}
 use Rattle.hk_node.specs.Node.{NodeState}
 use Rattle.hk_node.specs.declared.event.NodeEvent.{NodeEvent}
 use Rattle.hk_node.specs.declared.event.NodeEvent.TheVariants as N

@@ -1,16 +1,16 @@
 -- A list at one turn of a loop over it.
-use Rattle.std.proofs.Common.{◌≡◌, ◌<◌, ◌+◌, ℕ, suc, List, [], ◌∷◌, ◌++◌, map, length, take, drop, get_or, refl, sym, ap, subst, ◌∙◌, arith}
+use Rattle.std.proofs.Common.{◌≡◌, ◌<◌, ◌+◌, ℕ, suc, List, [], ◌∷◌, ◌++◌, map, length, take, drop, get_or, sym, ap, ◌∙◌, arith}
 use Rattle.std.proofs.Math.Seq.{take-suc}
 use Rattle.std.proofs.lemmas.List.{at_drop_more, take-append-drop, map-append}
 use Rattle.hk_world.specs.declared.event.Header.{Header}
 use Rattle.hk_safety.specs.Run.{RunState, world_of}
-use Rattle.hk_merge.specs.Merged.{Item, Step}
+use Rattle.hk_merge.specs.Merged.{Item}
 use Rattle.hk_assemble.specs.declared.gap.Gap.{Gap}
 use Rattle.hk_assemble.specs.declared.gap.Gap.TheVariants as G
 use Rattle.hk_assemble.specs.SentLetters.{Buckets}
-use Rattle.hk_assemble.specs.Course.{Kepts, IsCourse}
+use Rattle.hk_assemble.specs.Assembly.{Kepts, IsAssembly}
 use Rattle.hk_assemble.specs.Assembled.{FailsFirst}
-use Rattle.hk_assemble.specs.Courses.{OrMemory, IsFailure}
+use Rattle.hk_assemble.specs.Assemblies.{OrMemory, IsFailure}
 
 module _ {X : Type 0} (f : X → Item) (xs : List X) (i : ℕ) (x : X) (within : i < length xs) (is : x ≡ get_or xs i x) where
   -- what comes before, the item, and what comes behind
@@ -28,11 +28,11 @@ module _ {X : Type 0} (f : X → Item) (xs : List X) (i : ℕ) (x : X) (within :
       after = omega arith
 
 -- the item that fails is the first
-pub fails_first : (header : Header) (run : RunState) (sent : Buckets) (kept : Kepts) (front back items : List Item) (item : Item) (gap : Gap) → IsCourse header run sent kept front → items ≡ front ++ (item ∷ back) →
+pub fails_first : (header : Header) (run : RunState) (sent : Buckets) (kept : Kepts) (front back items : List Item) (item : Item) (gap : Gap) → IsAssembly header run sent kept front → items ≡ front ++ (item ∷ back) →
     OrMemory gap (IsFailure gap run items front item) → OrMemory gap (FailsFirst header items gap)
-fails_first header run sent kept front back items item G.Memory course split fails = tt
-fails_first header run sent kept front back items item (G.Letter taken s) course split (node, entry, here, fails) =
-    record { front = front; node = node; entry = entry; back = back; split = split ∙ ap (λ (x : Item). front ++ (x ∷ back)) here; events = run.events; world = world_of run; goes = course.goes; fails = fails }
-fails_first header run sent kept front back items item (G.Entry at ticket given) course split (node, entry, here, fails) =
-    record { front = front; node = node; entry = entry; back = back; split = split ∙ ap (λ (x : Item). front ++ (x ∷ back)) here; events = run.events; world = world_of run; goes = course.goes; fails = fails }
-fails_first header run sent kept front back items item (G.Note call ticket told k) course split (node, entry, here, fails) = absurd fails
+fails_first header run sent kept front back items item G.Memory assembly split fails = tt
+fails_first header run sent kept front back items item (G.Letter taken s) assembly split (node, entry, here, fails) =
+    record { front = front; node = node; entry = entry; back = back; split = split ∙ ap (λ (x : Item). front ++ (x ∷ back)) here; events = run.events; world = world_of run; goes = assembly.goes; fails = fails }
+fails_first header run sent kept front back items item (G.Entry at ticket given) assembly split (node, entry, here, fails) =
+    record { front = front; node = node; entry = entry; back = back; split = split ∙ ap (λ (x : Item). front ++ (x ∷ back)) here; events = run.events; world = world_of run; goes = assembly.goes; fails = fails }
+fails_first header run sent kept front back items item (G.Note call ticket told k) assembly split (node, entry, here, fails) = absurd fails

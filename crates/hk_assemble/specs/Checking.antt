@@ -4,7 +4,7 @@ use Rattle.hk_base.specs.declared.call.Answer.{Answer}
 use Rattle.hk_merge.specs.declared.note.Note.{Note}
 use Rattle.hk_assemble.specs.declared.gap.Gap.{Gap}
 use Rattle.hk_assemble.specs.declared.gap.Gap.TheVariants as G
-use Rattle.hk_assemble.specs.Course.{Kepts, kept_at}
+use Rattle.hk_assemble.specs.Assembly.{Kepts, kept_at}
 
 -- what is told of a note that was told something else; want of memory tells nothing
 abbrev pub IsWrong : Gap → Option Answer → Note → Type 0

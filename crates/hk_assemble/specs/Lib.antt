@@ -1,11 +1,11 @@
 pub mod Marks
 pub mod SentLetters
 pub mod Known
-pub mod Course
+pub mod Assembly
 pub mod Assembled
 pub mod Taking
 pub mod Stepping
-pub mod Courses
+pub mod Assemblies
 pub mod Checking
 pub mod Rising
 pub mod Single

@@ -3,10 +3,10 @@
 ghost use Rattle.std.specs.Prelude.{◌≡◌, ◌↔◌, Some, IfOk, IsTrue};
 ghost use Rattle.std.specs.Option.{option_copied};
 ghost use Rattle.hk_assemble.specs.declared.gap.Gap.TheVariants as G;
-ghost use Rattle.hk_assemble.specs.Course.{kept_at};
+ghost use Rattle.hk_assemble.specs.Assembly.{kept_at};
 ghost use Rattle.hk_assemble.specs.Checking.{IsChecked, AreChecked};
 
-use crate::course::Kept;
+use crate::assembly::Kept;
 use crate::gap::Gap;
 use hk_base::{Answer, Memory};
 use hk_merge::{Note, same_answer, sameness_is_equality};

@@ -6,8 +6,8 @@
 //! The caller owes a header without managers, a journal for each of its nodes, and tickets that rise in each journal.
 #![tactic(auto)]
 
+mod assembly;
 mod checking;
-mod course;
 mod gap;
 mod laws;
 mod mark;

@@ -6,8 +6,8 @@ ghost use Rattle.hk_base.specs.declared.stamp.NodeId.{NodeId};
 ghost use Rattle.hk_merge.specs.Merged.{Rises, journal_of};
 ghost use Rattle.hk_assemble.specs.Assembled.{IsAssembled};
 
+use crate::assembly::follow;
 use crate::checking::check_notes;
-use crate::course::follow;
 use crate::gap::Gap;
 use hk_merge::{Journals, Notes, kept_is_shown, merge, merge_is_merged};
 use hk_safety::Run;
@@ -31,7 +31,7 @@ pub fn assemble(
     merge_is_merged();
     kept_is_shown();
     let slots = merge(alloc, journals.as_slice(), notes.as_slice())?;
-    let course = follow(alloc, header, &slots)?;
-    check_notes(&course.kept, notes.as_slice())?;
-    Ok(course.run)
+    let assembly = follow(alloc, header, &slots)?;
+    check_notes(&assembly.kept, notes.as_slice())?;
+    Ok(assembly.run)
 }

@@ -82,8 +82,14 @@ digits_by i (x ∷ xs) e small = by_test (is_bad_byte x) refl e (λ more. digits
     by_test true t e rest = absurd (none-some i (sym e))
     by_test false t e rest = ((good x t, small 0), rest e)
 
-digits : (number : ℕ) (bytes : List ℕ) → IsFronted number bytes → AllByRecursion IsDigit bytes
-digits number bytes f = digits_by 0 bytes (sym (position_from-zero is_bad_byte bytes) ∙ f.key.clean) f.small
+digits : (number next : ℕ) (bytes : List ℕ) → IsFronted number next bytes → AllByRecursion IsDigit bytes
+digits number next bytes f = digits_by 0 bytes (sym (position_from-zero is_bad_byte bytes) ∙ f.key.clean) f.small
+
+-- so are those behind some of them
+digits_behind : (k : ℕ) (bytes : List ℕ) → AllByRecursion IsDigit bytes → AllByRecursion IsDigit (drop k bytes)
+digits_behind zero bytes d = d
+digits_behind (suc k) [] d = tt
+digits_behind (suc k) (x ∷ xs) d = digits_behind k xs d.1
 
 by_fronts : (a b : List ℕ) → AllByRecursion IsDigit a → AllByRecursion IsDigit b → slice_cmp nat_cmp a b ≡ ordering_then (nat_cmp (front_of a) (front_of b)) (slice_cmp nat_cmp (drop 8 a) (drop 8 b))
 unfolding front_of
@@ -93,12 +99,13 @@ all_in_front : (bytes : List ℕ) → AllByRecursion IsDigit bytes → front_of 
 unfolding front_of
 all_in_front bytes d e = ends 7 0 bytes d e
 
-module _ (p q : ℕ) (a b : List ℕ) (f : IsFronted p a) (g : IsFronted q b) where
+-- two lists by their fronts
+module _ (p q : ℕ) (a b : List ℕ) (d : AllByRecursion IsDigit a) (e : AllByRecursion IsDigit b) (f : p ≡ front_of a) (g : q ≡ front_of b) where
   fronts : slice_cmp nat_cmp a b ≡ ordering_then (nat_cmp p q) (slice_cmp nat_cmp (drop 8 a) (drop 8 b))
-  fronts = rw (f.front, g.front) (by_fronts a b (digits p a f) (digits q b g))
+  fronts = rw (f, g) (by_fronts a b d e)
 
-  pub fronts_decide : p ≢ q → nat_cmp p q ≡ slice_cmp nat_cmp a b
-  fronts_decide apart = sym (fronts ∙ first (ltb p q) refl)
+  front_decides : p ≢ q → nat_cmp p q ≡ slice_cmp nat_cmp a b
+  front_decides apart = sym (fronts ∙ first (ltb p q) refl)
     where
       second : q ≤ p → (more : Bool) → ltb q p ≡ more → ordering_then (nat_cmp p q) (slice_cmp nat_cmp (drop 8 a) (drop 8 b)) ≡ nat_cmp p q
       second le true t = rw (greater p q (ltb-true q p t)) refl
@@ -110,23 +117,52 @@ module _ (p q : ℕ) (a b : List ℕ) (f : IsFronted p a) (g : IsFronted q b) wh
       first true t = rw (less p q (ltb-true p q t)) refl
       first false t = second (ltb-false p q t) (ltb q p) refl
 
-  pub rest_decides : p ≡ q → slice_cmp nat_cmp (drop 8 a) (drop 8 b) ≡ slice_cmp nat_cmp a b
-  rest_decides same = sym (fronts ∙ at_equal)
+  behind_decides : p ≡ q → slice_cmp nat_cmp (drop 8 a) (drop 8 b) ≡ slice_cmp nat_cmp a b
+  behind_decides same = sym (fronts ∙ at_equal)
     where
       at_equal : ordering_then (nat_cmp p q) (slice_cmp nat_cmp (drop 8 a) (drop 8 b)) ≡ slice_cmp nat_cmp (drop 8 a) (drop 8 b)
       at_equal = subst (λ (z : ℕ). ordering_then (nat_cmp p z) (slice_cmp nat_cmp (drop 8 a) (drop 8 b)) ≡ slice_cmp nat_cmp (drop 8 a) (drop 8 b)) same (rw (equal p) refl)
 
-  nothing : (number : ℕ) (bytes : List ℕ) → IsFronted number bytes → number % 256 ≡ 0 → drop 8 bytes ≡ []
-  nothing number bytes h zero_at_end = all_in_front bytes (digits number bytes h) (ap (λ (z : ℕ). z % 256) (sym h.front) ∙ zero_at_end)
-
-  pub fronts_are_all : p ≡ q → p % 256 ≡ 0 → Equal ≡ slice_cmp nat_cmp a b
-  fronts_are_all same zero_at_end =
-      let left = nothing p a f zero_at_end in
-      let right = nothing q b g (ap (λ (z : ℕ). z % 256) (sym same) ∙ zero_at_end) in
-      empty left right ∙ rest_decides same
+  front_is_all : p ≡ q → p % 256 ≡ 0 → Equal ≡ slice_cmp nat_cmp a b
+  front_is_all same zero_at_end = empty left right ∙ behind_decides same
     where
+      left : drop 8 a ≡ []
+      left = all_in_front a d (ap (λ (z : ℕ). z % 256) (sym f) ∙ zero_at_end)
+
+      right : drop 8 b ≡ []
+      right = all_in_front b e (ap (λ (z : ℕ). z % 256) (sym g ∙ sym same) ∙ zero_at_end)
+
       empty : drop 8 a ≡ [] → drop 8 b ≡ [] → Equal ≡ slice_cmp nat_cmp (drop 8 a) (drop 8 b)
       empty left right = rw (left, right) refl
+
+-- two keys by both fronts of each
+module _ (p q r s : ℕ) (a b : List ℕ) (f : IsFronted p r a) (g : IsFronted q s b) where
+  a_digits : AllByRecursion IsDigit a
+  a_digits = digits p r a f
+
+  b_digits : AllByRecursion IsDigit b
+  b_digits = digits q s b g
+
+  a_behind : AllByRecursion IsDigit (drop 8 a)
+  a_behind = digits_behind 8 a a_digits
+
+  b_behind : AllByRecursion IsDigit (drop 8 b)
+  b_behind = digits_behind 8 b b_digits
+
+  pub first_decides : p ≢ q → nat_cmp p q ≡ slice_cmp nat_cmp a b
+  first_decides apart = front_decides p q a b a_digits b_digits f.first g.first apart
+
+  behind_first : p ≡ q → slice_cmp nat_cmp (drop 8 a) (drop 8 b) ≡ slice_cmp nat_cmp a b
+  behind_first same = behind_decides p q a b a_digits b_digits f.first g.first same
+
+  pub second_decides : p ≡ q → r ≢ s → nat_cmp r s ≡ slice_cmp nat_cmp a b
+  second_decides same apart = front_decides r s (drop 8 a) (drop 8 b) a_behind b_behind f.second g.second apart ∙ behind_first same
+
+  pub fronts_are_all : p ≡ q → r ≡ s → r % 256 ≡ 0 → Equal ≡ slice_cmp nat_cmp a b
+  fronts_are_all same alike zero_at_end = front_is_all r s (drop 8 a) (drop 8 b) a_behind b_behind f.second g.second alike zero_at_end ∙ behind_first same
+
+  pub rest_decides : p ≡ q → r ≡ s → slice_cmp nat_cmp (drop 8 (drop 8 a)) (drop 8 (drop 8 b)) ≡ slice_cmp nat_cmp a b
+  rest_decides same alike = behind_decides r s (drop 8 a) (drop 8 b) a_behind b_behind f.second g.second alike ∙ behind_first same
 
 -- ---- how a front is made
 none_added : (n : ℕ) → n ≡ n + 0

@@ -8,16 +8,19 @@ use crate::memory::Memory;
 use std::alloc::Global;
 use std::marker::Model;
 use std::sync::ArcSlice;
+use thiserror::Error;
 
 /// The greatest length of data, in bytes.
 pub const MAX_DATA_LEN: usize = 1_048_576;
 
 /// Why bytes are no data.
-#[derive(Clone, Copy, Debug, PartialEq, Eq)]
+#[derive(Clone, Copy, Debug, PartialEq, Eq, Error)]
 pub enum DataFault {
     /// An allocation was refused.
+    #[error("no memory")]
     Memory,
     /// There are more than 1,048,576 bytes, namely `len`.
+    #[error("data has {len} bytes, more than 1048576")]
     TooLarge { len: usize },
 }
 

@@ -1,6 +1,6 @@
 //! The keys of the store.
 
-ghost use Rattle.std.specs.Prelude.{◌≡◌, position, IfOk};
+ghost use Rattle.std.specs.Prelude.{◌≡◌, position, drop, IfOk};
 ghost use Rattle.hk_base.specs.KeyBytes.{is_bad_byte};
 ghost use Rattle.hk_base.specs.KeyFront.{front_of};
 
@@ -8,6 +8,7 @@ use crate::memory::Memory;
 use std::alloc::Global;
 use std::marker::Model;
 use std::sync::ArcSlice;
+use thiserror::Error;
 
 mod order;
 
@@ -15,15 +16,19 @@ mod order;
 pub const MAX_KEY_LEN: usize = 250;
 
 /// Why bytes are no key: the first test that they fail.
-#[derive(Clone, Copy, Debug, PartialEq, Eq)]
+#[derive(Clone, Copy, Debug, PartialEq, Eq, Error)]
 pub enum KeyFault {
     /// An allocation was refused.
+    #[error("no memory")]
     Memory,
     /// There is no byte.
+    #[error("a key has no bytes")]
     Empty,
     /// There are more than 250 bytes, namely `len`.
+    #[error("a key has {len} bytes, more than 250")]
     TooLong { len: usize },
     /// The byte at place `at`, counted from 0, is below `0x21` or is `0x7f`; it is the first such byte.
+    #[error("a key has a byte at {at} that no key has")]
     BadByte { at: usize },
 }
 
@@ -47,12 +52,23 @@ fn front_of(bytes: &[u8]) -> u64
     front
 }
 
+// The bytes behind the eighth.
+fn behind_front(bytes: &[u8]) -> &[u8]
+    ensures { result.now ≡ drop 8 bytes.now }
+{
+    match bytes.get(8..) {
+        Some(rest) => rest,
+        None => &[],
+    }
+}
+
 /// A key: 1 to 250 bytes, none below `0x21` and none `0x7f`, as memcached's `protocol.txt` has it.
 /// Contracts see its bytes. Keys are ordered as their bytes are, from the first on.
 #[derive(Drop)]
 pub struct Key {
-    // Its first eight bytes: most keys are ordered by them alone, with no look at memory elsewhere.
+    // Its first eight bytes, and the next eight: most keys are ordered by them alone, with no look at memory elsewhere.
     front: u64,
+    second: u64,
     bytes: ArcSlice<u8>,
 }
 
@@ -66,7 +82,7 @@ impl Model for Key {
 
     ghost view = { λ k. arc_slice_items k.bytes };
 
-    ghost invariant = { λ k. IsFronted k.front (arc_slice_items k.bytes) };
+    ghost invariant = { λ k. IsFronted k.front k.second (arc_slice_items k.bytes) };
 }
 
 impl Key {
@@ -87,8 +103,13 @@ impl Key {
             return Err(KeyFault::BadByte { at });
         }
         let front = front_of(bytes);
+        let second = front_of(behind_front(bytes));
         match ArcSlice::from_slice(alloc, bytes) {
-            Ok(bytes) => Ok(Key { front, bytes }),
+            Ok(bytes) => Ok(Key {
+                front,
+                second,
+                bytes,
+            }),
             Err(_) => Err(KeyFault::Memory),
         }
     }
@@ -108,6 +129,7 @@ impl Key {
         let bytes = self.bytes.clone()?;
         Ok(Key {
             front: self.front,
+            second: self.second,
             bytes,
         })
     }

@@ -8,13 +8,16 @@ use hk_base::{Answer, CallNo, Memory};
 use std::alloc::Global;
 use std::collections::BTreeMap;
 use std::marker::Model;
+use thiserror::Error;
 
 /// Why a completion was not kept. It comes back.
-#[derive(Debug, Drop)]
+#[derive(Debug, Drop, Error)]
 pub enum KeepFault<F> {
     /// An allocation was refused.
+    #[error("no memory")]
     Memory(F),
     /// The call has a completion already.
+    #[error("the call has a completion already")]
     Kept(F),
 }
 

@@ -9,13 +9,16 @@ use crate::rows::Rows;
 use hk_base::{CopyItem, Key, Memory};
 use std::alloc::Global;
 use std::marker::Model;
+use thiserror::Error;
 
 /// Why a row is not taken.
-#[derive(Clone, Copy, Debug, PartialEq, Eq)]
+#[derive(Clone, Copy, Debug, PartialEq, Eq, Error)]
 pub enum PushFault {
     /// An allocation was refused.
+    #[error("no memory")]
     Memory,
     /// Its key is not above the last one.
+    #[error("the key is not above the last one")]
     NotBehind,
 }
 

@@ -10,7 +10,7 @@ use Rattle.hk_outside.proofs.Streams.{consumes_more}
 use Rattle.hk_safety.specs.Run.{RunsAreLegal}
 use Rattle.hk_drill.specs.declared.stop.Stop.{Stop}
 use Rattle.hk_drill.specs.declared.stop.Stop.TheVariants.{Bad, Long, Lines, Letters}
-use Rattle.hk_drill.specs.Transcript.{Course, Followed, lines_of, behind, status_of, stop_text, script_from, followed, written, written_of, transcript, events_text}
+use Rattle.hk_drill.specs.Transcript.{DrillState, Outcome, lines_of, behind, status_of, stop_text, script_from, followed, written, written_of, transcript, events_text}
 use Rattle.hk_drill.specs.Progress.{HasFront, IsAt, HasStopped, IsAfter, Came, HasCome, IsCounted, further, ending}
 use Rattle.hk_drill.specs.Drilled.{EndsDrill, IsFront, HasTold, HasGone, IsDrilled}
 use Rattle.hk_drill.proofs.Following.{script_ends, follow_ends}
@@ -67,52 +67,52 @@ module _ (E : Type 0) (l0 l1 l2 : Option (List ℕ)) (g0 g1 g2 : Option (List (L
       })
 
 -- ---- the transcript of what has come
-transcript_is : (bytes : List ℕ) (f : Followed) → followed bytes ≡ f → transcript bytes ≡ written_of f
+transcript_is : (bytes : List ℕ) (f : Outcome) → followed bytes ≡ f → transcript bytes ≡ written_of f
 unfolding transcript
 transcript_is bytes f e = ap written_of e
 
-at_text : (bytes told part more : List ℕ) (n : ℕ) (course : Option Course) → IsAt bytes told n part course
-    → (transcript (bytes ++ more)).text ≡ told ++ (written_of (further n course (lines_of (part ++ more)))).text
-at_text bytes told part more n course at =
-    ap (λ t. t.text) (transcript_is (bytes ++ more) _ (followed_at bytes told part more n course at)) ∙ behind_text told (further n course (lines_of (part ++ more)))
+at_text : (bytes told part more : List ℕ) (n : ℕ) (state : Option DrillState) → IsAt bytes told n part state
+    → (transcript (bytes ++ more)).text ≡ told ++ (written_of (further n state (lines_of (part ++ more)))).text
+at_text bytes told part more n state at =
+    ap (λ t. t.text) (transcript_is (bytes ++ more) _ (followed_at bytes told part more n state at)) ∙ behind_text told (further n state (lines_of (part ++ more)))
 
-pub end_is : (bytes told part : List ℕ) (n : ℕ) (course : Option Course) → IsAt bytes told n part course → followed bytes ≡ behind told (further n course (lines_of part))
-end_is bytes told part n course at =
-    ap followed (sym (append-nil bytes)) ∙ followed_at bytes told part [] n course at ∙ ap (λ (p : List ℕ). behind told (further n course (lines_of p))) (append-nil part)
+pub end_is : (bytes told part : List ℕ) (n : ℕ) (state : Option DrillState) → IsAt bytes told n part state → followed bytes ≡ behind told (further n state (lines_of part))
+end_is bytes told part n state at =
+    ap followed (sym (append-nil bytes)) ∙ followed_at bytes told part [] n state at ∙ ap (λ (p : List ℕ). behind told (further n state (lines_of p))) (append-nil part)
 
-pub end_text : (bytes told part : List ℕ) (n : ℕ) (course : Option Course) → IsAt bytes told n part course → (transcript bytes).text ≡ told ++ (ending n part course).text
-end_text bytes told part n course at = ap (λ t. t.text) (transcript_is bytes _ (end_is bytes told part n course at)) ∙ behind_text told (further n course (lines_of part))
+pub end_text : (bytes told part : List ℕ) (n : ℕ) (state : Option DrillState) → IsAt bytes told n part state → (transcript bytes).text ≡ told ++ (ending n part state).text
+end_text bytes told part n state at = ap (λ t. t.text) (transcript_is bytes _ (end_is bytes told part n state at)) ∙ behind_text told (further n state (lines_of part))
 
-pub end_status : (bytes told part : List ℕ) (n : ℕ) (course : Option Course) → IsAt bytes told n part course → (transcript bytes).status ≡ (ending n part course).status
-end_status bytes told part n course at = ap (λ t. t.status) (transcript_is bytes _ (end_is bytes told part n course at)) ∙ behind_status told (further n course (lines_of part))
+pub end_status : (bytes told part : List ℕ) (n : ℕ) (state : Option DrillState) → IsAt bytes told n part state → (transcript bytes).status ≡ (ending n part state).status
+end_status bytes told part n state at = ap (λ t. t.status) (transcript_is bytes _ (end_is bytes told part n state at)) ∙ behind_status told (further n state (lines_of part))
 
 stop_is : (bytes told : List ℕ) (n : ℕ) (stop : Stop) → HasStopped bytes told n stop → (more : List ℕ)
     → transcript (bytes ++ more) ≡ record { status = status_of stop; text = told ++ stop_text n stop }
 unfolding transcript
 stop_is bytes told n stop stops more = at (followed (bytes ++ more)) (stops more).0 (stops more).1
   where
-    at : (f : Followed) → f.text ≡ told → f.stop ≡ Some (n, stop) → written f.text f.stop f.course ≡ record { status = status_of stop; text = told ++ stop_text n stop }
-    at f e is = ap (λ s. written f.text s f.course) is ∙ ap (λ (t : List ℕ). written t (Some (n, stop)) f.course) e
+    at : (f : Outcome) → f.text ≡ told → f.stop ≡ Some (n, stop) → written f.text f.stop f.state ≡ record { status = status_of stop; text = told ++ stop_text n stop }
+    at f e is = ap (λ s. written f.text s f.state) is ∙ ap (λ (t : List ℕ). written t (Some (n, stop)) f.state) e
 
 stop_here : (bytes told : List ℕ) (n : ℕ) (stop : Stop) → HasStopped bytes told n stop → transcript bytes ≡ record { status = status_of stop; text = told ++ stop_text n stop }
 stop_here bytes told n stop stops = ap transcript (sym (append-nil bytes)) ∙ stop_is bytes told n stop stops []
 
-after_text : (stop : Option Stop) (bytes told part : List ℕ) (n : ℕ) (course : Option Course) → IsAfter stop bytes told n part course → (more : List ℕ)
+after_text : (stop : Option Stop) (bytes told part : List ℕ) (n : ℕ) (state : Option DrillState) → IsAfter stop bytes told n part state → (more : List ℕ)
     → (rest : List ℕ) × ((transcript (bytes ++ more)).text ≡ told ++ rest)
-after_text None bytes told part n course at more = ((written_of (further n course (lines_of (part ++ more)))).text, at_text bytes told part more n course at)
-after_text (Some stop) bytes told part n course stops more = (stop_text n stop, ap (λ t. t.text) (stop_is bytes told n stop stops more))
+after_text None bytes told part n state at more = ((written_of (further n state (lines_of (part ++ more)))).text, at_text bytes told part more n state at)
+after_text (Some stop) bytes told part n state stops more = (stop_text n stop, ap (λ t. t.text) (stop_is bytes told n stop stops more))
 
 -- ---- fronts
 module _ (l l' : Option (List ℕ)) (g g' : Option (List (List ℕ))) (h h1 h' : Option (List ℕ)) where
   -- a part of what was told last was written
-  pub front_of : (stop : Option Stop) (read out text part : List ℕ) (n : ℕ) (course : Option Course) → Came l l' g g' read → Appends h h1 out → IsAfter stop read (out ++ text) n part course
+  pub front_of : (stop : Option Stop) (read out text part : List ℕ) (n : ℕ) (state : Option DrillState) → Came l l' g g' read → Appends h h1 out → IsAfter stop read (out ++ text) n part state
       → HasFront h1 h' text → IsFront l l' g g' h h'
-  front_of stop read out text part n course came put after front = record {
+  front_of stop read out text part n state came put after front = record {
     read = read;
     front = out ++ front.front;
     came = came;
     begins = λ more may.
-        let whole = after_text stop read (out ++ text) part n course after more in (
+        let whole = after_text stop read (out ++ text) part n state after more in (
           front.rest ++ whole.0,
           whole.1 ∙ ap (λ (t : List ℕ). (out ++ t) ++ whole.0) front.same ∙ ap (λ (t : List ℕ). t ++ whole.0) (sym (append_assoc out front.front front.rest))
               ∙ append_assoc (out ++ front.front) front.rest whole.0,
@@ -121,15 +121,15 @@ module _ (l l' : Option (List ℕ)) (g g' : Option (List (List ℕ))) (h h1 h' :
   }
 
   -- a part of the end was written
-  pub front_ending : (read out part : List ℕ) (n : ℕ) (course : Option Course) → Came l l' g g' read → HasRead l l' g g' read → Appends h h1 out → IsAt read out n part course
-      → HasFront h1 h' (ending n part course).text → IsFront l l' g g' h h'
-  front_ending read out part n course came all put at front = record {
+  pub front_ending : (read out part : List ℕ) (n : ℕ) (state : Option DrillState) → Came l l' g g' read → HasRead l l' g g' read → Appends h h1 out → IsAt read out n part state
+      → HasFront h1 h' (ending n part state).text → IsFront l l' g g' h h'
+  front_ending read out part n state came all put at front = record {
     read = read;
     front = out ++ front.front;
     came = came;
     begins = λ more may. (
       front.rest,
-      ap (λ (m : List ℕ). (transcript (read ++ m)).text) (may all) ∙ ap (λ (r : List ℕ). (transcript r).text) (append-nil read) ∙ end_text read out part n course at
+      ap (λ (m : List ℕ). (transcript (read ++ m)).text) (may all) ∙ ap (λ (r : List ℕ). (transcript r).text) (append-nil read) ∙ end_text read out part n state at
           ∙ ap (λ (t : List ℕ). out ++ t) front.same ∙ sym (append_assoc out front.front front.rest),
     );
     put = appends_more h h1 h' out front.front put front.put;
@@ -150,26 +150,26 @@ module _ (l l' : Option (List ℕ)) (g g' : Option (List (List ℕ))) (h h1 h' :
   }
 
 -- ---- one turn
-pub come_front : (stop : Option Stop) (l l' : Option (List ℕ)) (g g' : Option (List (List ℕ))) (h h' : Option (List ℕ)) (n : ℕ) (part : List ℕ) (course : Option Course)
-    → HasCome stop l l' g g' h h' n part course → IsFront l l' g g' h h'
-come_front stop l l' g g' h h' n part course come = record {
+pub come_front : (stop : Option Stop) (l l' : Option (List ℕ)) (g g' : Option (List (List ℕ))) (h h' : Option (List ℕ)) (n : ℕ) (part : List ℕ) (state : Option DrillState)
+    → HasCome stop l l' g g' h h' n part state → IsFront l l' g g' h h'
+come_front stop l l' g g' h h' n part state come = record {
   read = come.read;
   front = come.told;
   came = come.came;
-  begins = λ more may. after_text stop come.read come.told part n course come.after more;
+  begins = λ more may. after_text stop come.read come.told part n state come.after more;
   put = come.put;
 }
 
 -- where a script stands between two reads, after so many
-pub record Turning (turn : ℕ) (l l' : Option (List ℕ)) (g g' : Option (List (List ℕ))) (h h' : Option (List ℕ)) (n : ℕ) (part : List ℕ) (course : Option Course) (text : List ℕ) : Type 0 where
-  pub come : HasCome None l l' g g' h h' n part course
+pub record Turning (turn : ℕ) (l l' : Option (List ℕ)) (g g' : Option (List (List ℕ))) (h h' : Option (List ℕ)) (n : ℕ) (part : List ℕ) (state : Option DrillState) (text : List ℕ) : Type 0 where
+  pub come : HasCome None l l' g g' h h' n part state
   pub turns : turn ≤ length come.read
-  pub counted : IsCounted n course
+  pub counted : IsCounted n state
   pub written : text ≡ []
 
-pub turning_first : (l : Option (List ℕ)) (g : Option (List (List ℕ))) (h : Option (List ℕ)) (n : ℕ) (part : List ℕ) (course : Option Course) (text : List ℕ)
-    → IsAt [] [] n part course → IsCounted n course → text ≡ [] → Turning 0 l l g g h h n part course text
-turning_first l g h n part course text at counted empty = record {
+pub turning_first : (l : Option (List ℕ)) (g : Option (List (List ℕ))) (h : Option (List ℕ)) (n : ℕ) (part : List ℕ) (state : Option DrillState) (text : List ℕ)
+    → IsAt [] [] n part state → IsCounted n state → text ≡ [] → Turning 0 l l g g h h n part state text
+turning_first l g h n part state text at counted empty = record {
   come = record { read = []; told = []; came = came_none l g; put = appends_none h; after = at };
   turns = omega arith;
   counted = counted;
@@ -177,18 +177,18 @@ turning_first l g h n part course text at counted empty = record {
 }
 
 -- a script is read to its end within so many turns
-pub turns_few : (turn : ℕ) (l l' : Option (List ℕ)) (g g' : Option (List (List ℕ))) (h h' : Option (List ℕ)) (n : ℕ) (part : List ℕ) (course : Option Course) (text : List ℕ)
-    → Turning turn l l' g g' h h' n part course text → length part < 2 ^ 63 → turn < 2 ^ 64 - 1
-turns_few turn l l' g g' h h' n part course text is short =
+pub turns_few : (turn : ℕ) (l l' : Option (List ℕ)) (g g' : Option (List (List ℕ))) (h h' : Option (List ℕ)) (n : ℕ) (part : List ℕ) (state : Option DrillState) (text : List ℕ)
+    → Turning turn l l' g g' h h' n part state text → length part < 2 ^ 63 → turn < 2 ^ 64 - 1
+turns_few turn l l' g g' h h' n part state text is short =
     let few : length is.come.read ≤ n * 4097 + length part = is.come.after.few in
     let lines : n ≤ 1000001 = is.counted.within in
     let turns : turn ≤ length is.come.read = is.turns in
     omega (arith, few, lines, turns, short)
 
-module _ (E : Type 0) (turn : ℕ) (l l1 l2 : Option (List ℕ)) (g g1 g2 : Option (List (List ℕ))) (h h1 : Option (List ℕ)) (n : ℕ) (part : List ℕ) (course : Option Course) (text : List ℕ)
-    (is : Turning turn l l1 g g1 h h1 n part course text) (room : List ℕ) where
+module _ (E : Type 0) (turn : ℕ) (l l1 l2 : Option (List ℕ)) (g g1 g2 : Option (List (List ℕ))) (h h1 : Option (List ℕ)) (n : ℕ) (part : List ℕ) (state : Option DrillState) (text : List ℕ)
+    (is : Turning turn l l1 g g1 h h1 n part state text) (room : List ℕ) where
   -- the read failed
-  pub read_failed : (e : E) → Keeps l1 l2 → RecordsRead {E = E} g1 g2 (Err e) room → HasCome None l l2 g g2 h h1 n part course
+  pub read_failed : (e : E) → Keeps l1 l2 → RecordsRead {E = E} g1 g2 (Err e) room → HasCome None l l2 g g2 h h1 n part state
   read_failed e same recorded = record {
     read = is.come.read;
     told = is.come.told;
@@ -198,7 +198,7 @@ module _ (E : Type 0) (turn : ℕ) (l l1 l2 : Option (List ℕ)) (g g1 g2 : Opti
   }
 
   -- the read told the end
-  pub read_end : Consumes l1 l2 [] → IsAtEnd l2 → RecordsRead {E = E} g1 g2 (Ok 0) room → HasGone None l l2 g g2 h h1 n part course
+  pub read_end : Consumes l1 l2 [] → IsAtEnd l2 → RecordsRead {E = E} g1 g2 (Ok 0) room → HasGone None l l2 g g2 h h1 n part state
   read_end consumed end recorded = record {
     come = record {
       read = is.come.read;
@@ -221,22 +221,22 @@ module _ (E : Type 0) (turn : ℕ) (l l1 l2 : Option (List ℕ)) (g g1 g2 : Opti
       front = is.come.told;
       came = more_came;
       begins = λ more may.
-          let whole = after_text None is.come.read is.come.told part n course is.come.after (take count room ++ more) in
+          let whole = after_text None is.come.read is.come.told part n state is.come.after (take count room ++ more) in
           (whole.0, ap (λ (b : List ℕ). (transcript b).text) (append_assoc is.come.read (take count room) more) ∙ whole.1);
       put = is.come.put;
     }
 
-    module _ (stop : Option Stop) (n' : ℕ) (part' : List ℕ) (course' : Option Course) (text' : List ℕ)
-        (fed : (read out : List ℕ) → IsAt read (out ++ text) n part course → IsAfter stop (read ++ take count room) (out ++ text') n' part' course') where
-      now_after : IsAfter stop (is.come.read ++ take count room) (is.come.told ++ text') n' part' course'
+    module _ (stop : Option Stop) (n' : ℕ) (part' : List ℕ) (state' : Option DrillState) (text' : List ℕ)
+        (fed : (read out : List ℕ) → IsAt read (out ++ text) n part state → IsAfter stop (read ++ take count room) (out ++ text') n' part' state') where
+      now_after : IsAfter stop (is.come.read ++ take count room) (is.come.told ++ text') n' part' state'
       now_after = fed is.come.read is.come.told
-          (subst (λ (t : List ℕ). IsAt is.come.read t n part course) (sym (ap (λ (t : List ℕ). is.come.told ++ t) is.written ∙ append-nil is.come.told)) is.come.after)
+          (subst (λ (t : List ℕ). IsAt is.come.read t n part state) (sym (ap (λ (t : List ℕ). is.come.told ++ t) is.written ∙ append-nil is.come.told)) is.come.after)
 
       -- what was told could not be written
       pub unwritten_front : (h2 : Option (List ℕ)) → HasFront h1 h2 text' → IsFront l l2 g g2 h h2
-      unwritten_front h2 front = front_of l l2 g g2 h h1 h2 stop (is.come.read ++ take count room) is.come.told text' part' n' course' more_came is.come.put now_after front
+      unwritten_front h2 front = front_of l l2 g g2 h h1 h2 stop (is.come.read ++ take count room) is.come.told text' part' n' state' more_came is.come.put now_after front
 
-      pub come_on : (h2 : Option (List ℕ)) → Appends h1 h2 text' → HasCome stop l l2 g g2 h h2 n' part' course'
+      pub come_on : (h2 : Option (List ℕ)) → Appends h1 h2 text' → HasCome stop l l2 g g2 h h2 n' part' state'
       come_on h2 put = record {
         read = is.come.read ++ take count room;
         told = is.come.told ++ text';
@@ -245,14 +245,14 @@ module _ (E : Type 0) (turn : ℕ) (l l1 l2 : Option (List ℕ)) (g g1 g2 : Opti
         after = now_after;
       }
 
-      pub stop_met : (h2 : Option (List ℕ)) (s : Stop) → stop ≡ Some s → Appends h1 h2 text' → HasGone stop l l2 g g2 h h2 n' part' course'
+      pub stop_met : (h2 : Option (List ℕ)) (s : Stop) → stop ≡ Some s → Appends h1 h2 text' → HasGone stop l l2 g g2 h h2 n' part' state'
       stop_met h2 s e put = record { come = come_on h2 put; ended = λ none. absurd (some_none (sym e ∙ none)) }
         where
           some_none : ◌≡◌ {A = Option Stop} (Some s) None → ⊥
           some_none p = cc
 
-      pub turn_on : (h2 : Option (List ℕ)) (turn' : ℕ) (text'' : List ℕ) → stop ≡ None → Appends h1 h2 text' → turn' ≡ turn + 1 → 0 < count → count ≤ length room → IsCounted n' course' → text'' ≡ []
-          → Turning turn' l l2 g g2 h h2 n' part' course' text''
+      pub turn_on : (h2 : Option (List ℕ)) (turn' : ℕ) (text'' : List ℕ) → stop ≡ None → Appends h1 h2 text' → turn' ≡ turn + 1 → 0 < count → count ≤ length room → IsCounted n' state' → text'' ≡ []
+          → Turning turn' l l2 g g2 h h2 n' part' state' text''
       turn_on h2 turn' text'' e put next some within counted empty =
           let all : length (is.come.read ++ take count room) ≡ length is.come.read + length (take count room) = length-append is.come.read (take count room) in
           let taken : length (take count room) ≡ count = length-take-le count room within in
@@ -263,7 +263,7 @@ module _ (E : Type 0) (turn : ℕ) (l l1 l2 : Option (List ℕ)) (g g1 g2 : Opti
               told = is.come.told ++ text';
               came = more_came;
               put = appends_more h h1 h2 is.come.told text' is.come.put put;
-              after = subst (λ s. IsAfter s (is.come.read ++ take count room) (is.come.told ++ text') n' part' course') e now_after;
+              after = subst (λ s. IsAfter s (is.come.read ++ take count room) (is.come.told ++ text') n' part' state') e now_after;
             };
             turns = omega (arith, all, taken, turns, next, some);
             counted = counted;
@@ -277,9 +277,9 @@ status_ends Long = tt
 status_ends Lines = tt
 status_ends Letters = tt
 
-pub written_ends : (text : List ℕ) (stop : Option (ℕ × Stop)) (course : Option Course) → EndsDrill (written text stop course).status
-written_ends text None course = tt
-written_ends text (Some stop) course = status_ends stop.1
+pub written_ends : (text : List ℕ) (stop : Option (ℕ × Stop)) (state : Option DrillState) → EndsDrill (written text stop state).status
+written_ends text None state = tt
+written_ends text (Some stop) state = status_ends stop.1
 
 pub not_done : (stop : Stop) → status_of stop ≡ Done → ⊥
 not_done Bad e = cc
@@ -288,19 +288,19 @@ not_done Lines e = cc
 not_done Letters e = cc
 
 module _ (legal : RunsAreLegal) (l l' : Option (List ℕ)) (g g' : Option (List (List ℕ))) (h h1 h' : Option (List ℕ)) where
-  pub drilled_ending : (status : Status) (read out part : List ℕ) (n : ℕ) (course : Option Course) → Came l l' g g' read → HasRead l l' g g' read → Appends h h1 out → IsAt read out n part course
-      → Appends h1 h' (ending n part course).text → status ≡ (ending n part course).status → IsDrilled status l l' g g' h h'
-  drilled_ending status read out part n course came all put at more is = record {
+  pub drilled_ending : (status : Status) (read out part : List ℕ) (n : ℕ) (state : Option DrillState) → Came l l' g g' read → HasRead l l' g g' read → Appends h h1 out → IsAt read out n part state
+      → Appends h1 h' (ending n part state).text → status ≡ (ending n part state).status → IsDrilled status l l' g g' h h'
+  drilled_ending status read out part n state came all put at more is = record {
     stopped = record {
       read = read;
       came = came;
       decided = λ more may. ap (λ (m : List ℕ). transcript (read ++ m)) (may all) ∙ ap transcript (append-nil read);
-      status = end_status read out part n course at ∙ sym is;
+      status = end_status read out part n state at ∙ sym is;
       legal = told_legal legal read;
-      text = subst (Appends h h') (sym (end_text read out part n course at)) (appends_more h h1 h' out (ending n part course).text put more);
+      text = subst (Appends h h') (sym (end_text read out part n state at)) (appends_more h h1 h' out (ending n part state).text put more);
     };
     ended = λ e. all;
-    ends = subst EndsDrill (sym is) (written_ends (further n course (lines_of part)).text (further n course (lines_of part)).stop (further n course (lines_of part)).course);
+    ends = subst EndsDrill (sym is) (written_ends (further n state (lines_of part)).text (further n state (lines_of part)).stop (further n state (lines_of part)).state);
   }
 
   pub drilled_stop : (status : Status) (stop : Stop) (read out : List ℕ) (n : ℕ) → Came l l' g g' read → Appends h h1 out → HasStopped read out n stop
@@ -319,21 +319,21 @@ module _ (legal : RunsAreLegal) (l l' : Option (List ℕ)) (g g' : Option (List 
   }
 
 -- ---- a read that failed
-events_are : (bytes told part : List ℕ) (n : ℕ) (course : Option Course) (at : IsAt bytes told n part course) → told ≡ events_text at.lines
-events_are bytes told part n course at =
-    sym (ap (λ ls. (script_from 1 ls).text) (sym (append-nil at.lines)) ∙ ap (λ f. f.text) (at.goes []) ∙ ap (λ (t : List ℕ). told ++ t) (nothing_more n course) ∙ append-nil told)
+events_are : (bytes told part : List ℕ) (n : ℕ) (state : Option DrillState) (at : IsAt bytes told n part state) → told ≡ events_text at.lines
+events_are bytes told part n state at =
+    sym (ap (λ ls. (script_from 1 ls).text) (sym (append-nil at.lines)) ∙ ap (λ f. f.text) (at.goes []) ∙ ap (λ (t : List ℕ). told ++ t) (nothing_more n state) ∙ append-nil told)
   where
-    nothing_more : (n : ℕ) (course : Option Course) → (further n course []).text ≡ []
+    nothing_more : (n : ℕ) (state : Option DrillState) → (further n state []).text ≡ []
     nothing_more n None = ap (λ f. f.text) (script_ends n)
     nothing_more n (Some c) = ap (λ f. f.text) (follow_ends n c)
 
-pub cut_off : (l l' : Option (List ℕ)) (g g' : Option (List (List ℕ))) (h h' : Option (List ℕ)) (read told part : List ℕ) (n : ℕ) (course : Option Course) → Came l l' g g' read → Appends h h' told
-    → IsAt read told n part course → HasTold l l' g g' h h'
-cut_off l l' g g' h h' read told part n course came put at = record {
+pub cut_off : (l l' : Option (List ℕ)) (g g' : Option (List (List ℕ))) (h h' : Option (List ℕ)) (read told part : List ℕ) (n : ℕ) (state : Option DrillState) → Came l l' g g' read → Appends h h' told
+    → IsAt read told n part state → HasTold l l' g g' h h'
+cut_off l l' g g' h h' read told part n state came put at = record {
   read = read;
   lines = at.lines;
   part = part;
   came = came;
   cut = at.cut;
-  told = subst (Appends h h') (events_are read told part n course at) put;
+  told = subst (Appends h h') (events_are read told part n state at) put;
 }

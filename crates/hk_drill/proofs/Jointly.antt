@@ -6,7 +6,7 @@ use Rattle.hk_joint.specs.Joint.{joint_order}
 use Rattle.hk_joint.specs.Legal.{JointLegal, JointOrdersAreLegal}
 use Rattle.hk_drill.specs.declared.stop.Stop.{Stop}
 use Rattle.hk_drill.specs.declared.fault.Fault.{Fault}
-use Rattle.hk_drill.specs.Transcript.{Course, Followed, Transcript, lines_of, behind, status_of, stop_text, followed, written, transcript}
+use Rattle.hk_drill.specs.Transcript.{DrillState, Outcome, Transcript, lines_of, behind, status_of, stop_text, followed, written, transcript}
 use Rattle.hk_drill.specs.Progress.{HasFront, IsAt, HasStopped, IsRest, further}
 use Rattle.hk_drill.specs.Drilled.{EndsDrill, IsFront, IsExact, HasGone}
 use Rattle.hk_drill.specs.Together.{joint_told, joint_of, joint_transcript, IsJointFront, IsJoined}
@@ -16,22 +16,22 @@ use Rattle.hk_drill.proofs.Drilling.{end_is, status_ends, written_ends, not_done
 use Rattle.hk_drill.proofs.Answering.{IsTold, transcript_told}
 
 -- ---- what is written, by what was followed
-joint_is : (bytes : List ℕ) (f : Followed) → followed bytes ≡ f → joint_transcript bytes ≡ joint_of f
+joint_is : (bytes : List ℕ) (f : Outcome) → followed bytes ≡ f → joint_transcript bytes ≡ joint_of f
 unfolding joint_transcript
 joint_is bytes f e = ap joint_of e
 
 -- what the lines told has no part in it
-joint_behind : (text : List ℕ) (f : Followed) → joint_of (behind text f) ≡ joint_of f
-joint_behind text f = ap (λ (s : Status). let t : Transcript = record { status = s; text = joint_told f.stop f.course } in t) (behind_status text f)
+joint_behind : (text : List ℕ) (f : Outcome) → joint_of (behind text f) ≡ joint_of f
+joint_behind text f = ap (λ (s : Status). let t : Transcript = record { status = s; text = joint_told f.stop f.state } in t) (behind_status text f)
 
 abbrev pub joint_stop_of : ℕ → Stop → Transcript
 joint_stop_of n stop = record { status = status_of stop; text = stop_text n stop }
 
-joint_stop : (f : Followed) (n : ℕ) (stop : Stop) → f.stop ≡ Some (n, stop) → joint_of f ≡ joint_stop_of n stop
-joint_stop f n stop e = ap (λ (s : Option (ℕ × Stop)). let t : Transcript = record { status = (written f.text s f.course).status; text = joint_told s f.course } in t) e
+joint_stop : (f : Outcome) (n : ℕ) (stop : Stop) → f.stop ≡ Some (n, stop) → joint_of f ≡ joint_stop_of n stop
+joint_stop f n stop e = ap (λ (s : Option (ℕ × Stop)). let t : Transcript = record { status = (written f.text s f.state).status; text = joint_told s f.state } in t) e
 
-joint_end : (bytes told part : List ℕ) (n : ℕ) (course : Option Course) → IsAt bytes told n part course → joint_transcript bytes ≡ joint_of (further n course (lines_of part))
-joint_end bytes told part n course at = joint_is bytes _ (end_is bytes told part n course at) ∙ joint_behind told (further n course (lines_of part))
+joint_end : (bytes told part : List ℕ) (n : ℕ) (state : Option DrillState) → IsAt bytes told n part state → joint_transcript bytes ≡ joint_of (further n state (lines_of part))
+joint_end bytes told part n state at = joint_is bytes _ (end_is bytes told part n state at) ∙ joint_behind told (further n state (lines_of part))
 
 joint_stopped : (bytes told : List ℕ) (n : ℕ) (stop : Stop) → HasStopped bytes told n stop → (more : List ℕ) → joint_transcript (bytes ++ more) ≡ joint_stop_of n stop
 joint_stopped bytes told n stop stops more = joint_is (bytes ++ more) (followed (bytes ++ more)) refl ∙ joint_stop (followed (bytes ++ more)) n stop (stops more).1
@@ -43,24 +43,24 @@ joint_here bytes told n stop stops = ap joint_transcript (sym (append-nil bytes)
 some_same : (a b : Stop) → ◌≡◌ {A = Option Stop} (Some a) (Some b) → a ≡ b
 some_same a b p = cc
 
-pub rest_joint : (stop : Option Stop) (n m : ℕ) (part : List ℕ) (course next : Option Course) (before after : List ℕ) → stop ≡ None → IsRest stop n part course m next before after
-    → joint_of (further n course (lines_of part)) ≡ joint_of (further m next [])
-rest_joint None n m part course next before after e rest = ap joint_of rest.2 ∙ joint_behind rest.0 (further m next [])
-rest_joint (Some stop) n m part course next before after e rest = absurd (cc)
+pub rest_joint : (stop : Option Stop) (n m : ℕ) (part : List ℕ) (state next : Option DrillState) (before after : List ℕ) → stop ≡ None → IsRest stop n part state m next before after
+    → joint_of (further n state (lines_of part)) ≡ joint_of (further m next [])
+rest_joint None n m part state next before after e rest = ap joint_of rest.2 ∙ joint_behind rest.0 (further m next [])
+rest_joint (Some stop) n m part state next before after e rest = absurd (cc)
 
-pub rest_joint_stop : (stop : Option Stop) (s : Stop) (n m : ℕ) (part : List ℕ) (course next : Option Course) (before after : List ℕ) → stop ≡ Some s → IsRest stop n part course m next before after
-    → joint_of (further n course (lines_of part)) ≡ joint_stop_of m s
-rest_joint_stop None s n m part course next before after e rest = absurd (cc)
-rest_joint_stop (Some t) s n m part course next before after e rest =
-    joint_stop (further n course (lines_of part)) n t rest.3 ∙ ap (λ (k : ℕ). joint_stop_of k t) (sym rest.1) ∙ ap (joint_stop_of m) (some_same t s e)
+pub rest_joint_stop : (stop : Option Stop) (s : Stop) (n m : ℕ) (part : List ℕ) (state next : Option DrillState) (before after : List ℕ) → stop ≡ Some s → IsRest stop n part state m next before after
+    → joint_of (further n state (lines_of part)) ≡ joint_stop_of m s
+rest_joint_stop None s n m part state next before after e rest = absurd (cc)
+rest_joint_stop (Some t) s n m part state next before after e rest =
+    joint_stop (further n state (lines_of part)) n t rest.3 ∙ ap (λ (k : ℕ). joint_stop_of k t) (sym rest.1) ∙ ap (joint_stop_of m) (some_same t s e)
 
 -- ---- the end
-module _ (l l' k k' : Option (List ℕ)) (g g' : Option (List (List ℕ))) (h h' : Option (List ℕ)) (part : List ℕ) (n : ℕ) (course : Option Course) where
-  pub ending_joined : JointOrdersAreLegal → HasGone None l l' g g' k k' n part course → (r : Result Status Fault) → IfOk r (λ status. Appends h h' (joint_of (further n course (lines_of part))).text)
-      → IfOk r (λ status. status ≡ (joint_of (further n course (lines_of part))).status) → IfOk r (λ status. IsJoined status l l' g g' h h')
+module _ (l l' k k' : Option (List ℕ)) (g g' : Option (List (List ℕ))) (h h' : Option (List ℕ)) (part : List ℕ) (n : ℕ) (state : Option DrillState) where
+  pub ending_joined : JointOrdersAreLegal → HasGone None l l' g g' k k' n part state → (r : Result Status Fault) → IfOk r (λ status. Appends h h' (joint_of (further n state (lines_of part))).text)
+      → IfOk r (λ status. status ≡ (joint_of (further n state (lines_of part))).status) → IfOk r (λ status. IsJoined status l l' g g' h h')
   ending_joined legal gone (Ok status) put is =
       let read = gone.come.read in
-      let same = joint_end read gone.come.told part n course gone.come.after in
+      let same = joint_end read gone.come.told part n state gone.come.after in
       record {
         whole = record {
           read = read;
@@ -71,11 +71,11 @@ module _ (l l' k k' : Option (List ℕ)) (g g' : Option (List (List ℕ))) (h h'
           text = subst (Appends h h') (sym (ap (λ t. t.text) same)) put;
         };
         ended = λ e. gone.ended refl;
-        ends = subst EndsDrill (sym is) (written_ends (further n course (lines_of part)).text (further n course (lines_of part)).stop (further n course (lines_of part)).course);
+        ends = subst EndsDrill (sym is) (written_ends (further n state (lines_of part)).text (further n state (lines_of part)).stop (further n state (lines_of part)).state);
       }
   ending_joined legal gone (Err fault) put is = tt
 
-  pub ending_joint_front : HasGone None l l' g g' k k' n part course → HasFront h h' (joint_of (further n course (lines_of part))).text → IsJointFront l l' g g' h h'
+  pub ending_joint_front : HasGone None l l' g g' k k' n part state → HasFront h h' (joint_of (further n state (lines_of part))).text → IsJointFront l l' g g' h h'
   ending_joint_front gone front =
       let read = gone.come.read in
       record {
@@ -85,12 +85,12 @@ module _ (l l' k k' : Option (List ℕ)) (g g' : Option (List (List ℕ))) (h h'
         begins = λ more may. (
           front.rest,
           ap (λ (m : List ℕ). (joint_transcript (read ++ m)).text) (may (gone.ended refl)) ∙ ap (λ (r : List ℕ). (joint_transcript r).text) (append-nil read)
-              ∙ ap (λ t. t.text) (joint_end read gone.come.told part n course gone.come.after) ∙ front.same,
+              ∙ ap (λ t. t.text) (joint_end read gone.come.told part n state gone.come.after) ∙ front.same,
         );
         put = front.put;
       }
 
-  pub stop_joined : JointOrdersAreLegal → (s : Stop) → HasGone (Some s) l l' g g' k k' n part course → (r : Result Status Fault) → IfOk r (λ status. Appends h h' (stop_text n s))
+  pub stop_joined : JointOrdersAreLegal → (s : Stop) → HasGone (Some s) l l' g g' k k' n part state → (r : Result Status Fault) → IfOk r (λ status. Appends h h' (stop_text n s))
       → IfOk r (λ status. status ≡ status_of s) → IfOk r (λ status. IsJoined status l l' g g' h h')
   stop_joined legal s gone (Ok status) put is =
       let read = gone.come.read in
@@ -109,7 +109,7 @@ module _ (l l' k k' : Option (List ℕ)) (g g' : Option (List (List ℕ))) (h h'
       }
   stop_joined legal s gone (Err fault) put is = tt
 
-  pub stop_joint_front : (s : Stop) → HasGone (Some s) l l' g g' k k' n part course → HasFront h h' (stop_text n s) → IsJointFront l l' g g' h h'
+  pub stop_joint_front : (s : Stop) → HasGone (Some s) l l' g g' k k' n part state → HasFront h h' (stop_text n s) → IsJointFront l l' g g' h h'
   stop_joint_front s gone front = record {
     read = gone.come.read;
     front = front.front;

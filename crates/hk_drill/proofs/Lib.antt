@@ -1,6 +1,6 @@
 pub mod Reading
 pub mod Runs
-pub mod Courses
+pub mod DrillStates
 pub mod Cutting
 pub mod Following
 pub mod Progressing

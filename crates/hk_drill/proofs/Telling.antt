@@ -8,7 +8,7 @@ use Rattle.hk_drill.specs.declared.stop.Stop.{Stop}
 use Rattle.hk_drill.specs.declared.fault.Fault.{Fault}
 use Rattle.hk_drill.specs.declared.fault.Fault.TheVariants.{Memory, Read, Write}
 use Rattle.hk_drill.specs.Text.{key_text}
-use Rattle.hk_drill.specs.Transcript.{Course, Followed, behind, lines_of, keys_text, status_of, stop_text, written, written_of}
+use Rattle.hk_drill.specs.Transcript.{DrillState, Outcome, behind, lines_of, keys_text, status_of, stop_text, written, written_of}
 use Rattle.hk_drill.specs.Progress.{HasFront, IsRest, further, ending}
 use Rattle.hk_drill.specs.Drilled.{IsSinkFault}
 use Rattle.hk_drill.proofs.Cutting.{take_drop}
@@ -93,56 +93,56 @@ keys_done old now run keys left put e =
     appends_same old now put.done (keys_text run keys) (sym (append-nil put.done) ∙ ap (λ (l : List (List ℕ)). put.done ++ keys_text run l) (sym e) ∙ sym put.same) put.put
 
 -- ---- the end of a script
-written_behind : (text more : List ℕ) (stop : Option (ℕ × Stop)) (course : Option Course) → (written (text ++ more) stop course).text ≡ text ++ (written more stop course).text
-written_behind text more None course = append_assoc text more _
-written_behind text more (Some stop) course = append_assoc text more _
+written_behind : (text more : List ℕ) (stop : Option (ℕ × Stop)) (state : Option DrillState) → (written (text ++ more) stop state).text ≡ text ++ (written more stop state).text
+written_behind text more None state = append_assoc text more _
+written_behind text more (Some stop) state = append_assoc text more _
 
-written_status : (text more : List ℕ) (stop : Option (ℕ × Stop)) (course : Option Course) → (written text stop course).status ≡ (written more stop course).status
-written_status text more None course = refl
-written_status text more (Some stop) course = refl
+written_status : (text more : List ℕ) (stop : Option (ℕ × Stop)) (state : Option DrillState) → (written text stop state).status ≡ (written more stop state).status
+written_status text more None state = refl
+written_status text more (Some stop) state = refl
 
-pub behind_text : (text : List ℕ) (f : Followed) → (written_of (behind text f)).text ≡ text ++ (written_of f).text
-behind_text text f = written_behind text f.text f.stop f.course
+pub behind_text : (text : List ℕ) (f : Outcome) → (written_of (behind text f)).text ≡ text ++ (written_of f).text
+behind_text text f = written_behind text f.text f.stop f.state
 
-pub behind_status : (text : List ℕ) (f : Followed) → (written_of (behind text f)).status ≡ (written_of f).status
-behind_status text f = written_status (text ++ f.text) f.text f.stop f.course
+pub behind_status : (text : List ℕ) (f : Outcome) → (written_of (behind text f)).status ≡ (written_of f).status
+behind_status text f = written_status (text ++ f.text) f.text f.stop f.state
 
-pub stopped_text : (f : Followed) (told : List ℕ) (n : ℕ) (stop : Stop) → f.text ≡ told → f.stop ≡ Some (n, stop) → (written_of f).text ≡ told ++ stop_text n stop
-stopped_text f told n stop e is = ap (λ s. (written f.text s f.course).text) is ∙ ap (λ (t : List ℕ). t ++ stop_text n stop) e
+pub stopped_text : (f : Outcome) (told : List ℕ) (n : ℕ) (stop : Stop) → f.text ≡ told → f.stop ≡ Some (n, stop) → (written_of f).text ≡ told ++ stop_text n stop
+stopped_text f told n stop e is = ap (λ s. (written f.text s f.state).text) is ∙ ap (λ (t : List ℕ). t ++ stop_text n stop) e
 
-pub stopped_status : (f : Followed) (n : ℕ) (stop : Stop) → f.stop ≡ Some (n, stop) → (written_of f).status ≡ status_of stop
-stopped_status f n stop is = ap (λ s. (written f.text s f.course).status) is
+pub stopped_status : (f : Outcome) (n : ℕ) (stop : Stop) → f.stop ≡ Some (n, stop) → (written_of f).status ≡ status_of stop
+stopped_status f n stop is = ap (λ s. (written f.text s f.state).status) is
 
 -- ---- what a script tells behind which no line comes
-pub rest_text : (stop : Option Stop) (n m : ℕ) (part : List ℕ) (course next : Option Course) (before after : List ℕ) → stop ≡ None → before ≡ [] → IsRest stop n part course m next before after
-    → (ending n part course).text ≡ after ++ (written_of (further m next [])).text
-rest_text None n m part course next before after e empty rest =
+pub rest_text : (stop : Option Stop) (n m : ℕ) (part : List ℕ) (state next : Option DrillState) (before after : List ℕ) → stop ≡ None → before ≡ [] → IsRest stop n part state m next before after
+    → (ending n part state).text ≡ after ++ (written_of (further m next [])).text
+rest_text None n m part state next before after e empty rest =
     ap (λ f. (written_of f).text) rest.2 ∙ behind_text rest.0 (further m next [])
     ∙ ap (λ (t : List ℕ). t ++ (written_of (further m next [])).text) (sym (rest.1 ∙ ap (λ (t : List ℕ). t ++ rest.0) empty))
-rest_text (Some stop) n m part course next before after e empty rest = absurd (cc)
+rest_text (Some stop) n m part state next before after e empty rest = absurd (cc)
 
-pub rest_status : (stop : Option Stop) (n m : ℕ) (part : List ℕ) (course next : Option Course) (before after : List ℕ) → stop ≡ None → IsRest stop n part course m next before after
-    → (ending n part course).status ≡ (written_of (further m next [])).status
-rest_status None n m part course next before after e rest = ap (λ f. (written_of f).status) rest.2 ∙ behind_status rest.0 (further m next [])
-rest_status (Some stop) n m part course next before after e rest = absurd (cc)
+pub rest_status : (stop : Option Stop) (n m : ℕ) (part : List ℕ) (state next : Option DrillState) (before after : List ℕ) → stop ≡ None → IsRest stop n part state m next before after
+    → (ending n part state).status ≡ (written_of (further m next [])).status
+rest_status None n m part state next before after e rest = ap (λ f. (written_of f).status) rest.2 ∙ behind_status rest.0 (further m next [])
+rest_status (Some stop) n m part state next before after e rest = absurd (cc)
 
-pub rest_stop_text : (stop : Option Stop) (s : Stop) (n m : ℕ) (part : List ℕ) (course next : Option Course) (before after : List ℕ) → stop ≡ Some s → before ≡ [] → IsRest stop n part course m next before after
-    → (ending n part course).text ≡ after ++ stop_text m s
-rest_stop_text None s n m part course next before after e empty rest = absurd (cc)
-rest_stop_text (Some t) s n m part course next before after e empty rest =
+pub rest_stop_text : (stop : Option Stop) (s : Stop) (n m : ℕ) (part : List ℕ) (state next : Option DrillState) (before after : List ℕ) → stop ≡ Some s → before ≡ [] → IsRest stop n part state m next before after
+    → (ending n part state).text ≡ after ++ stop_text m s
+rest_stop_text None s n m part state next before after e empty rest = absurd (cc)
+rest_stop_text (Some t) s n m part state next before after e empty rest =
     let same : t ≡ s = some_same t s e in
-    stopped_text (further n course (lines_of part)) [] n t rest.2 rest.3
+    stopped_text (further n state (lines_of part)) [] n t rest.2 rest.3
     ∙ ap (λ k. stop_text k t) (sym rest.1) ∙ ap (stop_text m) same ∙ ap (λ (x : List ℕ). x ++ stop_text m s) (sym (rest.0 ∙ empty))
   where
     some_same : (a b : Stop) → ◌≡◌ {A = Option Stop} (Some a) (Some b) → a ≡ b
     some_same a b p = cc
 
-pub rest_stop_status : (stop : Option Stop) (s : Stop) (n m : ℕ) (part : List ℕ) (course next : Option Course) (before after : List ℕ) → stop ≡ Some s → IsRest stop n part course m next before after
-    → (ending n part course).status ≡ status_of s
-rest_stop_status None s n m part course next before after e rest = absurd (cc)
-rest_stop_status (Some t) s n m part course next before after e rest =
+pub rest_stop_status : (stop : Option Stop) (s : Stop) (n m : ℕ) (part : List ℕ) (state next : Option DrillState) (before after : List ℕ) → stop ≡ Some s → IsRest stop n part state m next before after
+    → (ending n part state).status ≡ status_of s
+rest_stop_status None s n m part state next before after e rest = absurd (cc)
+rest_stop_status (Some t) s n m part state next before after e rest =
     let same : t ≡ s = some_same t s e in
-    stopped_status (further n course (lines_of part)) n t rest.3 ∙ ap status_of same
+    stopped_status (further n state (lines_of part)) n t rest.3 ∙ ap status_of same
   where
     some_same : (a b : Stop) → ◌≡◌ {A = Option Stop} (Some a) (Some b) → a ≡ b
     some_same a b p = cc

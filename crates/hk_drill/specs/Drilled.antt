@@ -10,7 +10,7 @@ use Rattle.hk_safety.specs.Run.{RunState, history, printed}
 use Rattle.hk_drill.specs.declared.fault.Fault.{Fault}
 use Rattle.hk_drill.specs.declared.fault.Fault.TheVariants.{Memory, Read, Write}
 use Rattle.hk_drill.specs.declared.stop.Stop.{Stop}
-use Rattle.hk_drill.specs.Transcript.{Course, transcript, followed, events_text}
+use Rattle.hk_drill.specs.Transcript.{DrillState, transcript, followed, events_text}
 use Rattle.hk_drill.specs.Progress.{AreLines, Came, HasCome}
 
 -- the statuses with which a drill may end
@@ -39,7 +39,7 @@ pub record IsDone (told : Status) (left left' : Option (List ℕ)) (given given'
   pub input : List ℕ
   pub read : HasRead left left' given given' input
   pub status : (transcript input).status ≡ told
-  pub legal : IfSome (followed input).course (λ course. AllLegal course.run)
+  pub legal : IfSome (followed input).state (λ state. AllLegal state.run)
   pub text : Appends held held' (transcript input).text
 
 -- what may still come behind bytes that were read: nothing, where they are all
@@ -53,7 +53,7 @@ pub record IsStopped (told : Status) (left left' : Option (List ℕ)) (given giv
   pub came : Came left left' given given' read
   pub decided : (more : List ℕ) → MayFollow left left' given given' read more → transcript (read ++ more) ≡ transcript read
   pub status : (transcript read).status ≡ told
-  pub legal : IfSome (followed read).course (λ course. AllLegal course.run)
+  pub legal : IfSome (followed read).state (λ state. AllLegal state.run)
   pub text : Appends held held' (transcript read).text
 
 -- what was written is a front of the text of the transcript, whatever may still come behind what was read
@@ -80,8 +80,8 @@ pub record HasTold (left left' : Option (List ℕ)) (given given' : Option (List
 
 -- ---- how a drill comes to its end
 -- a script was followed to the end of its source, with nothing left to write, or to the line at which it stops
-pub record HasGone (stop : Option Stop) (left left' : Option (List ℕ)) (given given' : Option (List (List ℕ))) (held held' : Option (List ℕ)) (n : ℕ) (part : List ℕ) (course : Option Course) : Type 0 where
-  pub come : HasCome stop left left' given given' held held' n part course
+pub record HasGone (stop : Option Stop) (left left' : Option (List ℕ)) (given given' : Option (List (List ℕ))) (held held' : Option (List ℕ)) (n : ℕ) (part : List ℕ) (state : Option DrillState) : Type 0 where
+  pub come : HasCome stop left left' given given' held held' n part state
   pub ended : stop ≡ None → HasRead left left' given given' come.read
 
 -- a drill that found its transcript: it is done only where it read to the end

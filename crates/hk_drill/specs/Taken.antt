@@ -4,18 +4,18 @@ use Rattle.hk_world.specs.declared.shown.Shown.{Shown}
 use Rattle.hk_safety.specs.Run.{world_of}
 use Rattle.hk_drill.specs.declared.stop.Stop.{Stop}
 use Rattle.hk_drill.specs.declared.stop.Stop.TheVariants.{Letters}
-use Rattle.hk_drill.specs.declared.course.TheConstants.{MAX_LETTERS}
+use Rattle.hk_drill.specs.declared.drill_state.TheConstants.{MAX_LETTERS}
 use Rattle.hk_drill.specs.Text.{shown_text}
-use Rattle.hk_drill.specs.Transcript.{Course, Next}
+use Rattle.hk_drill.specs.Transcript.{DrillState, Next}
 
--- a course whose run has just made the event that showed this
-abbrev pub course_shown : Course → Shown → Result Next Stop
-course_shown c shown =
+-- a state whose run has just made the event that showed this
+abbrev pub state_shown : DrillState → Shown → Result Next Stop
+state_shown c shown =
     if nat_lt MAX_LETTERS (length (world_of c.run).letters) then Err Letters
-    else Ok (record { course = record { run = c.run; count = c.count + 1 }; text = shown_text (c.count + 1) shown })
+    else Ok (record { state = record { run = c.run; count = c.count + 1 }; text = shown_text (c.count + 1) shown })
 
--- the course behind the line, and its text behind what was told before; or why the script stops there, and then nothing was told
-abbrev pub IsTaken : Option Stop → Course → List ℕ → List ℕ → Result Next Stop → Type 0
-IsTaken None new before after (Ok next) = (next.course ≡ new) × (after ≡ before ++ next.text)
+-- the state behind the line, and its text behind what was told before; or why the script stops there, and then nothing was told
+abbrev pub IsTaken : Option Stop → DrillState → List ℕ → List ℕ → Result Next Stop → Type 0
+IsTaken None new before after (Ok next) = (next.state ≡ new) × (after ≡ before ++ next.text)
 IsTaken None new before after (Err stop) = ⊥
 IsTaken (Some stop) new before after made = (made ≡ Err stop) × (after ≡ before)

@@ -13,7 +13,7 @@ use Rattle.hk_joint.specs.Batch.{batches, calls_of}
 use Rattle.hk_joint.specs.Legal.{JointLegal}
 use Rattle.hk_drill.specs.declared.stop.Stop.{Stop}
 use Rattle.hk_drill.specs.Text.{order_text}
-use Rattle.hk_drill.specs.Transcript.{Course, Followed, Transcript, stop_text, counts_text, written_of, followed}
+use Rattle.hk_drill.specs.Transcript.{DrillState, Outcome, Transcript, stop_text, counts_text, written_of, followed}
 use Rattle.hk_drill.specs.Progress.{Came}
 use Rattle.hk_drill.specs.Drilled.{MayFollow, EndsDrill}
 
@@ -37,21 +37,21 @@ joined_text order batches = codes "joint" ++ order_text order ++ codes "\n" ++ t
 abbrev pub joint_lines : RunState → List ℕ
 joint_lines run = joined_text (entries_of (joint_order run)) (map calls_of (batches run))
 
-unfoldable pub joint_text : Course → List ℕ
+unfoldable pub joint_text : DrillState → List ℕ
 joint_text c = joint_lines c.run ++ counts_text c
 
 -- ---- a whole script
-abbrev pub joint_last : Option Course → List ℕ
+abbrev pub joint_last : Option DrillState → List ℕ
 joint_last None = []
 joint_last (Some c) = joint_text c
 
-abbrev pub joint_told : Option (ℕ × Stop) → Option Course → List ℕ
-joint_told None course = joint_last course
-joint_told (Some stop) course = stop_text stop.0 stop.1
+abbrev pub joint_told : Option (ℕ × Stop) → Option DrillState → List ℕ
+joint_told None state = joint_last state
+joint_told (Some stop) state = stop_text stop.0 stop.1
 
 -- the status is the transcript's
-abbrev pub joint_of : Followed → Transcript
-joint_of f = record { status = (written_of f).status; text = joint_told f.stop f.course }
+abbrev pub joint_of : Outcome → Transcript
+joint_of f = record { status = (written_of f).status; text = joint_told f.stop f.state }
 
 unfoldable pub joint_transcript : List ℕ → Transcript
 joint_transcript bytes = joint_of (followed bytes)
@@ -61,8 +61,8 @@ joint_transcript bytes = joint_of (followed bytes)
 -- tells that it holds; each before the call, and with a mark behind it.
 
 -- the joint order of the run that was followed is legal
-abbrev pub IsJointLegal : Option Course → Type 0
-IsJointLegal course = IfSome course (λ c. JointLegal c.run (joint_order c.run))
+abbrev pub IsJointLegal : Option DrillState → Type 0
+IsJointLegal state = IfSome state (λ c. JointLegal c.run (joint_order c.run))
 
 -- The source was read to its end, which no line kept from being followed; what was written is the joint order of the run of what was read, which is legal, its batches and the end
 -- line.
@@ -70,7 +70,7 @@ pub record IsJointDone (left left' : Option (List ℕ)) (given given' : Option (
   pub input : List ℕ
   pub read : HasRead left left' given given' input
   pub status : (joint_transcript input).status ≡ Done
-  pub legal : IsJointLegal (followed input).course
+  pub legal : IsJointLegal (followed input).state
   pub text : Appends held held' (joint_transcript input).text
 
 -- The bytes that were read decide what is written, whatever may still come: this is the status, and the text was written, whole.
@@ -79,7 +79,7 @@ pub record IsJointTold (told : Status) (left left' : Option (List ℕ)) (given g
   pub came : Came left left' given given' read
   pub decided : (more : List ℕ) → MayFollow left left' given given' read more → joint_transcript (read ++ more) ≡ joint_transcript read
   pub status : (joint_transcript read).status ≡ told
-  pub legal : IsJointLegal (followed read).course
+  pub legal : IsJointLegal (followed read).state
   pub text : Appends held held' (joint_transcript read).text
 
 -- what was written is a front of the text, whatever may still come behind what was read

@@ -13,7 +13,7 @@ use Rattle.hk_safety.specs.Push.{with_event}
 use Rattle.hk_drill.specs.declared.stop.Stop.{Stop}
 use Rattle.hk_drill.specs.declared.stop.Stop.TheVariants.{Bad, Long, Lines, Letters}
 use Rattle.hk_drill.specs.declared.line.TheConstants.{MAX_LINE_LEN, MAX_LINES}
-use Rattle.hk_drill.specs.declared.course.TheConstants.{MAX_LETTERS}
+use Rattle.hk_drill.specs.declared.drill_state.TheConstants.{MAX_LETTERS}
 use Rattle.hk_drill.specs.Text.{shown_text, refused_text, key_text, end_text}
 
 -- ---- lines
@@ -38,69 +38,69 @@ limit_at n line = if nat_lt MAX_LINES n then Some Lines else (if nat_lt MAX_LINE
 
 -- ---- events
 -- how far a script has come: the run of the events that were accepted, and how many event lines there were
-pub record Course : Type 0 where
+pub record DrillState : Type 0 where
   pub run : RunState
   pub count : ℕ
 
--- the course behind a line, and what the line told
+-- the state behind a line, and what the line told
 pub record Next : Type 0 where
-  pub course : Course
+  pub state : DrillState
   pub text : List ℕ
 
 -- an event that is refused counts, and is told; one that would send a letter too many is not made
-abbrev pub course_with : Course → Event → Result Accepted Refused → Result Next Stop
-course_with c event (Err refused) = Ok (record { course = record { run = c.run; count = c.count + 1 }; text = refused_text (c.count + 1) refused })
-course_with c event (Ok a) =
+abbrev pub state_with : DrillState → Event → Result Accepted Refused → Result Next Stop
+state_with c event (Err refused) = Ok (record { state = record { run = c.run; count = c.count + 1 }; text = refused_text (c.count + 1) refused })
+state_with c event (Ok a) =
     if nat_lt MAX_LETTERS (length a.world.letters) then Err Letters
-    else Ok (record { course = record { run = with_event c.run event; count = c.count + 1 }; text = shown_text (c.count + 1) a.shown })
+    else Ok (record { state = record { run = with_event c.run event; count = c.count + 1 }; text = shown_text (c.count + 1) a.shown })
 
-abbrev pub event_at : Course → Option Event → Result Next Stop
+abbrev pub event_at : DrillState → Option Event → Result Next Stop
 event_at c None = Err Bad
-event_at c (Some event) = course_with c event (world_step (world_of c.run) event)
+event_at c (Some event) = state_with c event (world_step (world_of c.run) event)
 
--- a line that says nothing leaves the course, and tells nothing
-abbrev pub read_at : Course → Option Stop → List ℕ → Result Next Stop
+-- a line that says nothing leaves the state, and tells nothing
+abbrev pub read_at : DrillState → Option Stop → List ℕ → Result Next Stop
 read_at c (Some stop) line = Err stop
-read_at c None line = if is_skipped line then Ok (record { course = c; text = [] }) else event_at c (event_of line)
+read_at c None line = if is_skipped line then Ok (record { state = c; text = [] }) else event_at c (event_of line)
 
-unfoldable pub line_at : ℕ → List ℕ → Course → Result Next Stop
+unfoldable pub line_at : ℕ → List ℕ → DrillState → Result Next Stop
 line_at n line c = read_at c (limit_at n line) line
 
 -- ---- a whole script
 -- how far a script was followed, which is nowhere without a header, what its lines told, and the line at which it stopped, if it did
-pub record Followed : Type 0 where
-  pub course : Option Course
+pub record Outcome : Type 0 where
+  pub state : Option DrillState
   pub text : List ℕ
   pub stop : Option (ℕ × Stop)
 
 -- what was told before stands in front
-abbrev pub behind : List ℕ → Followed → Followed
-behind text f = record { course = f.course; text = text ++ f.text; stop = f.stop }
+abbrev pub behind : List ℕ → Outcome → Outcome
+behind text f = record { state = f.state; text = text ++ f.text; stop = f.stop }
 
-abbrev pub stopped : Option Course → ℕ → Stop → Followed
-stopped course n stop = record { course = course; text = []; stop = Some (n, stop) }
+abbrev pub stopped : Option DrillState → ℕ → Stop → Outcome
+stopped state n stop = record { state = state; text = []; stop = Some (n, stop) }
 
 -- the lines from line n on
-unfoldable pub follow : ℕ → Course → List (List ℕ) → Followed
-follow n c [] = record { course = Some c; text = []; stop = None }
-follow n c (line ∷ lines) = elim (line_at n line c) [ Ok next ↦ behind next.text (follow (n + 1) next.course lines) | Err stop ↦ stopped (Some c) n stop ]
+unfoldable pub follow : ℕ → DrillState → List (List ℕ) → Outcome
+follow n c [] = record { state = Some c; text = []; stop = None }
+follow n c (line ∷ lines) = elim (line_at n line c) [ Ok next ↦ behind next.text (follow (n + 1) next.state lines) | Err stop ↦ stopped (Some c) n stop ]
 
-abbrev pub first_course : Header → Course
-first_course header = record { run = record { header = header; events = [] }; count = 0 }
+abbrev pub first_state : Header → DrillState
+first_state header = record { run = record { header = header; events = [] }; count = 0 }
 
-abbrev pub follow_under : ℕ → Option Header → List (List ℕ) → Followed
+abbrev pub follow_under : ℕ → Option Header → List (List ℕ) → Outcome
 follow_under n None lines = stopped None n Bad
-follow_under n (Some header) lines = follow (n + 1) (first_course header) lines
+follow_under n (Some header) lines = follow (n + 1) (first_state header) lines
 
 -- the first line that is not skipped is the header; a script without one is bad at the line behind its last
-unfoldable pub script_from : ℕ → List (List ℕ) → Followed
+unfoldable pub script_from : ℕ → List (List ℕ) → Outcome
 script_from n [] = stopped None n Bad
 script_from n (line ∷ lines) = elim (limit_at n line) [
   | None ↦ (if is_skipped line then script_from (n + 1) lines else follow_under n (header_of line) lines)
   | Some stop ↦ stopped None n stop
 ]
 
-abbrev pub followed : List ℕ → Followed
+abbrev pub followed : List ℕ → Outcome
 followed bytes = script_from 1 (lines_of bytes)
 
 -- ---- what is written
@@ -121,17 +121,17 @@ abbrev pub keys_text : RunState → List (List ℕ) → List ℕ
 keys_text run [] = []
 keys_text run (key ∷ keys) = key_text key (history run key) (printed run key) ++ keys_text run keys
 
--- the end line of a course
-unfoldable pub counts_text : Course → List ℕ
+-- the end line of a state
+unfoldable pub counts_text : DrillState → List ℕ
 counts_text c = end_text c.count (world_of c.run).calls (length (world_of c.run).letters)
 
 -- what a run that went to its end tells last: each key that a call named, in the order of their bytes, and the end line
-unfoldable pub course_text : Course → List ℕ
-course_text c = keys_text c.run (named c.run) ++ counts_text c
+unfoldable pub drill_text : DrillState → List ℕ
+drill_text c = keys_text c.run (named c.run) ++ counts_text c
 
-abbrev pub last_text : Option Course → List ℕ
+abbrev pub last_text : Option DrillState → List ℕ
 last_text None = []
-last_text (Some c) = course_text c
+last_text (Some c) = drill_text c
 
 -- a status and a text
 pub record Transcript : Type 0 where
@@ -139,12 +139,12 @@ pub record Transcript : Type 0 where
   pub text : List ℕ
 
 -- what the lines told, and behind it the line that tells the stop, or what the run tells last
-abbrev pub written : List ℕ → Option (ℕ × Stop) → Option Course → Transcript
-written text None course = record { status = Done; text = text ++ last_text course }
-written text (Some stop) course = record { status = status_of stop.1; text = text ++ stop_text stop.0 stop.1 }
+abbrev pub written : List ℕ → Option (ℕ × Stop) → Option DrillState → Transcript
+written text None state = record { status = Done; text = text ++ last_text state }
+written text (Some stop) state = record { status = status_of stop.1; text = text ++ stop_text stop.0 stop.1 }
 
-abbrev pub written_of : Followed → Transcript
-written_of f = written f.text f.stop f.course
+abbrev pub written_of : Outcome → Transcript
+written_of f = written f.text f.stop f.state
 
 unfoldable pub transcript : List ℕ → Transcript
 transcript bytes = written_of (followed bytes)

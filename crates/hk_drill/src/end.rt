@@ -4,12 +4,12 @@ ghost use Rattle.std.specs.Prelude.{◌≡◌, ◌++◌, ◌≤◌, [], IfOk, On
 ghost use Rattle.std.specs.Io.KnownBytes.{Appends};
 ghost use Rattle.hk_outside.specs.Causes.{Rose};
 ghost use Rattle.hk_drill.specs.Text.{key_text, end_text};
-ghost use Rattle.hk_drill.specs.Transcript.{stop_text, status_of, keys_text, counts_text, course_text, written_of};
+ghost use Rattle.hk_drill.specs.Transcript.{stop_text, status_of, keys_text, counts_text, drill_text, written_of};
 ghost use Rattle.hk_drill.specs.Progress.{HasNoFeed, HasFront, IsCounted, further, ending};
 ghost use Rattle.hk_drill.specs.Drilled.{IsSinkFault};
 ghost use Rattle.hk_safety.specs.Run.{history, printed, named};
 
-use crate::course::Course;
+use crate::drill_state::DrillState;
 use crate::fault::Fault;
 use crate::script::Script;
 use crate::stop::Stop;
@@ -87,28 +87,32 @@ fn write_keys<K: Sink>(alloc: Global, sink: &mut K, run: &LiveRun) -> Result<(),
 
 /// Writes the line with the numbers of events, calls and letters.
 #[tactic(auto, unfolding(crate::specs::Transcript::counts_text), using(crate::proofs::Telling::front_nothing))]
-pub(crate) fn write_end<K: Sink>(alloc: Global, sink: &mut K, course: &Course) -> Result<(), Fault>
-    ensures all { OnOk result (Appends (K.held sink.old) (K.held sink.new) (counts_text course.now)) }
-    ensures front { HasFront (K.held sink.old) (K.held sink.new) (counts_text course.now) }
+pub(crate) fn write_end<K: Sink>(
+    alloc: Global,
+    sink: &mut K,
+    state: &DrillState,
+) -> Result<(), Fault>
+    ensures all { OnOk result (Appends (K.held sink.old) (K.held sink.new) (counts_text state.now)) }
+    ensures front { HasFront (K.held sink.old) (K.held sink.new) (counts_text state.now) }
     ensures later { K.faults sink.old ≤ K.faults sink.new }
     ensures failed { IfErr result (IsSinkFault (K.faults sink.old) (K.faults sink.new)) }
 {
-    let world = course.run.live().world()?;
+    let world = state.run.live().world()?;
     let mut text = Vec::new(alloc);
-    put_end(&mut text, course.count, world.calls(), world.letters())?;
+    put_end(&mut text, state.count, world.calls(), world.letters())?;
     write_text(sink, text.as_slice())
 }
 
 // Writes what a run that went to its end tells last.
-#[tactic(auto, unfolding(crate::specs::Transcript::course_text), using(crate::proofs::Telling::front_longer, crate::proofs::Telling::front_behind, crate::proofs::Telling::appends_more, crate::proofs::Telling::faults_later))]
-fn write_course<K: Sink>(alloc: Global, sink: &mut K, course: &Course) -> Result<(), Fault>
-    ensures all { OnOk result (Appends (K.held sink.old) (K.held sink.new) (course_text course.now)) }
-    ensures front { HasFront (K.held sink.old) (K.held sink.new) (course_text course.now) }
+#[tactic(auto, unfolding(crate::specs::Transcript::drill_text), using(crate::proofs::Telling::front_longer, crate::proofs::Telling::front_behind, crate::proofs::Telling::appends_more, crate::proofs::Telling::faults_later))]
+fn write_state<K: Sink>(alloc: Global, sink: &mut K, state: &DrillState) -> Result<(), Fault>
+    ensures all { OnOk result (Appends (K.held sink.old) (K.held sink.new) (drill_text state.now)) }
+    ensures front { HasFront (K.held sink.old) (K.held sink.new) (drill_text state.now) }
     ensures later { K.faults sink.old ≤ K.faults sink.new }
     ensures failed { IfErr result (IsSinkFault (K.faults sink.old) (K.faults sink.new)) }
 {
-    write_keys(alloc, sink, course.run.live())?;
-    write_end(alloc, sink, course)
+    write_keys(alloc, sink, state.run.live())?;
+    write_end(alloc, sink, state)
 }
 
 /// Writes the line of a script that stops at this line, and answers its status.
@@ -137,18 +141,18 @@ fn write_last<K: Sink>(
     alloc: Global,
     sink: &mut K,
     number: u64,
-    course: &Option<Course>,
+    state: &Option<DrillState>,
 ) -> Result<Status, Fault>
-    ensures all { IfOk result (λ status. Appends (K.held sink.old) (K.held sink.new) (written_of (further number course.now [])).text) }
-    ensures status { IfOk result (λ status. status ≡ (written_of (further number course.now [])).status) }
-    ensures front { HasFront (K.held sink.old) (K.held sink.new) (written_of (further number course.now [])).text }
+    ensures all { IfOk result (λ status. Appends (K.held sink.old) (K.held sink.new) (written_of (further number state.now [])).text) }
+    ensures status { IfOk result (λ status. status ≡ (written_of (further number state.now [])).status) }
+    ensures front { HasFront (K.held sink.old) (K.held sink.new) (written_of (further number state.now [])).text }
     ensures later { K.faults sink.old ≤ K.faults sink.new }
     ensures failed { IfErr result (IsSinkFault (K.faults sink.old) (K.faults sink.new)) }
 {
-    match course {
+    match state {
         None => write_stop(alloc, sink, number, Stop::Bad),
-        Some(course) => {
-            write_course(alloc, sink, course)?;
+        Some(state) => {
+            write_state(alloc, sink, state)?;
             Ok(Status::Done)
         }
     }
@@ -160,19 +164,19 @@ pub(crate) fn finish<K: Sink>(
     sink: &mut K,
     script: &mut Script,
 ) -> Result<Status, Fault>
-    requires counted { IsCounted script.old.number script.old.course }
+    requires counted { IsCounted script.old.number script.old.state }
     requires part { HasNoFeed script.old.line.items }
     requires written { script.old.text.items ≡ [] }
-    ensures all { IfOk result (λ status. Appends (K.held sink.old) (K.held sink.new) (ending script.old.number script.old.line.items script.old.course).text) }
-    ensures status { IfOk result (λ status. status ≡ (ending script.old.number script.old.line.items script.old.course).status) }
-    ensures front { HasFront (K.held sink.old) (K.held sink.new) (ending script.old.number script.old.line.items script.old.course).text }
+    ensures all { IfOk result (λ status. Appends (K.held sink.old) (K.held sink.new) (ending script.old.number script.old.line.items script.old.state).text) }
+    ensures status { IfOk result (λ status. status ≡ (ending script.old.number script.old.line.items script.old.state).status) }
+    ensures front { HasFront (K.held sink.old) (K.held sink.new) (ending script.old.number script.old.line.items script.old.state).text }
     ensures later { K.faults sink.old ≤ K.faults sink.new }
     ensures failed { IfErr result (IsSinkFault (K.faults sink.old) (K.faults sink.new)) }
 {
     let stop = script.take_rest(alloc)?;
     write_text(sink, script.text.as_slice())?;
     match stop {
-        None => write_last(alloc, sink, script.number, &script.course),
+        None => write_last(alloc, sink, script.number, &script.state),
         Some(stop) => write_stop(alloc, sink, script.number, stop),
     }
 }

@@ -8,7 +8,7 @@
 //! `joint` follows a script in the same way, and writes at its end one order of the calls on all keys, and its batches.
 #![tactic(auto)]
 
-mod course;
+mod drill_state;
 mod end;
 mod fault;
 mod generate;
@@ -19,7 +19,7 @@ mod text;
 mod together;
 mod top;
 
-pub use course::MAX_LETTERS;
+pub use drill_state::MAX_LETTERS;
 pub use generate::generate as generate_run;
 pub use line::{MAX_LINE_LEN, MAX_LINES};
 pub use stop::Stop;

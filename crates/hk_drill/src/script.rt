@@ -4,7 +4,7 @@ ghost use Rattle.std.specs.Prelude.{◌≡◌, ◌+◌, ◌++◌, ◌≤◌, [],
 ghost use Rattle.hk_drill.specs.declared.line.TheConstants.{MAX_LINE_LEN};
 ghost use Rattle.hk_drill.specs.Progress.{HasNoFeed, IsAt, IsAfter, IsPassed, IsCounted, IsBegun, IsRest, begun_by, number_after, part_limit};
 
-use crate::course::Course;
+use crate::drill_state::DrillState;
 use crate::line::{is_skipped, limit_at};
 use crate::stop::Stop;
 use hk_base::Memory;
@@ -21,7 +21,7 @@ pub(crate) struct Script {
     /// What of that line has come.
     pub(crate) line: Vec<u8>,
     /// What the lines behind the header made; None before the header.
-    pub(crate) course: Option<Course>,
+    pub(crate) state: Option<DrillState>,
     /// What the lines told and is not written yet.
     pub(crate) text: Vec<u8>,
     /// Whether the batches of its run are noted.
@@ -33,10 +33,10 @@ fn begin(
     alloc: Global,
     line: &[u8],
     batched: bool,
-    course: &mut Option<Course>,
+    state: &mut Option<DrillState>,
 ) -> Result<Option<Stop>, Memory>
-    requires { course.old ≡ None }
-    ensures { IfOk result (λ stop. IsBegun stop course.new (begun_by line.now)) }
+    requires { state.old ≡ None }
+    ensures { IfOk result (λ stop. IsBegun stop state.new (begun_by line.now)) }
 {
     if is_skipped(line) {
         return Ok(None);
@@ -44,7 +44,7 @@ fn begin(
     let Ok(header) = read_header(line) else {
         return Ok(Some(Stop::Bad));
     };
-    *course = Some(Course::new(alloc, header, batched)?);
+    *state = Some(DrillState::new(alloc, header, batched)?);
     Ok(None)
 }
 
@@ -54,33 +54,33 @@ fn pass_line(
     number: u64,
     line: &[u8],
     batched: bool,
-    course: &mut Option<Course>,
+    state: &mut Option<DrillState>,
     text: &mut Vec<u8>,
 ) -> Result<Option<Stop>, Memory>
-    requires { IsCounted number course.old }
-    ensures passed { IfOk result (λ stop. IsPassed stop number line.now course.old course.new text.old.items text.new.items) }
-    ensures counted { IfOk result (λ stop. stop ≡ None → IsCounted (number + 1) course.new) }
+    requires { IsCounted number state.old }
+    ensures passed { IfOk result (λ stop. IsPassed stop number line.now state.old state.new text.old.items text.new.items) }
+    ensures counted { IfOk result (λ stop. stop ≡ None → IsCounted (number + 1) state.new) }
 {
     if let Some(stop) = limit_at(number, line) {
         return Ok(Some(stop));
     }
-    if let Some(course) = course {
-        return course.take_line(alloc, line, text);
+    if let Some(state) = state {
+        return state.take_line(alloc, line, text);
     }
-    begin(alloc, line, batched, course)
+    begin(alloc, line, batched, state)
 }
 
 impl Script {
     /// A script of which nothing has come. If it is `batched`, the batches of its run are noted.
     pub(crate) fn new(alloc: Global, batched: bool) -> Script
-        ensures at { IsAt [] [] result.number result.line.items result.course }
-        ensures counted { IsCounted result.number result.course }
+        ensures at { IsAt [] [] result.number result.line.items result.state }
+        ensures counted { IsCounted result.number result.state }
         ensures text { result.text.items ≡ [] }
     {
         Script {
             number: 1,
             line: Vec::new(alloc),
-            course: None,
+            state: None,
             text: Vec::new(alloc),
             batched,
         }
@@ -88,10 +88,10 @@ impl Script {
 
     // Takes the line that is being read.
     fn take_line(&mut self, alloc: Global, line: &[u8]) -> Result<Option<Stop>, Memory>
-        requires { IsCounted self.old.number self.old.course }
-        ensures passed { IfOk result (λ stop. IsPassed stop self.old.number line.now self.old.course self.new.course self.old.text.items self.new.text.items) }
+        requires { IsCounted self.old.number self.old.state }
+        ensures passed { IfOk result (λ stop. IsPassed stop self.old.number line.now self.old.state self.new.state self.old.text.items self.new.text.items) }
         ensures number { IfOk result (λ stop. self.new.number ≡ number_after stop self.old.number) }
-        ensures counted { IfOk result (λ stop. stop ≡ None → IsCounted self.new.number self.new.course) }
+        ensures counted { IfOk result (λ stop. stop ≡ None → IsCounted self.new.number self.new.state) }
         ensures line { self.new.line ≡ self.old.line }
     {
         let stop = pass_line(
@@ -99,7 +99,7 @@ impl Script {
             self.number,
             line,
             self.batched,
-            &mut self.course,
+            &mut self.state,
             &mut self.text,
         )?;
         if stop.is_none() {
@@ -110,10 +110,10 @@ impl Script {
 
     // Takes the line that is being read, whose last bytes and feed have come.
     fn end_line(&mut self, alloc: Global, last: &[u8]) -> Result<Option<Stop>, Memory>
-        requires { IsCounted self.old.number self.old.course }
-        ensures passed { IfOk result (λ stop. IsPassed stop self.old.number (self.old.line.items ++ last.now) self.old.course self.new.course self.old.text.items self.new.text.items) }
+        requires { IsCounted self.old.number self.old.state }
+        ensures passed { IfOk result (λ stop. IsPassed stop self.old.number (self.old.line.items ++ last.now) self.old.state self.new.state self.old.text.items self.new.text.items) }
         ensures number { IfOk result (λ stop. self.new.number ≡ number_after stop self.old.number) }
-        ensures counted { IfOk result (λ stop. stop ≡ None → IsCounted self.new.number self.new.course) }
+        ensures counted { IfOk result (λ stop. stop ≡ None → IsCounted self.new.number self.new.state) }
         ensures line { IfOk result (λ stop. self.new.line.items ≡ []) }
     {
         if self.line.is_empty() {
@@ -128,7 +128,7 @@ impl Script {
     fn keep(&mut self, part: &[u8]) -> Result<Option<Stop>, Memory>
         ensures line { IfOk result (λ stop. self.new.line.items ≡ self.old.line.items ++ part.now) }
         ensures limit { IfOk result (λ stop. stop ≡ part_limit self.old.number self.new.line.items) }
-        ensures same { (self.new.number ≡ self.old.number) × (self.new.course ≡ self.old.course) × (self.new.text ≡ self.old.text) }
+        ensures same { (self.new.number ≡ self.old.number) × (self.new.state ≡ self.old.state) × (self.new.text ≡ self.old.text) }
     {
         self.line.extend_from_slice(part)?;
         if self.line.is_empty() {
@@ -140,10 +140,10 @@ impl Script {
     /// Takes the next bytes, and tells why the script stops, if it does: at a line whose feed is among them, or at one that has begun
     /// and passes a limit.
     pub(crate) fn feed(&mut self, alloc: Global, piece: &[u8]) -> Result<Option<Stop>, Memory>
-        requires { IsCounted self.old.number self.old.course }
-        ensures after { IfOk result (λ stop. (read out : List ℕ) → IsAt read (out ++ self.old.text.items) self.old.number self.old.line.items self.old.course
-            → IsAfter stop (read ++ piece.now) (out ++ self.new.text.items) self.new.number self.new.line.items self.new.course) }
-        ensures counted { IfOk result (λ stop. stop ≡ None → IsCounted self.new.number self.new.course) }
+        requires { IsCounted self.old.number self.old.state }
+        ensures after { IfOk result (λ stop. (read out : List ℕ) → IsAt read (out ++ self.old.text.items) self.old.number self.old.line.items self.old.state
+            → IsAfter stop (read ++ piece.now) (out ++ self.new.text.items) self.new.number self.new.line.items self.new.state) }
+        ensures counted { IfOk result (λ stop. stop ≡ None → IsCounted self.new.number self.new.state) }
     {
         let mut at = 0;
         loop {
@@ -160,9 +160,9 @@ impl Script {
 
     /// Takes the part of a line that has come as the last line, if it has a byte.
     pub(crate) fn take_rest(&mut self, alloc: Global) -> Result<Option<Stop>, Memory>
-        requires counted { IsCounted self.old.number self.old.course }
+        requires counted { IsCounted self.old.number self.old.state }
         requires part { HasNoFeed self.old.line.items }
-        ensures { IfOk result (λ stop. IsRest stop self.old.number self.old.line.items self.old.course self.new.number self.new.course self.old.text.items self.new.text.items) }
+        ensures { IfOk result (λ stop. IsRest stop self.old.number self.old.line.items self.old.state self.new.number self.new.state self.old.text.items self.new.text.items) }
     {
         if self.line.is_empty() {
             return Ok(None);

@@ -8,7 +8,7 @@ ghost use Rattle.hk_drill.specs.Drilled.{EndsDrill, IsExact, IsSinkFault};
 ghost use Rattle.hk_drill.specs.Transcript.{lines_of};
 ghost use Rattle.hk_drill.specs.Together.{joint_lines, joint_text, joint_of, IsJointDone, IsJointTold, IsJointFront, IsJoined};
 
-use crate::course::Course;
+use crate::drill_state::DrillState;
 use crate::end::{write_end, write_stop, write_text};
 use crate::fault::Fault;
 use crate::script::Script;
@@ -62,14 +62,14 @@ fn write_order<K: Sink>(alloc: Global, sink: &mut K, run: &mut NotedRun) -> Resu
 
 // Writes what a run that went to its end tells.
 #[tactic(auto, unfolding(crate::specs::Together::joint_text), using(crate::proofs::Telling::front_longer, crate::proofs::Telling::front_behind, crate::proofs::Telling::appends_more, crate::proofs::Telling::faults_later))]
-fn write_joint<K: Sink>(alloc: Global, sink: &mut K, course: &mut Course) -> Result<(), Fault>
-    ensures all { OnOk result (Appends (K.held sink.old) (K.held sink.new) (joint_text course.old)) }
-    ensures front { HasFront (K.held sink.old) (K.held sink.new) (joint_text course.old) }
+fn write_joint<K: Sink>(alloc: Global, sink: &mut K, state: &mut DrillState) -> Result<(), Fault>
+    ensures all { OnOk result (Appends (K.held sink.old) (K.held sink.new) (joint_text state.old)) }
+    ensures front { HasFront (K.held sink.old) (K.held sink.new) (joint_text state.old) }
     ensures later { K.faults sink.old ≤ K.faults sink.new }
     ensures failed { IfErr result (IsSinkFault (K.faults sink.old) (K.faults sink.new)) }
 {
-    write_order(alloc, sink, &mut course.run)?;
-    write_end(alloc, sink, course)
+    write_order(alloc, sink, &mut state.run)?;
+    write_end(alloc, sink, state)
 }
 
 // Writes what a script tells that has no line `number`.
@@ -78,18 +78,18 @@ fn write_told<K: Sink>(
     alloc: Global,
     sink: &mut K,
     number: u64,
-    course: &mut Option<Course>,
+    state: &mut Option<DrillState>,
 ) -> Result<Status, Fault>
-    ensures all { IfOk result (λ status. Appends (K.held sink.old) (K.held sink.new) (joint_of (further number course.old [])).text) }
-    ensures status { IfOk result (λ status. status ≡ (joint_of (further number course.old [])).status) }
-    ensures front { HasFront (K.held sink.old) (K.held sink.new) (joint_of (further number course.old [])).text }
+    ensures all { IfOk result (λ status. Appends (K.held sink.old) (K.held sink.new) (joint_of (further number state.old [])).text) }
+    ensures status { IfOk result (λ status. status ≡ (joint_of (further number state.old [])).status) }
+    ensures front { HasFront (K.held sink.old) (K.held sink.new) (joint_of (further number state.old [])).text }
     ensures later { K.faults sink.old ≤ K.faults sink.new }
     ensures failed { IfErr result (IsSinkFault (K.faults sink.old) (K.faults sink.new)) }
 {
-    match course {
+    match state {
         None => write_stop(alloc, sink, number, Stop::Bad),
-        Some(course) => {
-            write_joint(alloc, sink, course)?;
+        Some(state) => {
+            write_joint(alloc, sink, state)?;
             Ok(Status::Done)
         }
     }
@@ -97,16 +97,16 @@ fn write_told<K: Sink>(
 
 // Takes what is left of a script behind whose bytes none comes, and writes what it tells.
 fn finish<K: Sink>(alloc: Global, sink: &mut K, script: &mut Script) -> Result<Status, Fault>
-    requires counted { IsCounted script.old.number script.old.course }
+    requires counted { IsCounted script.old.number script.old.state }
     requires part { HasNoFeed script.old.line.items }
-    ensures all { IfOk result (λ status. Appends (K.held sink.old) (K.held sink.new) (joint_of (further script.old.number script.old.course (lines_of script.old.line.items))).text) }
-    ensures status { IfOk result (λ status. status ≡ (joint_of (further script.old.number script.old.course (lines_of script.old.line.items))).status) }
-    ensures front { HasFront (K.held sink.old) (K.held sink.new) (joint_of (further script.old.number script.old.course (lines_of script.old.line.items))).text }
+    ensures all { IfOk result (λ status. Appends (K.held sink.old) (K.held sink.new) (joint_of (further script.old.number script.old.state (lines_of script.old.line.items))).text) }
+    ensures status { IfOk result (λ status. status ≡ (joint_of (further script.old.number script.old.state (lines_of script.old.line.items))).status) }
+    ensures front { HasFront (K.held sink.old) (K.held sink.new) (joint_of (further script.old.number script.old.state (lines_of script.old.line.items))).text }
     ensures later { K.faults sink.old ≤ K.faults sink.new }
     ensures failed { IfErr result (IsSinkFault (K.faults sink.old) (K.faults sink.new)) }
 {
     match script.take_rest(alloc)? {
-        None => write_told(alloc, sink, script.number, &mut script.course),
+        None => write_told(alloc, sink, script.number, &mut script.state),
         Some(stop) => write_stop(alloc, sink, script.number, stop),
     }
 }

@@ -23,11 +23,11 @@ pub(crate) fn follow<S: Source, K: Sink>(
     sink: &mut K,
     script: &mut Script,
 ) -> Result<Option<Stop>, Fault>
-    requires at { IsAt [] [] script.old.number script.old.line.items script.old.course }
-    requires counted { IsCounted script.old.number script.old.course }
+    requires at { IsAt [] [] script.old.number script.old.line.items script.old.state }
+    requires counted { IsCounted script.old.number script.old.state }
     requires text { script.old.text.items ≡ [] }
-    ensures gone { IfOk result (λ stop. HasGone stop (S.left source.old) (S.left source.new) (S.given source.old) (S.given source.new) (K.held sink.old) (K.held sink.new) script.new.number script.new.line.items script.new.course) }
-    ensures ended { IfOk result (λ stop. stop ≡ None → IsCounted script.new.number script.new.course × (script.new.text.items ≡ [])) }
+    ensures gone { IfOk result (λ stop. HasGone stop (S.left source.old) (S.left source.new) (S.given source.old) (S.given source.new) (K.held sink.old) (K.held sink.new) script.new.number script.new.line.items script.new.state) }
+    ensures ended { IfOk result (λ stop. stop ≡ None → IsCounted script.new.number script.new.state × (script.new.text.items ≡ [])) }
     ensures front { IsFront (S.left source.old) (S.left source.new) (S.given source.old) (S.given source.new) (K.held sink.old) (K.held sink.new) }
     ensures cut_off { result ≡ Err Fault.Read → HasTold (S.left source.old) (S.left source.new) (S.given source.old) (S.given source.new) (K.held sink.old) (K.held sink.new) }
     ensures read_fault { result ≡ Err Fault.Read → Rose (S.faults source.old) (S.faults source.new) }

@@ -9,9 +9,11 @@ use hk_base::{Memory, NodeId, View};
 use std::alloc::Global;
 use std::collections::BTreeMap;
 use std::marker::Model;
+use thiserror::Error;
 
 /// A lease of a node outside a view that may still run.
-#[derive(Clone, Copy, Debug, PartialEq, Eq)]
+#[derive(Clone, Copy, Debug, PartialEq, Eq, Error)]
+#[error("a lease of node {} may run to {end}", .node.0)]
 pub struct NotPast {
     pub node: NodeId,
     /// The greatest until that was noted for it, in milliseconds on the manager's clock.

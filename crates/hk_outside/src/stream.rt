@@ -6,8 +6,11 @@ ghost use Rattle.std.specs.Io.KnownBytes.{Appends, ReadConsumes, WriteAppends};
 ghost use Rattle.hk_outside.specs.Causes.{HasCause, Rose};
 ghost use Rattle.hk_outside.specs.Records.{RecordsRead};
 
+use thiserror::Error;
+
 /// The outside failed. The count of faults of the object that was called has risen.
-#[derive(Clone, Copy, Debug, PartialEq, Eq)]
+#[derive(Clone, Copy, Debug, PartialEq, Eq, Error)]
+#[error("a call of the outside failed")]
 pub struct Failed;
 
 /// Gives bytes until its end.

@@ -12,15 +12,19 @@ use crate::reply::{Item, Reply, ValueItems};
 use crate::scan::{Stop, Tail, data, key, literal, number};
 use hk_base::{Data, Key, MAX_DATA_LEN};
 use std::alloc::Global;
+use thiserror::Error;
 
 /// Why bytes are no reply.
-#[derive(Clone, Copy, Debug, PartialEq, Eq)]
+#[derive(Clone, Copy, Debug, PartialEq, Eq, Error)]
 pub enum ReplyFault {
     /// An allocation was refused.
+    #[error("no memory")]
     Memory,
     /// The bytes are less than a whole reply, and some reply goes on from them.
+    #[error("more bytes are wanted")]
     Need,
     /// No reply goes on with the byte at place `at`, counted from 0; one does up to it.
+    #[error("no reply goes on at {at}")]
     Bad { at: usize },
 }
 

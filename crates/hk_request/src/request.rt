@@ -1,6 +1,7 @@
 //! Requests, heads of stores, and why a line is neither.
 
 use hk_base::{Key, Op, Sequence};
+use thiserror::Error;
 
 /// The keys of a get, in the order of its line.
 pub type Keys = Sequence<Key>;
@@ -51,26 +52,34 @@ pub enum Head {
 
 /// Why a line is refused. It is the first fault: an unknown command, then a wrong count of words, and then the words
 /// from the second on, one after the other.
-#[derive(Clone, Copy, Debug, PartialEq, Eq)]
+#[derive(Clone, Copy, Debug, PartialEq, Eq, Error)]
 pub enum RequestCause {
     /// An allocation was refused.
+    #[error("no memory")]
     Memory,
     /// There is no word, or the first is no command.
+    #[error("the first word is no command")]
     Unknown,
     /// A key has no byte, more than 250, or one that no key has.
+    #[error("a key is none")]
     BadKey,
     /// The word at this place, the command being 1, is no number, or one that is too great for its type.
+    #[error("word {word} is no number")]
     BadNumber { word: u8 },
     /// There are too few words or too many, or the word behind the last that must be there is not `noreply`.
+    #[error("there are too few words or too many")]
     WrongCount,
     /// The data would be longer than 1,048,576 bytes, namely `bytes`.
+    #[error("the data would have {bytes} bytes, more than 1048576")]
     TooLarge { bytes: u32 },
     /// The time of expiry is not 0.
+    #[error("a time of expiry is not kept")]
     Expiry,
 }
 
 /// A refused line.
-#[derive(Clone, Copy, Debug, PartialEq, Eq)]
+#[derive(Clone, Copy, Debug, PartialEq, Eq, Error)]
+#[error("{cause}; {skip} bytes are passed over")]
 pub struct RequestFault {
     pub cause: RequestCause,
     /// How many bytes come behind the line that belong to it, and are to be dropped.
@@ -78,10 +87,12 @@ pub struct RequestFault {
 }
 
 /// Why a block is refused.
-#[derive(Clone, Copy, Debug, PartialEq, Eq)]
+#[derive(Clone, Copy, Debug, PartialEq, Eq, Error)]
 pub enum BlockFault {
     /// An allocation was refused.
+    #[error("no memory")]
     Memory,
     /// It does not end in a carriage return and a line feed.
+    #[error("the block does not end as it must")]
     BadEnd,
 }

@@ -13,13 +13,16 @@ use std::alloc::Global;
 use std::collections::HashMap;
 use std::marker::Model;
 use std::sync::Wait;
+use thiserror::Error;
 
 /// Why a watch was not kept. Its watcher comes back.
-#[derive(Debug, Drop)]
+#[derive(Debug, Drop, Error)]
 pub enum WatchFault<F> {
     /// An allocation was refused.
+    #[error("no memory")]
     Memory(F),
     /// A watch of this number is kept already.
+    #[error("a watch of this number is kept already")]
     Kept(F),
 }
 

@@ -1,23 +1,13 @@
 //! The order of keys: as their bytes are, from the first on.
 
-ghost use Rattle.std.specs.Prelude.{◌≡◌, drop, refl, Some};
+ghost use Rattle.std.specs.Prelude.{refl, Some};
 ghost use Rattle.std.specs.Ordering.{nat_cmp};
 ghost use Rattle.std.specs.Cmp.Lexicographic.{pointwise, slice_cmp, nat_list_eq_equiv, nat_list_cmp_total, texts_ties, texts_po};
 ghost use Rattle.std.specs.Cmp.{partial_equiv_from_equiv};
 ghost use Rattle.std.specs.Prelude.{nat_eq};
 
-use super::Key;
+use super::{Key, behind_front};
 use std::cmp::Ordering;
-
-// The bytes behind the eighth.
-fn behind_front(bytes: &[u8]) -> &[u8]
-    ensures { result.now ≡ drop 8 bytes.now }
-{
-    match bytes.get(8..) {
-        Some(rest) => rest,
-        None => &[],
-    }
-}
 
 impl PartialEq for Key {
     ghost eq = { pointwise nat_eq };
@@ -57,9 +47,13 @@ impl Ord for Key {
         if self.front != other.front {
             return self.front.cmp(&other.front);
         }
-        if self.front % 256 == 0 {
+        if self.second != other.second {
+            return self.second.cmp(&other.second);
+        }
+        if self.second % 256 == 0 {
             return Ordering::Equal;
         }
-        behind_front(self.bytes()).cmp(behind_front(other.bytes()))
+        let rest = behind_front(behind_front(self.bytes()));
+        rest.cmp(behind_front(behind_front(other.bytes())))
     }
 }

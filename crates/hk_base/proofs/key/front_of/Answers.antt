@@ -1,5 +1,4 @@
-use Rattle.std.proofs.Common.{◌≡◌, ◌∙◌, ℕ, ◌<◌, ◌*◌, ◌+◌, ◌^◌, sym, arith, rules, slice_index, Fits, w64}
-use Rattle.std.specs.Option.{unwrap_or}
+use Rattle.std.proofs.Common.{◌≡◌, ◌∙◌, ◌<◌, ◌*◌, ◌+◌, ◌^◌, arith, rules, slice_index}
 use Rattle.hk_base.proofs.Fronts.{next_digit, room_for_digit, within_64_bits}
 use Rattle.hk_base.proofs.key.front_of.Goals as goal
 

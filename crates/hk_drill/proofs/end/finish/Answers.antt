@@ -10,7 +10,7 @@ returns-in_err-write_text-clause-front g c =
     let s = c.args.script.now in
     let t = c.take_rest.new.self in
     let same : c.as_slice.result.now ≡ t.text.items = search rules in
-    rest_front c.in_ok-stop.stop (g.K.Sink.held c.args.sink.now) (g.K.Sink.held c.write_text.new.sink) s.number t.number s.line.items s.course t.course s.text.items t.text.items c.requires.written c.in_ok-stop.ensures
+    rest_front c.in_ok-stop.stop (g.K.Sink.held c.args.sink.now) (g.K.Sink.held c.write_text.new.sink) s.number t.number s.line.items s.state t.state s.text.items t.text.items c.requires.written c.in_ok-stop.ensures
     (front_same (g.K.Sink.held c.args.sink.now) (g.K.Sink.held c.write_text.new.sink) c.as_slice.result.now t.text.items same c.write_text.ensures.front)
 
 pub returns-in-None-clause-front : goal.returns-in-None-clause-front
@@ -19,7 +19,7 @@ returns-in-None-clause-front g c =
     let t = c.take_rest.new.self in
     let same : c.as_slice.result.now ≡ t.text.items = search rules in
     let none : c.in_ok-stop.stop ≡ None = c.in-None.is in
-    more_front (g.K.Sink.held c.args.sink.now) (g.K.Sink.held c.write_text.new.sink) (g.K.Sink.held c.write_last.new.sink) (ending s.number s.line.items s.course).text t.text.items (written_of (further t.number t.course [])).text
-    (rest_text c.in_ok-stop.stop s.number t.number s.line.items s.course t.course s.text.items t.text.items none c.requires.written c.in_ok-stop.ensures)
+    more_front (g.K.Sink.held c.args.sink.now) (g.K.Sink.held c.write_text.new.sink) (g.K.Sink.held c.write_last.new.sink) (ending s.number s.line.items s.state).text t.text.items (written_of (further t.number t.state [])).text
+    (rest_text c.in_ok-stop.stop s.number t.number s.line.items s.state t.state s.text.items t.text.items none c.requires.written c.in_ok-stop.ensures)
     (appends_same (g.K.Sink.held c.args.sink.now) (g.K.Sink.held c.write_text.new.sink) c.as_slice.result.now t.text.items same c.in_ok-write_text.ensures.all)
     c.write_last.ensures.front

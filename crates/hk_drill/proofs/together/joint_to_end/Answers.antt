@@ -13,30 +13,30 @@ pub returns-in-None-clause-joined : goal.returns-in-None-clause-joined
 returns-in-None-clause-joined g c =
     let s = c.follow.new.script in
     ending_joined (g.S.Source.left c.args.source.now) (g.S.Source.left c.follow.new.source) None None (g.S.Source.given c.args.source.now) (g.S.Source.given c.follow.new.source)
-    (g.K.Sink.held c.args.sink.now) (g.K.Sink.held c.finish.new.sink) s.line.items s.number s.course c.joint_orders_are_legal.ensures
-    (subst (λ (stop : Option Stop). HasGone stop (g.S.Source.left c.args.source.now) (g.S.Source.left c.follow.new.source) (g.S.Source.given c.args.source.now) (g.S.Source.given c.follow.new.source) None None s.number s.line.items s.course) c.in-None.is c.in_ok-follow.ensures.gone)
+    (g.K.Sink.held c.args.sink.now) (g.K.Sink.held c.finish.new.sink) s.line.items s.number s.state c.joint_orders_are_legal.ensures
+    (subst (λ (stop : Option Stop). HasGone stop (g.S.Source.left c.args.source.now) (g.S.Source.left c.follow.new.source) (g.S.Source.given c.args.source.now) (g.S.Source.given c.follow.new.source) None None s.number s.line.items s.state) c.in-None.is c.in_ok-follow.ensures.gone)
     c.finish.result c.finish.ensures.all c.finish.ensures.status
 
 pub returns-in-None-clause-front : goal.returns-in-None-clause-front
 returns-in-None-clause-front g c =
     let s = c.follow.new.script in
     ending_joint_front (g.S.Source.left c.args.source.now) (g.S.Source.left c.follow.new.source) None None (g.S.Source.given c.args.source.now) (g.S.Source.given c.follow.new.source)
-    (g.K.Sink.held c.args.sink.now) (g.K.Sink.held c.finish.new.sink) s.line.items s.number s.course
-    (subst (λ (stop : Option Stop). HasGone stop (g.S.Source.left c.args.source.now) (g.S.Source.left c.follow.new.source) (g.S.Source.given c.args.source.now) (g.S.Source.given c.follow.new.source) None None s.number s.line.items s.course) c.in-None.is c.in_ok-follow.ensures.gone)
+    (g.K.Sink.held c.args.sink.now) (g.K.Sink.held c.finish.new.sink) s.line.items s.number s.state
+    (subst (λ (stop : Option Stop). HasGone stop (g.S.Source.left c.args.source.now) (g.S.Source.left c.follow.new.source) (g.S.Source.given c.args.source.now) (g.S.Source.given c.follow.new.source) None None s.number s.line.items s.state) c.in-None.is c.in_ok-follow.ensures.gone)
     c.finish.ensures.front
 
 pub returns-clause-joined : goal.returns-clause-joined
 returns-clause-joined g c =
     let s = c.follow.new.script in
     stop_joined (g.S.Source.left c.args.source.now) (g.S.Source.left c.follow.new.source) None None (g.S.Source.given c.args.source.now) (g.S.Source.given c.follow.new.source)
-    (g.K.Sink.held c.args.sink.now) (g.K.Sink.held c.write_stop.new.sink) s.line.items s.number s.course c.joint_orders_are_legal.ensures c.in-Some.stop
-    (subst (λ (stop : Option Stop). HasGone stop (g.S.Source.left c.args.source.now) (g.S.Source.left c.follow.new.source) (g.S.Source.given c.args.source.now) (g.S.Source.given c.follow.new.source) None None s.number s.line.items s.course) c.in-Some.is c.in_ok-follow.ensures.gone)
+    (g.K.Sink.held c.args.sink.now) (g.K.Sink.held c.write_stop.new.sink) s.line.items s.number s.state c.joint_orders_are_legal.ensures c.in-Some.stop
+    (subst (λ (stop : Option Stop). HasGone stop (g.S.Source.left c.args.source.now) (g.S.Source.left c.follow.new.source) (g.S.Source.given c.args.source.now) (g.S.Source.given c.follow.new.source) None None s.number s.line.items s.state) c.in-Some.is c.in_ok-follow.ensures.gone)
     c.write_stop.result c.write_stop.ensures.all c.write_stop.ensures.status
 
 pub returns-clause-front : goal.returns-clause-front
 returns-clause-front g c =
     let s = c.follow.new.script in
     stop_joint_front (g.S.Source.left c.args.source.now) (g.S.Source.left c.follow.new.source) None None (g.S.Source.given c.args.source.now) (g.S.Source.given c.follow.new.source)
-    (g.K.Sink.held c.args.sink.now) (g.K.Sink.held c.write_stop.new.sink) s.line.items s.number s.course c.in-Some.stop
-    (subst (λ (stop : Option Stop). HasGone stop (g.S.Source.left c.args.source.now) (g.S.Source.left c.follow.new.source) (g.S.Source.given c.args.source.now) (g.S.Source.given c.follow.new.source) None None s.number s.line.items s.course) c.in-Some.is c.in_ok-follow.ensures.gone)
+    (g.K.Sink.held c.args.sink.now) (g.K.Sink.held c.write_stop.new.sink) s.line.items s.number s.state c.in-Some.stop
+    (subst (λ (stop : Option Stop). HasGone stop (g.S.Source.left c.args.source.now) (g.S.Source.left c.follow.new.source) (g.S.Source.given c.args.source.now) (g.S.Source.given c.follow.new.source) None None s.number s.line.items s.state) c.in-Some.is c.in_ok-follow.ensures.gone)
     c.write_stop.ensures.front

@@ -8,34 +8,34 @@ pub returns-in-None-clause-drilled : goal.returns-in-None-clause-drilled
 returns-in-None-clause-drilled g c =
     let s = c.follow.new.script in
     ending_drilled (g.S.Source.left c.args.source.now) (g.S.Source.left c.follow.new.source) (g.S.Source.given c.args.source.now) (g.S.Source.given c.follow.new.source)
-    (g.K.Sink.held c.args.sink.now) (g.K.Sink.held c.follow.new.sink) (g.K.Sink.held c.finish.new.sink) s.line.items s.number s.course c.runs_are_legal.ensures
+    (g.K.Sink.held c.args.sink.now) (g.K.Sink.held c.follow.new.sink) (g.K.Sink.held c.finish.new.sink) s.line.items s.number s.state c.runs_are_legal.ensures
     (subst (λ (stop : Option Stop). HasGone stop (g.S.Source.left c.args.source.now) (g.S.Source.left c.follow.new.source) (g.S.Source.given c.args.source.now) (g.S.Source.given c.follow.new.source)
-    (g.K.Sink.held c.args.sink.now) (g.K.Sink.held c.follow.new.sink) s.number s.line.items s.course) c.in-None.is c.in_ok-follow.ensures.gone)
+    (g.K.Sink.held c.args.sink.now) (g.K.Sink.held c.follow.new.sink) s.number s.line.items s.state) c.in-None.is c.in_ok-follow.ensures.gone)
     c.finish.result c.finish.ensures.all c.finish.ensures.status
 
 pub returns-in-None-clause-front : goal.returns-in-None-clause-front
 returns-in-None-clause-front g c =
     let s = c.follow.new.script in
     ending_front (g.S.Source.left c.args.source.now) (g.S.Source.left c.follow.new.source) (g.S.Source.given c.args.source.now) (g.S.Source.given c.follow.new.source)
-    (g.K.Sink.held c.args.sink.now) (g.K.Sink.held c.follow.new.sink) (g.K.Sink.held c.finish.new.sink) s.line.items s.number s.course
+    (g.K.Sink.held c.args.sink.now) (g.K.Sink.held c.follow.new.sink) (g.K.Sink.held c.finish.new.sink) s.line.items s.number s.state
     (subst (λ (stop : Option Stop). HasGone stop (g.S.Source.left c.args.source.now) (g.S.Source.left c.follow.new.source) (g.S.Source.given c.args.source.now) (g.S.Source.given c.follow.new.source)
-    (g.K.Sink.held c.args.sink.now) (g.K.Sink.held c.follow.new.sink) s.number s.line.items s.course) c.in-None.is c.in_ok-follow.ensures.gone)
+    (g.K.Sink.held c.args.sink.now) (g.K.Sink.held c.follow.new.sink) s.number s.line.items s.state) c.in-None.is c.in_ok-follow.ensures.gone)
     c.finish.ensures.front
 
 pub returns-clause-drilled : goal.returns-clause-drilled
 returns-clause-drilled g c =
     let s = c.follow.new.script in
     stop_drilled (g.S.Source.left c.args.source.now) (g.S.Source.left c.follow.new.source) (g.S.Source.given c.args.source.now) (g.S.Source.given c.follow.new.source)
-    (g.K.Sink.held c.args.sink.now) (g.K.Sink.held c.follow.new.sink) (g.K.Sink.held c.write_stop.new.sink) s.line.items s.number s.course c.runs_are_legal.ensures c.in-Some.stop
+    (g.K.Sink.held c.args.sink.now) (g.K.Sink.held c.follow.new.sink) (g.K.Sink.held c.write_stop.new.sink) s.line.items s.number s.state c.runs_are_legal.ensures c.in-Some.stop
     (subst (λ (stop : Option Stop). HasGone stop (g.S.Source.left c.args.source.now) (g.S.Source.left c.follow.new.source) (g.S.Source.given c.args.source.now) (g.S.Source.given c.follow.new.source)
-    (g.K.Sink.held c.args.sink.now) (g.K.Sink.held c.follow.new.sink) s.number s.line.items s.course) c.in-Some.is c.in_ok-follow.ensures.gone)
+    (g.K.Sink.held c.args.sink.now) (g.K.Sink.held c.follow.new.sink) s.number s.line.items s.state) c.in-Some.is c.in_ok-follow.ensures.gone)
     c.write_stop.result c.write_stop.ensures.all c.write_stop.ensures.status
 
 pub returns-clause-front : goal.returns-clause-front
 returns-clause-front g c =
     let s = c.follow.new.script in
     stop_front (g.S.Source.left c.args.source.now) (g.S.Source.left c.follow.new.source) (g.S.Source.given c.args.source.now) (g.S.Source.given c.follow.new.source)
-    (g.K.Sink.held c.args.sink.now) (g.K.Sink.held c.follow.new.sink) (g.K.Sink.held c.write_stop.new.sink) s.line.items s.number s.course c.in-Some.stop
+    (g.K.Sink.held c.args.sink.now) (g.K.Sink.held c.follow.new.sink) (g.K.Sink.held c.write_stop.new.sink) s.line.items s.number s.state c.in-Some.stop
     (subst (λ (stop : Option Stop). HasGone stop (g.S.Source.left c.args.source.now) (g.S.Source.left c.follow.new.source) (g.S.Source.given c.args.source.now) (g.S.Source.given c.follow.new.source)
-    (g.K.Sink.held c.args.sink.now) (g.K.Sink.held c.follow.new.sink) s.number s.line.items s.course) c.in-Some.is c.in_ok-follow.ensures.gone)
+    (g.K.Sink.held c.args.sink.now) (g.K.Sink.held c.follow.new.sink) s.number s.line.items s.state) c.in-Some.is c.in_ok-follow.ensures.gone)
     c.write_stop.ensures.front

@@ -39,7 +39,7 @@ returns-in_err-write_text-clause-front g c =
     let s = c.feed.new.self in
     let same : c.as_slice.result.now ≡ s.text.items = search rules in
     unwritten_front _ _ _ _ (g.S.Source.left c.read.new.self) _ _ (g.S.Source.given c.read.new.self) _ _ _ _ _ _ c.loop-turn.invariant.turning c.read.new.room
-    c.in-Ok.count c.in-Ok.ensures.bytes.0 c.in-Ok.ensures.given c.in_ok-stop.stop s.number s.line.items s.course s.text.items c.in_ok-stop.ensures.after
+    c.in-Ok.count c.in-Ok.ensures.bytes.0 c.in-Ok.ensures.given c.in_ok-stop.stop s.number s.line.items s.state s.text.items c.in_ok-stop.ensures.after
     (g.K.Sink.held c.write_text.new.sink) (front_same _ _ _ _ same c.write_text.ensures.front)
 
 pub returns-then-is_some-clause-gone : goal.returns-then-is_some-clause-gone
@@ -48,7 +48,7 @@ returns-then-is_some-clause-gone g c =
     let same : c.as_slice.result.now ≡ s.text.items = search rules in
     let some : is_some c.in_ok-stop.stop ≡ true = search rules in
     stop_come _ _ _ _ (g.S.Source.left c.read.new.self) _ _ (g.S.Source.given c.read.new.self) _ _ _ _ _ _ c.loop-turn.invariant.turning c.read.new.room
-    c.in-Ok.count c.in-Ok.ensures.bytes.0 c.in-Ok.ensures.given c.in_ok-stop.stop s.number s.line.items s.course s.text.items c.in_ok-stop.ensures.after
+    c.in-Ok.count c.in-Ok.ensures.bytes.0 c.in-Ok.ensures.given c.in_ok-stop.stop s.number s.line.items s.state s.text.items c.in_ok-stop.ensures.after
     (g.K.Sink.held c.write_text.new.sink) some (appends_same (g.K.Sink.held c.loop-turn.sink) (g.K.Sink.held c.write_text.new.sink) c.as_slice.result.now s.text.items same c.in_ok-write_text.ensures.all)
 
 pub returns-then-is_some-clause-front : goal.returns-then-is_some-clause-front
@@ -57,7 +57,7 @@ returns-then-is_some-clause-front g c =
     let same : c.as_slice.result.now ≡ s.text.items = search rules in
     let some : is_some c.in_ok-stop.stop ≡ true = search rules in
     come_front c.in_ok-stop.stop _ _ _ _ _ _ _ _ _ (stop_come _ _ _ _ (g.S.Source.left c.read.new.self) _ _ (g.S.Source.given c.read.new.self) _ _ _ _ _ _ c.loop-turn.invariant.turning c.read.new.room
-    c.in-Ok.count c.in-Ok.ensures.bytes.0 c.in-Ok.ensures.given c.in_ok-stop.stop s.number s.line.items s.course s.text.items c.in_ok-stop.ensures.after
+    c.in-Ok.count c.in-Ok.ensures.bytes.0 c.in-Ok.ensures.given c.in_ok-stop.stop s.number s.line.items s.state s.text.items c.in_ok-stop.ensures.after
     (g.K.Sink.held c.write_text.new.sink) some (appends_same (g.K.Sink.held c.loop-turn.sink) (g.K.Sink.held c.write_text.new.sink) c.as_slice.result.now s.text.items same c.in_ok-write_text.ensures.all)).come
 
 pub loop-turn-preserved : goal.loop-turn-preserved
@@ -73,7 +73,7 @@ loop-turn-preserved g c =
       reads = omega (arith, c.loop-turn.invariant.reads, c.read.ensures.cause.later);
       writes = omega (arith, c.loop-turn.invariant.writes, c.write_text.ensures.later);
       turning = turn_on _ _ _ _ (g.S.Source.left c.read.new.self) _ _ (g.S.Source.given c.read.new.self) _ _ _ _ _ _ c.loop-turn.invariant.turning c.read.new.room
-          c.in-Ok.count c.in-Ok.ensures.bytes.0 c.in-Ok.ensures.given c.in_ok-stop.stop s.number s.line.items s.course s.text.items c.in_ok-stop.ensures.after
+          c.in-Ok.count c.in-Ok.ensures.bytes.0 c.in-Ok.ensures.given c.in_ok-stop.stop s.number s.line.items s.state s.text.items c.in_ok-stop.ensures.after
           (g.K.Sink.held c.write_text.new.sink) (c.loop-turn._turn + 1) c.clear.new.self.items none
           (appends_same (g.K.Sink.held c.loop-turn.sink) (g.K.Sink.held c.write_text.new.sink) c.as_slice.result.now s.text.items same c.in_ok-write_text.ensures.all)
           refl some_read within (c.in_ok-stop.ensures.counted none) (search rules);

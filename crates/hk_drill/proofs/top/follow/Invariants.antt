@@ -9,5 +9,5 @@ invariant-loop-turn g l = record {
   reads : g.S.Source.faults l.initial.source ≤ g.S.Source.faults l.source;
   writes : g.K.Sink.faults l.initial.sink ≤ g.K.Sink.faults l.sink;
   turning : Turning l._turn (g.S.Source.left l.initial.source) (g.S.Source.left l.source) (g.S.Source.given l.initial.source) (g.S.Source.given l.source)
-      (g.K.Sink.held l.initial.sink) (g.K.Sink.held l.sink) l.script.number l.script.line.items l.script.course l.script.text.items;
+      (g.K.Sink.held l.initial.sink) (g.K.Sink.held l.sink) l.script.number l.script.line.items l.script.state l.script.text.items;
 }

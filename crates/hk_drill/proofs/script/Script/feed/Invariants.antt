@@ -6,9 +6,9 @@ use Rattle.hk_drill.proofs.script.Script.feed.Given as goal
 abbrev pub invariant-loop-end : goal.invariant-loop-end
 invariant-loop-end l = record {
   within : l.at ≤ length l.piece;
-  counted : IsCounted l.self.number l.self.course;
-  stands : (read out : List ℕ) → IsAt read (out ++ l.fn.self.text.items) l.fn.self.number l.fn.self.line.items l.fn.self.course
-      → IsAt (read ++ take l.at l.piece) (out ++ l.self.text.items) l.self.number l.self.line.items l.self.course;
+  counted : IsCounted l.self.number l.self.state;
+  stands : (read out : List ℕ) → IsAt read (out ++ l.fn.self.text.items) l.fn.self.number l.fn.self.line.items l.fn.self.state
+      → IsAt (read ++ take l.at l.piece) (out ++ l.self.text.items) l.self.number l.self.line.items l.self.state;
 }
 
 abbrev pub decreases-loop-end : goal.decreases-loop-end

@@ -2,9 +2,9 @@ use Rattle.std.proofs.Common.{rules, ◌≡◌, map, Err, sym, subst}
 use Rattle.hk_merge.specs.Merged.{Step}
 use Rattle.hk_merge.specs.Placed.{item_of}
 use Rattle.hk_assemble.specs.SentLetters.{with_letters}
-use Rattle.hk_assemble.specs.Courses.{IsNext}
-use Rattle.hk_assemble.proofs.Coursing.{step_done, step_fails}
-use Rattle.hk_assemble.proofs.course.Course.step.Goals as goal
+use Rattle.hk_assemble.specs.Assemblies.{IsNext}
+use Rattle.hk_assemble.proofs.Advancing.{step_done, step_fails}
+use Rattle.hk_assemble.proofs.assembly.Assembly.step.Goals as goal
 
 pub returns-in_err-make_step : goal.returns-in_err-make_step
 returns-in_err-make_step c = λ header front on.

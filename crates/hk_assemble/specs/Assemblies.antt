@@ -1,5 +1,5 @@
 -- What each turn of the loop tells.
-use Rattle.std.specs.Prelude.{◌≡◌, ⊤, List, [], ◌∷◌, ◌++◌, ℕ, Result, Ok, Err}
+use Rattle.std.specs.Prelude.{◌≡◌, ⊤, List, [], ◌∷◌, ◌++◌, Result, Ok, Err}
 use Rattle.hk_base.specs.declared.stamp.NodeId.{NodeId}
 use Rattle.hk_journal.specs.declared.step_entry.JournalEntry.{JournalEntry}
 use Rattle.hk_world.specs.declared.event.Header.{Header}
@@ -7,12 +7,12 @@ use Rattle.hk_merge.specs.Merged.{Item, Step, tickets_of}
 use Rattle.hk_safety.specs.Run.{RunState, world_of}
 use Rattle.hk_assemble.specs.declared.gap.Gap.{Gap}
 use Rattle.hk_assemble.specs.declared.gap.Gap.TheVariants as G
-use Rattle.hk_assemble.specs.declared.course.Course.{Course}
-use Rattle.hk_assemble.specs.Course.{IsCourse}
+use Rattle.hk_assemble.specs.declared.assembly.Assembly.{Assembly}
+use Rattle.hk_assemble.specs.Assembly.{IsAssembly}
 use Rattle.hk_assemble.specs.Assembled.{FailsAt, FailsFirst}
 
-abbrev pub IsOn : Header → Course → List Item → Type 0
-IsOn header course front = IsCourse header course.run course.sent.entries course.kept.entries front
+abbrev pub IsOn : Header → Assembly → List Item → Type 0
+IsOn header assembly front = IsAssembly header assembly.run assembly.sent.entries assembly.kept.entries front
 
 -- want of memory tells nothing
 abbrev pub OrMemory : Gap → Type 0 → Type 0
@@ -25,15 +25,15 @@ OrMemory (G.Note call ticket told kept) P = P
 abbrev pub IsFailure : Gap → RunState → List Item → List Item → Item → Type 0
 IsFailure gap run items front item = (node : NodeId) × (entry : JournalEntry) × (item ≡ Step node entry) × FailsAt items (world_of run) (tickets_of [] front) node entry gap
 
--- the course is one item further, or the item fails
-abbrev pub IsNext : {U : Type 0} → Result U Gap → Course → Course → Header → List Item → List Item → Item → Type 0
+-- the assembly is one item further, or the item fails
+abbrev pub IsNext : {U : Type 0} → Result U Gap → Assembly → Assembly → Header → List Item → List Item → Item → Type 0
 IsNext (Ok done) old new header items front item = IsOn header new (front ++ item ∷ [])
 IsNext (Err gap) old new header items front item = OrMemory gap (IsFailure gap old.run items front item)
 
-abbrev pub IsLookTaken : {U E : Type 0} → Result U E → Course → Header → List Item → Item → Type 0
+abbrev pub IsLookTaken : {U E : Type 0} → Result U E → Assembly → Header → List Item → Item → Type 0
 IsLookTaken (Ok done) new header front item = IsOn header new (front ++ item ∷ [])
 IsLookTaken (Err memory) new header front item = ⊤
 
-abbrev pub IsFollowed : Result Course Gap → Header → List Item → Type 0
-IsFollowed (Ok course) header items = IsOn header course items
+abbrev pub IsFollowed : Result Assembly Gap → Header → List Item → Type 0
+IsFollowed (Ok assembly) header items = IsOn header assembly items
 IsFollowed (Err gap) header items = OrMemory gap (FailsFirst header items gap)

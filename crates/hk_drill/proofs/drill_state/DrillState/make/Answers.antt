@@ -1,8 +1,8 @@
 use Rattle.std.proofs.Common.{Ok, subst}
 use Rattle.hk_world.specs.declared.event.Event.{Event}
 use Rattle.hk_safety.specs.Push.{IsPushed}
-use Rattle.hk_drill.proofs.Courses.{made_taken}
-use Rattle.hk_drill.proofs.course.Course.make.Goals as goal
+use Rattle.hk_drill.proofs.DrillStates.{made_taken}
+use Rattle.hk_drill.proofs.drill_state.DrillState.make.Goals as goal
 
 pub returns-in-Ok : goal.returns-in-Ok
 returns-in-Ok c =

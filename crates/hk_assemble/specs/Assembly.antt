@@ -20,7 +20,7 @@ abbrev pub kept_at : ℕ → Kepts → Option Answer
 kept_at listed kept = lookup (is_at (nat_cmp listed)) kept
 
 -- The run is that of the items so far; the letters that it sent are known, and so is what each note's Read was answered.
-pub record IsCourse (header : Header) (run : RunState) (sent : Buckets) (kept : Kepts) (front : List Item) : Type 0 where
+pub record IsAssembly (header : Header) (run : RunState) (sent : Buckets) (kept : Kepts) (front : List Item) : Type 0 where
   pub same : run.header ≡ header
   pub goes : Goes (start header) [] front run.events (world_of run)
   pub counted : length (tickets_of [] front) ≡ length (world_of run).letters

@@ -1,9 +1,8 @@
 -- One turn of the loop.
-use Rattle.std.proofs.Common.{◌≡◌, ◌≢◌, ◌⊎◌, ◌<◌, ◌+◌, ℕ, zero, suc, List, [], ◌∷◌, ◌++◌, map, length, Bool, true, false, Option, Some, None, Result, Ok, Err, refl, sym, ap, subst, ◌∙◌, inl, inr, arith, eqb, Equal}
+use Rattle.std.proofs.Common.{◌≡◌, ◌≢◌, ◌⊎◌, ◌<◌, ◌+◌, ℕ, zero, suc, List, [], ◌∷◌, ◌++◌, map, length, Bool, true, false, Option, Some, None, Ok, Err, refl, sym, ap, subst, ◌∙◌, inl, inr, arith, eqb, Equal}
 use Rattle.std.specs.Ordering.{nat_cmp}
 use Rattle.std.specs.Option.{IsSomeAnd}
-use Rattle.std.specs.BTreeMap.{insert_entry, is_at}
-use Rattle.std.specs.Map.{lookup}
+use Rattle.std.specs.BTreeMap.{insert_entry}
 use Rattle.std.proofs.lemmas.Bool.{eqb-true, eqb-false}
 use Rattle.std.proofs.lemmas.Cmp.{nat_cmp_total, tied_itself, ranked}
 use Rattle.hk_base.specs.declared.stamp.NodeId.{NodeId}
@@ -23,23 +22,22 @@ use Rattle.hk_safety.specs.Run.{RunState, world_of}
 use Rattle.hk_safety.specs.Push.{with_event}
 use Rattle.hk_merge.specs.declared.note.Note.{Note}
 use Rattle.hk_merge.specs.Reads.{ReadsAreAnswered}
-use Rattle.hk_merge.specs.Merged.{Item, Step, Look, IsFirst, IsEventOf, IsOf, answers_of, tickets_of, Goes}
+use Rattle.hk_merge.specs.Merged.{Item, Step, Look, IsEventOf, IsOf, answers_of, tickets_of, Goes}
 use Rattle.hk_merge.specs.Shows.{ReadShows}
 use Rattle.hk_merge.proofs.Entries.{found_same, found_other}
 use Rattle.hk_assemble.specs.declared.sent.Sent.{Sent}
-use Rattle.hk_assemble.specs.SentLetters.{Buckets, found, with_letters}
+use Rattle.hk_assemble.specs.SentLetters.{Buckets, with_letters}
 use Rattle.hk_assemble.specs.Known.{IsCopy, IsTold, Knows, LettersStayKnown}
-use Rattle.hk_assemble.specs.Course.{Kepts, kept_at, IsCourse}
+use Rattle.hk_assemble.specs.Assembly.{Kepts, kept_at, IsAssembly}
 use Rattle.hk_assemble.specs.declared.gap.Gap.{Gap}
 use Rattle.hk_assemble.specs.declared.gap.Gap.TheVariants as G
-use Rattle.hk_assemble.specs.Assembled.{FailsAt}
 use Rattle.hk_assemble.specs.Taking.{IsMarred, IsEventBy}
 use Rattle.hk_assemble.specs.Stepping.{IsStepMade, IsLooked}
-use Rattle.hk_assemble.specs.Courses.{OrMemory, IsFailure}
+use Rattle.hk_assemble.specs.Assemblies.{OrMemory, IsFailure}
 use Rattle.hk_assemble.proofs.Following.{goes_more, world_more, tickets_more, event_adds, read_adds, LastShows, shows_before, shows_last, shows_split}
 
 -- ---- the beginning
-pub begun : (h : Header) → IsCourse h (record { header = h; events = [] }) [] [] []
+pub begun : (h : Header) → IsAssembly h (record { header = h; events = [] }) [] [] []
 begun h = record {
   same = refl;
   goes = refl;
@@ -84,28 +82,28 @@ same_length tickets letters more ticket counted =
     omega (arith, a, b, c, counted)
 
 -- ---- a step of an entry
-module _ (header : Header) (run : RunState) (sent : Buckets) (kept : Kepts) (front : List Item) (course : IsCourse header run sent kept front) where
+module _ (header : Header) (run : RunState) (sent : Buckets) (kept : Kepts) (front : List Item) (assembly : IsAssembly header run sent kept front) where
   module _ (item : Item) (event : Event) (a : Accepted) (accepted : world_step (world_of run) event ≡ Ok a) where
     goes_on : IsOf item (world_of run).letters (tickets_of [] front) event a.shown → Goes (start header) [] (front ++ item ∷ []) (run.events ++ event ∷ []) (world_of (with_event run event))
     goes_on is = subst (λ (v : WorldState). Goes (start header) [] (front ++ item ∷ []) (run.events ++ event ∷ []) v) (sym (world_more run event a accepted))
-        (goes_more (start header) (world_of run) [] front run.events item event a course.goes accepted is)
+        (goes_more (start header) (world_of run) [] front run.events item event a assembly.goes accepted is)
 
   pub step_on : LettersStayKnown → (node : NodeId) (entry : JournalEntry) (event : Event) (a : Accepted) (first : ℕ) → IsEventBy sent node entry.ticket entry.event event → world_step (world_of run) event ≡ Ok a →
       a.shown.letters ≡ entry.letters → answers_of a.shown.replies ≡ answers_of entry.replies → first ≡ length (world_of run).letters + 1 →
-      IsCourse header (with_event run event) (with_letters sent first entry.ticket entry.letters) kept (front ++ Step node entry ∷ [])
+      IsAssembly header (with_event run event) (with_letters sent first entry.ticket entry.letters) kept (front ++ Step node entry ∷ [])
   step_on known node entry event a first by accepted gave answered numbers = record {
-    same = course.same;
+    same = assembly.same;
     goes = goes_on (Step node entry) event a accepted (is, gave, answered);
-    counted = ap length tickets_now ∙ (same_length (tickets_of [] front) (world_of run).letters entry.letters entry.ticket course.counted ∙ sym (ap length letters_now));
+    counted = ap length tickets_now ∙ (same_length (tickets_of [] front) (world_of run).letters entry.letters entry.ticket assembly.counted ∙ sym (ap length letters_now));
     knows = subst (λ (ls : List Letter). Knows (with_letters sent first entry.ticket entry.letters) ls (tickets_of [] (front ++ Step node entry ∷ []))) (sym letters_now)
         (subst (λ (ts : List ℕ). Knows (with_letters sent first entry.ticket entry.letters) ((world_of run).letters ++ entry.letters) ts) (sym tickets_now)
-        (known entry.letters sent (world_of run).letters (tickets_of [] front) entry.ticket first numbers course.counted course.knows));
-    shows = λ listed answer at. shows_before (Step node entry) event a listed answer (start header) (world_of run) [] front run.events course.goes (course.shows listed answer at);
-    keeps = λ listed answer shows. by_split listed answer (shows_split (Step node entry) event a listed answer (start header) (world_of run) [] front run.events course.goes accepted shows);
+        (known entry.letters sent (world_of run).letters (tickets_of [] front) entry.ticket first numbers assembly.counted assembly.knows));
+    shows = λ listed answer at. shows_before (Step node entry) event a listed answer (start header) (world_of run) [] front run.events assembly.goes (assembly.shows listed answer at);
+    keeps = λ listed answer shows. by_split listed answer (shows_split (Step node entry) event a listed answer (start header) (world_of run) [] front run.events assembly.goes accepted shows);
   }
     where
       is : IsEventOf (world_of run).letters (tickets_of [] front) node entry.ticket entry.event event
-      is = event_is sent (world_of run).letters (tickets_of [] front) node entry.ticket entry.event event course.knows by
+      is = event_is sent (world_of run).letters (tickets_of [] front) node entry.ticket entry.event event assembly.knows by
 
       letters_now : (world_of (with_event run event)).letters ≡ (world_of run).letters ++ entry.letters
       letters_now = ap (λ (w : WorldState). w.letters) (world_more run event a accepted)
@@ -115,20 +113,20 @@ module _ (header : Header) (run : RunState) (sent : Buckets) (kept : Kepts) (fro
       tickets_now = tickets_more [] front (Step node entry)
 
       by_split : (listed : ℕ) (answer : Answer) → ReadShows (start header) front run.events listed answer ⊎ LastShows (Step node entry) a listed answer → kept_at listed kept ≡ Some answer
-      by_split listed answer (inl before) = course.keeps listed answer before
+      by_split listed answer (inl before) = assembly.keeps listed answer before
       by_split listed answer (inr here) = absurd here
 
   -- ---- a Read of a note
   pub look_on : ReadsAreAnswered → (listed : ℕ) (note : Note) (a : Accepted) (answer : Answer) → world_step (world_of run) (Call note.node note.key Read) ≡ Ok a → answers_of a.shown.replies ≡ answer ∷ [] → kept_at listed kept ≡ None →
-      IsCourse header (with_event run (Call note.node note.key Read)) sent (insert_entry nat_cmp kept listed answer) (front ++ Look listed note ∷ [])
+      IsAssembly header (with_event run (Call note.node note.key Read)) sent (insert_entry nat_cmp kept listed answer) (front ++ Look listed note ∷ [])
   look_on reads listed note a answer accepted answered none = record {
-    same = course.same;
+    same = assembly.same;
     goes = goes_on (Look listed note) (Call note.node note.key Read) a accepted refl;
-    counted = ap length tickets_now ∙ (course.counted ∙ sym (ap length letters_now));
+    counted = ap length tickets_now ∙ (assembly.counted ∙ sym (ap length letters_now));
     knows = subst (λ (ls : List Letter). Knows sent ls (tickets_of [] (front ++ Look listed note ∷ []))) (sym letters_now)
-        (subst (λ (ts : List ℕ). Knows sent (world_of run).letters ts) (sym tickets_now) course.knows);
+        (subst (λ (ts : List ℕ). Knows sent (world_of run).letters ts) (sym tickets_now) assembly.knows);
     shows = λ i x at. shown i x (eqb i listed) refl at;
-    keeps = λ i x shows. by_split i x (shows_split (Look listed note) (Call note.node note.key Read) a i x (start header) (world_of run) [] front run.events course.goes accepted shows);
+    keeps = λ i x shows. by_split i x (shows_split (Look listed note) (Call note.node note.key Read) a i x (start header) (world_of run) [] front run.events assembly.goes accepted shows);
   }
     where
       letters_now : (world_of (with_event run (Call note.node note.key Read))).letters ≡ (world_of run).letters
@@ -162,15 +160,15 @@ module _ (header : Header) (run : RunState) (sent : Buckets) (kept : Kepts) (fro
       shown i x true e at =
           let here : i ≡ listed = eqb-true i listed e in
           let is : answer ≡ x = ap answer_or (sym kept_now ∙ subst (λ (n : ℕ). kept_at n (insert_entry nat_cmp kept listed answer) ≡ Some x) here at) in
-          shows_last (Look listed note) (Call note.node note.key Read) a i x (start header) (world_of run) [] front run.events course.goes accepted (sym here, answered ∙ ap (λ (y : Answer). y ∷ []) is)
+          shows_last (Look listed note) (Call note.node note.key Read) a i x (start header) (world_of run) [] front run.events assembly.goes accepted (sym here, answered ∙ ap (λ (y : Answer). y ∷ []) is)
       shown i x false e at =
-          shows_before (Look listed note) (Call note.node note.key Read) a i x (start header) (world_of run) [] front run.events course.goes
-          (course.shows i x (sym (kept_else i (eqb-false i listed e)) ∙ at))
+          shows_before (Look listed note) (Call note.node note.key Read) a i x (start header) (world_of run) [] front run.events assembly.goes
+          (assembly.shows i x (sym (kept_else i (eqb-false i listed e)) ∙ at))
 
       by_split : (i : ℕ) (x : Answer) → ReadShows (start header) front run.events i x ⊎ LastShows (Look listed note) a i x → kept_at i (insert_entry nat_cmp kept listed answer) ≡ Some x
       by_split i x (inr (here, is)) =
           subst (λ (n : ℕ). kept_at n (insert_entry nat_cmp kept listed answer) ≡ Some x) here (kept_now ∙ ap (λ (y : Answer). Some y) (ap head_or (sym answered ∙ is)))
-      by_split i x (inl before) = by_test (eqb i listed) refl (course.keeps i x before)
+      by_split i x (inl before) = by_test (eqb i listed) refl (assembly.keeps i x before)
         where
           by_test : (b : Bool) → eqb i listed ≡ b → kept_at i kept ≡ Some x → kept_at i (insert_entry nat_cmp kept listed answer) ≡ Some x
           by_test true e at = absurd (never (sym none ∙ subst (λ (n : ℕ). kept_at n kept ≡ Some x) (eqb-true i listed e) at))
@@ -180,16 +178,16 @@ module _ (header : Header) (run : RunState) (sent : Buckets) (kept : Kepts) (fro
           by_test false e at = kept_else i (eqb-false i listed e) ∙ at
 
   pub look_done : ReadsAreAnswered → (listed : ℕ) (note : Note) (answer : Answer) (new : RunState) (now : Kepts) → IsLooked answer run new note.node note.key → kept_at listed kept ≡ None → now ≡ insert_entry nat_cmp kept listed answer →
-      IsCourse header new sent now (front ++ Look listed note ∷ [])
+      IsAssembly header new sent now (front ++ Look listed note ∷ [])
   look_done reads listed note answer new now (a, accepted, answered, is) none puts =
-      subst (λ (r : RunState). IsCourse header r sent now (front ++ Look listed note ∷ [])) (sym is)
-      (subst (λ (k : Kepts). IsCourse header (with_event run (Call note.node note.key Read)) sent k (front ++ Look listed note ∷ [])) (sym puts) (look_on reads listed note a answer accepted answered none))
+      subst (λ (r : RunState). IsAssembly header r sent now (front ++ Look listed note ∷ [])) (sym is)
+      (subst (λ (k : Kepts). IsAssembly header (with_event run (Call note.node note.key Read)) sent k (front ++ Look listed note ∷ [])) (sym puts) (look_on reads listed note a answer accepted answered none))
 
   pub step_done : {U : Type 0} → (done : U) → LettersStayKnown → (node : NodeId) (entry : JournalEntry) (event : Event) (first : ℕ) (new : RunState) (now : Buckets) → IsEventBy sent node entry.ticket entry.event event →
-      first ≡ length (world_of run).letters + 1 → IsStepMade {U = U} (Ok done) run new event node entry → now ≡ with_letters sent first entry.ticket entry.letters → IsCourse header new now kept (front ++ Step node entry ∷ [])
+      first ≡ length (world_of run).letters + 1 → IsStepMade {U = U} (Ok done) run new event node entry → now ≡ with_letters sent first entry.ticket entry.letters → IsAssembly header new now kept (front ++ Step node entry ∷ [])
   step_done done known node entry event first new now by numbers (a, accepted, is, gave, answered) puts =
-      subst (λ (r : RunState). IsCourse header r now kept (front ++ Step node entry ∷ [])) (sym is)
-      (subst (λ (b : Buckets). IsCourse header (with_event run event) b kept (front ++ Step node entry ∷ [])) (sym puts) (step_on known node entry event a first by accepted gave answered numbers))
+      subst (λ (r : RunState). IsAssembly header r now kept (front ++ Step node entry ∷ [])) (sym is)
+      (subst (λ (b : Buckets). IsAssembly header (with_event run event) b kept (front ++ Step node entry ∷ [])) (sym puts) (step_on known node entry event a first by accepted gave answered numbers))
 
   -- an entry whose step gives something else
   pub step_fails : {U : Type 0} → (unit : U) (gap : Gap) (items : List Item) (node : NodeId) (entry : JournalEntry) (event : Event) (new : RunState) → IsEventBy sent node entry.ticket entry.event event → IsStepMade {U = U} (Err gap) run new event node entry →
@@ -199,7 +197,7 @@ module _ (header : Header) (run : RunState) (sent : Buckets) (kept : Kepts) (fro
   step_fails unit (G.Note call ticket told k) items node entry event new by made = absurd made
   step_fails unit (G.Entry at ticket None) items node entry event new by made = absurd made
   step_fails unit (G.Entry at ticket (Some given)) items node entry event new by (a, accepted, here, drawn, other, letters, replies) =
-      (node, entry, refl, (here, drawn, event, event_is sent (world_of run).letters (tickets_of [] front) node entry.ticket entry.event event course.knows by, a, accepted, other, letters, replies))
+      (node, entry, refl, (here, drawn, event, event_is sent (world_of run).letters (tickets_of [] front) node entry.ticket entry.event event assembly.knows by, a, accepted, other, letters, replies))
 
 -- an entry that fails whatever the world is
 pub marred_fails : (gap : Gap) (items front : List Item) (run : RunState) (node : NodeId) (entry : JournalEntry) → IsMarred gap items node entry → OrMemory gap (IsFailure gap run items front (Step node entry))

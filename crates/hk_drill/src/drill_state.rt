@@ -15,39 +15,39 @@ pub const MAX_LETTERS: u64 = 4_000_000;
 
 /// How far a script has come: the run of the events that were accepted, and how many event lines there were.
 #[derive(Drop)]
-pub(crate) struct Course {
+pub(crate) struct DrillState {
     pub(crate) run: NotedRun,
     pub(crate) count: u64,
 }
 
-impl Model for Course {
-    ghost use Rattle.hk_drill.specs.Transcript.{Course as CourseState};
+impl Model for DrillState {
+    ghost use Rattle.hk_drill.specs.Transcript.{DrillState as DrillModel};
 
-    ghost Value = { CourseState };
+    ghost Value = { DrillModel };
 
     ghost view = { λ c. record { run = c.run; count = c.count } };
 }
 
-impl Course {
+impl DrillState {
     ghost use Rattle.std.specs.Prelude.{◌≡◌, ◌+◌, ◌++◌, ◌≤◌, ◌<◌, ◌^◌, Some, None, IfOk, OnOk};
     ghost use Rattle.hk_world.specs.Sound.{IsHeader, IsEvent};
     ghost use Rattle.hk_drill.specs.Text.{refused_text};
-    ghost use Rattle.hk_drill.specs.Transcript.{first_course, event_at, read_at};
-    ghost use Rattle.hk_drill.specs.Taken.{IsTaken, course_shown};
+    ghost use Rattle.hk_drill.specs.Transcript.{first_state, event_at, read_at};
+    ghost use Rattle.hk_drill.specs.Taken.{IsTaken, state_shown};
 
-    /// The course before the first line behind this header. If it is `batched`, the batches of its run are noted.
-    pub(crate) fn new(alloc: Global, header: Header, batched: bool) -> Result<Course, Memory>
+    /// The state before the first line behind this header. If it is `batched`, the batches of its run are noted.
+    pub(crate) fn new(alloc: Global, header: Header, batched: bool) -> Result<DrillState, Memory>
         requires { IsHeader header }
-        ensures { IfOk result (λ course. course ≡ first_course header) }
+        ensures { IfOk result (λ state. state ≡ first_state header) }
     {
         let run = NotedRun::new(alloc, header, batched)?;
-        Ok(Course { run, count: 0 })
+        Ok(DrillState { run, count: 0 })
     }
 
     // Tells an event that the run has made, unless it sent a letter too many.
     fn show(&mut self, shown: &Shown, text: &mut Vec<u8>) -> Result<Option<Stop>, Memory>
         requires { self.old.count + 1 < 2 ^ 64 }
-        ensures { IfOk result (λ stop. IsTaken stop self.new text.old.items text.new.items (course_shown self.old shown.now)) }
+        ensures { IfOk result (λ stop. IsTaken stop self.new text.old.items text.new.items (state_shown self.old shown.now)) }
     {
         if self.run.live().world()?.letters() > MAX_LETTERS {
             return Ok(Some(Stop::Letters));
@@ -60,7 +60,7 @@ impl Course {
     // Tells an event that the world refused.
     fn refuse(&mut self, refused: Refused, text: &mut Vec<u8>) -> Result<(), Memory>
         requires { self.old.count + 1 < 2 ^ 64 }
-        ensures course { OnOk result (self.new ≡ record self.old { count = self.old.count + 1 }) }
+        ensures state { OnOk result (self.new ≡ record self.old { count = self.old.count + 1 }) }
         ensures text { OnOk result (text.new.items ≡ text.old.items ++ refused_text (self.old.count + 1) refused) }
     {
         self.count += 1;

@@ -1,5 +1,5 @@
-use Rattle.hk_assemble.proofs.Coursing.{look_done}
-use Rattle.hk_assemble.proofs.course.Course.look.Goals as goal
+use Rattle.hk_assemble.proofs.Advancing.{look_done}
+use Rattle.hk_assemble.proofs.assembly.Assembly.look.Goals as goal
 
 pub returns : goal.returns
 returns c = λ header front on.

@@ -1,7 +1,7 @@
 use Rattle.std.proofs.Common.{rules, refl, ◌≡◌, false}
 use Rattle.hk_drill.specs.Transcript.{is_skipped}
-use Rattle.hk_drill.proofs.Courses.{line_taken, line_is_bad}
-use Rattle.hk_drill.proofs.course.Course.take_line.Goals as goal
+use Rattle.hk_drill.proofs.DrillStates.{line_taken, line_is_bad}
+use Rattle.hk_drill.proofs.drill_state.DrillState.take_line.Goals as goal
 
 pub returns-in-Ok : goal.returns-in-Ok
 returns-in-Ok c =

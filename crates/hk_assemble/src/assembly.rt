@@ -1,4 +1,4 @@
-//! The course over the merged list.
+//! The assembly over the merged list.
 
 ghost use Rattle.std.specs.Prelude.{◌≡◌, [], List, None, map, IfOk, OnOk};
 ghost use Rattle.std.specs.Ordering.{nat_cmp};
@@ -7,8 +7,8 @@ ghost use Rattle.hk_world.specs.declared.event.Header.{Header};
 ghost use Rattle.hk_world.specs.Sound.{IsHeader};
 ghost use Rattle.hk_merge.specs.Merged.{Item, Step, Look};
 ghost use Rattle.hk_merge.specs.Placed.{item_of};
-ghost use Rattle.hk_assemble.specs.Course.{kept_at};
-ghost use Rattle.hk_assemble.specs.Courses.{IsOn, IsLookTaken, IsNext, IsFollowed};
+ghost use Rattle.hk_assemble.specs.Assembly.{kept_at};
+ghost use Rattle.hk_assemble.specs.Assemblies.{IsOn, IsLookTaken, IsNext, IsFollowed};
 
 use crate::gap::Gap;
 use crate::laws::letters_stay_known;
@@ -28,7 +28,7 @@ pub type Kept = BTreeMap<u64, Answer>;
 
 /// The run so far, the letters that it sent, and what the Reads of notes were answered.
 #[derive(Drop)]
-pub struct Course {
+pub struct Assembly {
     pub run: Run,
     pub sent: SentLetters,
     pub kept: Kept,
@@ -46,13 +46,13 @@ fn keep(kept: &mut Kept, listed: u64, answer: Answer) -> Result<(), Memory>
     Ok(())
 }
 
-impl Course {
-    fn new(alloc: Global, header: Header) -> Result<Course, Memory>
+impl Assembly {
+    fn new(alloc: Global, header: Header) -> Result<Assembly, Memory>
         requires { IsHeader header }
         ensures { IfOk result (λ c. IsOn header c []) }
     {
         let run = Run::new(alloc, header)?;
-        Ok(Course {
+        Ok(Assembly {
             run,
             sent: BTreeMap::new(alloc),
             kept: BTreeMap::new(alloc),
@@ -107,13 +107,13 @@ impl Course {
 }
 
 /// Follows the whole list.
-pub fn follow(alloc: Global, header: Header, slots: &[Slot<'_>]) -> Result<Course, Gap>
+pub fn follow(alloc: Global, header: Header, slots: &[Slot<'_>]) -> Result<Assembly, Gap>
     requires { IsHeader header }
     ensures { IsFollowed result header (map item_of slots.now) }
 {
-    let mut course = Course::new(alloc, header)?;
+    let mut assembly = Assembly::new(alloc, header)?;
     for slot in slots {
-        course.follow(alloc, slots, slot)?;
+        assembly.follow(alloc, slots, slot)?;
     }
-    Ok(course)
+    Ok(assembly)
 }
