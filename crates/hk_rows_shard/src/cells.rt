@@ -260,6 +260,28 @@ fn a_checkpoint_hands_out_the_journal_once(rt: HostRuntime) {
     assert!(rt; again.is_empty());
 }
 
+// The version of the key's row in the shard's base, 0 where it has none.
+fn version_in_base(rt: &impl Abort, alloc: Global, shard: &Shard, key: &Key) -> u64 {
+    let base = shard.base(alloc).expect(rt, "memory");
+    match base.row(key) {
+        Some(row) => row.stamp.version,
+        None => 0,
+    }
+}
+
+#[test]
+fn the_base_is_the_node_before_the_journal(rt: HostRuntime) {
+    let alloc = rt.alloc();
+    let k = key(&rt, alloc, b"k");
+    let mut shard = founded(&rt, alloc);
+    write(&rt, alloc, &mut shard, 1, &k, 7, b"hello");
+    write(&rt, alloc, &mut shard, 2, &k, 0, b"x");
+    assert_eq!(rt; version_in_base(&rt, alloc, &shard, &k), 0);
+    assert_eq!(rt; tickets(&rt, alloc, &mut shard).len(), 2);
+    write(&rt, alloc, &mut shard, 3, &k, 0, b"y");
+    assert_eq!(rt; version_in_base(&rt, alloc, &shard, &k), 4);
+}
+
 // A clock that raises a lease to 1,000 whenever it is read. It reads 200.
 #[derive(Drop)]
 struct RaisingClock<R: Wait + Copy> {

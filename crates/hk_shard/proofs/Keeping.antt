@@ -27,12 +27,17 @@ use Rattle.hk_snap.specs.Leases.{Lease, kept_lease, raised}
 use Rattle.hk_snap.proofs.Lists.{same_long}
 use Rattle.hk_shard.specs.Shown.{publication, is_in, shown_in, Covers, Shows}
 use Rattle.hk_shard.specs.Shard.{ShardState, IsShard, IsApplied, step_entry, checkpointed, unseen}
-use Rattle.hk_shard.specs.Changing.{replay_at, AreChanging, AreNoted}
+use Rattle.hk_shard.specs.declared.replaced.Replaced.{Replaced}
+use Rattle.hk_shard.specs.Replaced.{before_all, AreReplaced}
 use Rattle.hk_shard.specs.Publishing.{publications, with_all, MayBePublished}
 use Rattle.hk_shard.proofs.Listing.{names_all, seen_all, may_be_published}
 use Rattle.hk_shard.proofs.Lasting.{leases_never_fall}
-use Rattle.hk_shard.proofs.Picking.{changing_more, replay_is_node}
+use Rattle.hk_shard.proofs.Undoing.{back_at_first, none_replaced}
 use Rattle.hk_shard.proofs.Covering.{shown_of, step_shown, shown_joined, covers_over}
+
+replay_is_node : (base : NodeState) (journal : List JournalEntry) → IsNode base → AllByRecursion (λ e. IsEvent e.event) journal → IsNode (replay base journal)
+replay_is_node base [] ok all = ok
+replay_is_node base (x ∷ journal) ok all = replay_is_node (after base x) journal (step_keeps_node base x.event ok all.0) all.1
 
 pub part_is_node : (s : ShardState) → IsShard s → IsNode s.part
 part_is_node s is = subst IsNode (sym is.part) (replay_is_node s.base s.journal is.node is.events)
@@ -258,29 +263,29 @@ next_by old ticket event out part call is up within told part_is =
     rows_within me members [] all = tt
     rows_within me members (r ∷ rows) all = (all.0.within, rows_within me members rows all.1)
 
--- ---- nothing happened, and nothing is noted
-pub nothing_changing : (base : NodeState) (journal : List JournalEntry) (places : List ℕ) → journal ≡ [] → places ≡ [] → AreChanging base journal places
-nothing_changing base journal places none none_noted =
-    subst (λ (x : List JournalEntry × List ℕ). AreChanging base x.0 x.1) (λ i. (sym none i, sym none_noted i)) (record { below = tt; enough = refl })
+-- ---- the base is the part with all undone
+abbrev state_of : NodeState → List JournalEntry → NodeState → ℕ → List End → Lease → ShardState
+state_of base journal part last ends lease = record { base = base; journal = journal; part = part; last = last; ends = ends; lease = lease }
 
--- the entry of an event is noted
-pub noted_kept : (s : ShardState) (part : NodeState) (journal : List JournalEntry) (ticket : ℕ) (event : NodeEvent) (before noted : List ℕ) → IsShard s → AreChanging s.base s.journal before
-    → AreNoted s.part part (length s.journal) before noted → part ≡ (node_step s.part event).node → journal ≡ s.journal ++ step_entry ticket s.part event ∷ [] → AreChanging s.base journal noted
-noted_kept s part journal ticket event before noted is are how part_is journal_is =
-    let entry : JournalEntry = step_entry ticket s.part event in
-    subst (λ (j : List JournalEntry). AreChanging s.base j noted) (sym journal_is)
-    (changing_more s.base part s.journal entry before noted are (subst (λ (n : NodeState). AreNoted n part (length s.journal) before noted) is.part how)
-    (part_is ∙ ap (λ (n : NodeState). after n entry) is.part))
-
--- the steps of the entries that are noted lead to the part
-pub enough_by : (s : ShardState) (places : List ℕ) → IsShard s → AreChanging s.base s.journal places → replay_at s.base s.journal places ≡ s.part
-enough_by s places is are = are.enough ∙ sym is.part
+-- what the shard keeps, from what it keeps of its base
+pub base_by : (base : NodeState) (journal : List JournalEntry) (part : NodeState) (last : ℕ) (ends : List End) (lease : Lease) (replaced : List Replaced)
+    → AreReplaced base replaced part → IsShard (state_of base journal part last ends lease)
+    → IsShard (state_of (before_all replaced part) journal part last ends lease) × AreReplaced (before_all replaced part) replaced part
+base_by base journal part last ends lease replaced are is =
+    let back : base ≡ before_all replaced part = sym (back_at_first base part replaced are) in (
+      subst (λ b. IsShard (state_of b journal part last ends lease)) back is,
+      subst (λ b. AreReplaced b replaced part) back are,
+    )
 
 -- a checkpoint, from what is known of each part of the shard
-pub checkpoint_by : (s : ShardState) (base : NodeState) (journal : List JournalEntry) (places : List ℕ) → IsShard s → base ≡ s.part → journal ≡ [] → places ≡ []
-    → IsShard (record { base = base; journal = journal; part = s.part; last = s.last; ends = s.ends; lease = s.lease }) × AreChanging base journal places
-checkpoint_by s base journal places is same none none_noted = (
-  subst (λ (x : NodeState × List JournalEntry). IsShard (record { base = x.0; journal = x.1; part = s.part; last = s.last; ends = s.ends; lease = s.lease }))
-      (λ i. (sym same i, sym none i)) (checkpoint_kept s is),
-  nothing_changing base journal places none none_noted,
-)
+pub checkpoint_by : (s : ShardState) (journal : List JournalEntry) (replaced : List Replaced) → IsShard s → journal ≡ [] → replaced ≡ []
+    → IsShard (state_of (before_all replaced s.part) journal s.part s.last s.ends s.lease) × AreReplaced (before_all replaced s.part) replaced s.part
+checkpoint_by s journal replaced is none none_replaced_now =
+    base_by s.part journal s.part s.last s.ends s.lease replaced (none_replaced s.part replaced none_replaced_now)
+    (subst (λ j. IsShard (state_of s.part j s.part s.last s.ends s.lease)) (sym none) (checkpoint_kept s is))
+
+-- and what it makes of the shard
+pub checkpoint_is : (s : ShardState) (journal : List JournalEntry) (replaced : List Replaced) → journal ≡ [] → replaced ≡ []
+    → state_of (before_all replaced s.part) journal s.part s.last s.ends s.lease ≡ checkpointed s
+checkpoint_is s journal replaced none none_replaced_now =
+    λ i. state_of (before_all (none_replaced_now i) s.part) (none i) s.part s.last s.ends s.lease

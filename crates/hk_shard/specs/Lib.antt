@@ -1,6 +1,4 @@
-pub mod Changing
 pub mod Laws
-pub mod Level
 pub mod Publishing
 pub mod Reading
 pub mod Replaced

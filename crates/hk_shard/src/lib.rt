@@ -2,7 +2,8 @@
 //!
 //! Each key belongs to one of eight shards of its node, and each shard is a [`Node`](hk_node::Node) of its own, its *part*. Beside
 //! the part a [`Shard`] keeps its *base*, the node as it was when the journal began, and the *journal*: the part is the replay of
-//! the journal from the base, at every moment. A checkpoint hands the journal out, and the part becomes the base.
+//! the journal from the base, at every moment. A checkpoint hands the journal out, and the part becomes the base. The base is not held: of
+//! each step since then the shard keeps what it replaced, by which the base is made of the part when it is asked for.
 //!
 //! What a shard shows to readers that hold no lock stands in its cells (`hk_snap`): each row that an event changed is published
 //! before [`Shard::apply`] returns, and the lease cell shows the end of the part's lease and its clock. So what is published in a
@@ -13,7 +14,7 @@
 #![tactic(auto)]
 
 mod laws;
-mod level;
+mod replaced;
 mod shard;
 mod show;
 mod step;

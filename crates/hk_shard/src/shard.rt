@@ -9,9 +9,9 @@ ghost use Rattle.hk_snap.specs.Ends.{names, seen_at, looked, Loads};
 ghost use Rattle.hk_snap.specs.Leases.{Looks};
 ghost use Rattle.hk_shard.specs.Shard.{shard_of};
 
-use crate::level::stays_level;
+use crate::replaced::{Replaced, let_go};
 use crate::show::{call_of, lease_end, publish_rows};
-use crate::step::{bring_up, make};
+use crate::step::{before_all, make};
 use hk_base::{Key, Memory};
 use hk_journal::Journal;
 use hk_node::{Node, NodeEvent, NodeOut};
@@ -48,14 +48,12 @@ pub fn shard_of(key: &Key) -> u8
 /// lease cell have shown.
 #[derive(Drop)]
 pub struct Shard {
-    base: Node,
     part: Node,
     journal: Journal,
-    /// The places in the journal of the entries that changed something.
-    changing: Vec<usize>,
-    /// Whether the part differs from the base in its clock and in the rows of the keys in `touched` alone, each of which the base has.
-    level: bool,
-    touched: Vec<Key>,
+    /// What each step that is in the journal and changed something replaced. The base is the part with all of them undone.
+    replaced: Vec<Replaced>,
+    /// What steps before that replaced. It is dropped little by little, since a lock is held.
+    spent: Vec<Replaced>,
     last: u64,
     writer: SnapWriter,
     /// A reader of the cells that has loaded nothing, from which others are split.
@@ -66,21 +64,19 @@ pub struct Shard {
 }
 
 impl Model for Shard {
-    ghost use Rattle.std.specs.Prelude.{◌≡◌, true, None};
+    ghost use Rattle.std.specs.Prelude.{◌≡◌, None};
     ghost use Rattle.hk_shard.specs.Shard.{ShardState, IsShard, unseen};
-    ghost use Rattle.hk_shard.specs.Changing.{AreChanging};
-    ghost use Rattle.hk_shard.specs.Level.{AreLevel};
+    ghost use Rattle.hk_shard.specs.Replaced.{before_all, AreReplaced};
 
     ghost Value = { ShardState };
 
-    ghost view = { λ s. record { base = s.base; journal = s.journal; part = s.part; last = s.last; ends = s.writer; lease = s.keeper } };
+    ghost view = { λ s. record { base = before_all s.replaced.items s.part; journal = s.journal; part = s.part; last = s.last; ends = s.writer; lease = s.keeper } };
 
     ghost invariant = { λ s.
-        IsShard (record { base = s.base; journal = s.journal; part = s.part; last = s.last; ends = s.writer; lease = s.keeper })
-        × AreChanging s.base s.journal s.changing.items
+        IsShard (record { base = before_all s.replaced.items s.part; journal = s.journal; part = s.part; last = s.last; ends = s.writer; lease = s.keeper })
+        × AreReplaced (before_all s.replaced.items s.part) s.replaced.items s.part
         × (s.reader ≡ record { ends = unseen s.writer; shown = None })
-        × (s.lease.name ≡ s.keeper.name)
-        × (s.level ≡ true → AreLevel s.base s.part s.touched.items) };
+        × (s.lease.name ≡ s.keeper.name) };
 }
 
 impl Shard {
@@ -92,16 +88,13 @@ impl Shard {
         requires { base.rows ≡ [] }
         ensures new { IfOk result (λ shard. IsNew base shard) }
     {
-        let part = base.copy(alloc)?;
         let (writer, reader) = cells(rt, alloc)?;
-        let (keeper, lease) = lease_cell(rt, alloc, lease_end(&part), part.now())?;
+        let (keeper, lease) = lease_cell(rt, alloc, lease_end(&base), base.now())?;
         Ok(Shard {
-            base,
-            part,
+            part: base,
             journal: Journal::new(alloc),
-            changing: Vec::new(alloc),
-            level: true,
-            touched: Vec::new(alloc),
+            replaced: Vec::new(alloc),
+            spent: Vec::new(alloc),
             last: 0,
             writer,
             reader,
@@ -131,7 +124,7 @@ impl Shard {
             alloc,
             &mut self.part,
             &mut self.journal,
-            &mut self.changing,
+            &mut self.replaced,
             ticket,
             event,
         )?;
@@ -139,31 +132,19 @@ impl Shard {
         publish_rows(rt, &mut self.writer, &self.part, ticket, call, rows);
         self.keeper
             .raise(rt, lease_end(&self.part), self.part.now());
-        self.level = stays_level(self.level, &out, &mut self.touched);
+        let_go(&mut self.spent);
         self.last = ticket;
         Ok(out)
     }
 
-    /// Hands out the journal, and begins a new one: the base becomes the part. Where only rows that the base has changed, and the clock, it
-    /// takes them over; else it makes the steps of the entries that changed something again. It costs nothing for the rows that did not
-    /// change. Where memory is wanting, the shard is as it was.
+    /// Hands out the journal, and begins a new one: the base becomes the part. It looks at no row and at no entry.
     pub fn checkpoint(&mut self, alloc: Global) -> Result<Journal, Memory>
         ensures journal { IfOk result (λ journal. journal ≡ self.old.journal) }
         ensures anew { OnOk result (self.new ≡ checkpointed self.old) }
         ensures err { OnErr result (self.new ≡ self.old) }
     {
-        bring_up(
-            alloc,
-            &mut self.base,
-            &self.part,
-            &self.journal,
-            self.changing.as_slice(),
-            self.level,
-            self.touched.as_slice(),
-        )?;
-        self.changing.clear();
-        self.touched.clear();
-        self.level = true;
+        mem::swap(&mut self.replaced, &mut self.spent);
+        self.replaced.clear();
         Ok(mem::replace(&mut self.journal, Journal::new(alloc)))
     }
 
@@ -216,11 +197,11 @@ impl Shard {
         &self.part
     }
 
-    /// The node as it was when the journal began.
-    pub fn base(&self) -> &Node
-        ensures { result.now ≡ self.now.base }
+    /// The node as it was when the journal began. It is made anew, of a copy of the part, and shares keys and contents with it.
+    pub fn base(&self, alloc: Global) -> Result<Node, Memory>
+        ensures { IfOk result (λ base. base ≡ self.now.base) }
     {
-        &self.base
+        before_all(alloc, &self.part, self.replaced.as_slice())
     }
 
     /// What happened since.

@@ -1,31 +1,20 @@
-//! Steps of a node that are kept in a journal, or made again from one.
+//! Steps of a node that are kept in a journal, and what they replaced, by which they are undone.
 
-ghost use Rattle.std.specs.Prelude.{◌≡◌, ◌∷◌, ◌++◌, [], ℕ, length, true, false, IfOk, OnOk, OnErr, IsTrue, Option};
-ghost use Rattle.std.specs.Option.{option_copied, IfSome};
-ghost use Rattle.std.specs.List.{AllByRecursion};
+ghost use Rattle.std.specs.Prelude.{◌≡◌, ◌∷◌, ◌++◌, [], true, IfOk, OnOk, OnErr};
 ghost use Rattle.hk_node.specs.Node.{NodeState};
 ghost use Rattle.hk_node.specs.Outs.{IsOutOf};
 ghost use Rattle.hk_node.specs.Steps.{node_step};
 ghost use Rattle.hk_node.specs.Sound.{IsNode, IsEvent};
 ghost use Rattle.hk_node.specs.declared.report.Beside.TheVariants.{Nothing};
-ghost use Rattle.hk_journal.specs.Journal.{entry_of, replay};
+ghost use Rattle.hk_journal.specs.Journal.{entry_of};
 ghost use Rattle.hk_shard.specs.Shard.{step_entry};
-ghost use Rattle.hk_shard.specs.Changing.{after_found, replay_at, AreNoted};
-ghost use Rattle.hk_shard.specs.Level.{AreLevel};
-ghost use Rattle.hk_shard.specs.Replaced.{AreReplaced};
+ghost use Rattle.hk_shard.specs.Replaced.{replaced_of, before_all, AreKept, AreReplaced};
 
-use crate::level::level;
-use hk_base::{Key, Memory};
-use hk_journal::{Journal, JournalEntry, entry};
-use hk_node::{Beside, Node, NodeEvent, NodeOut, Report};
+use crate::replaced::{Replaced, replaced_of, share_all};
+use hk_base::Memory;
+use hk_journal::{Journal, entry};
+use hk_node::{Beside, Node, NodeEvent, NodeOut};
 use std::alloc::Global;
-
-/// What a step replaced at its node, by which it is undone.
-#[derive(Drop)]
-pub struct Replaced {
-    report: Report,
-    beside: Beside,
-}
 
 // Whether the step left its node as it was.
 fn changed_nothing(out: &NodeOut) -> bool
@@ -53,13 +42,57 @@ fn note(
     Ok(())
 }
 
-/// Makes the step of an event, and adds its entry to the journal, with its place among those that changed something if it did. Where
-/// memory is wanting, all is as it was.
+// Keeps what a step replaced.
+fn add(alloc: Global, replaced: &mut Vec<Replaced>, out: &NodeOut) -> Result<(), Memory>
+    ensures kept { OnOk result (replaced.new.items ≡ replaced.old.items ++ replaced_of out.now ∷ []) }
+    ensures err { OnErr result (replaced.new.items ≡ replaced.old.items) }
+{
+    replaced.reserve(1)?;
+    let last = replaced_of(alloc, out)?;
+    replaced.push_reserved(last);
+    Ok(())
+}
+
+// Keeps what a step replaced, if it replaced anything.
+fn keep(alloc: Global, replaced: &mut Vec<Replaced>, out: &NodeOut) -> Result<(), Memory>
+    ensures kept { OnOk result (AreKept out.now replaced.old.items replaced.new.items) }
+    ensures err { OnErr result (replaced.new.items ≡ replaced.old.items) }
+{
+    if changed_nothing(out) {
+        return Ok(());
+    }
+    add(alloc, replaced, out)
+}
+
+// Keeps what a step replaced, and adds its entry to the journal. Where memory is wanting, both are as they were.
+fn record(
+    alloc: Global,
+    journal: &mut Journal,
+    replaced: &mut Vec<Replaced>,
+    ticket: u64,
+    event: NodeEvent,
+    out: &NodeOut,
+) -> Result<(), Memory>
+    ensures noted { OnOk result (journal.new ≡ journal.old ++ entry_of ticket event out.now ∷ []) }
+    ensures kept { OnOk result (AreKept out.now replaced.old.items replaced.new.items) }
+    ensures journal_stays { OnErr result (journal.new ≡ journal.old) }
+    ensures replaced_stays { OnErr result (replaced.new.items ≡ replaced.old.items) }
+{
+    let before = replaced.len();
+    keep(alloc, replaced, out)?;
+    if let Err(fault) = note(alloc, journal, ticket, event, out) {
+        replaced.truncate(before);
+        return Err(fault);
+    }
+    Ok(())
+}
+
+/// Makes the step of an event, adds its entry to the journal, and keeps what it replaced. Where memory is wanting, all is as it was.
 pub(crate) fn make(
     alloc: Global,
     part: &mut Node,
     journal: &mut Journal,
-    changing: &mut Vec<usize>,
+    replaced: &mut Vec<Replaced>,
     ticket: u64,
     event: NodeEvent,
 ) -> Result<NodeOut, Memory>
@@ -68,143 +101,38 @@ pub(crate) fn make(
     ensures out { IfOk result (λ out. IsOutOf out part.old (node_step part.old event)) }
     ensures part { OnOk result (part.new ≡ (node_step part.old event).node) }
     ensures journal { OnOk result (journal.new ≡ journal.old ++ step_entry ticket part.old event ∷ []) }
-    ensures changing { OnOk result (AreNoted part.old part.new (length journal.old) changing.old.items changing.new.items) }
+    ensures replaced { OnOk result ((first : NodeState) → AreReplaced first replaced.old.items part.old → AreReplaced first replaced.new.items part.new) }
     ensures part_stays { OnErr result (part.new ≡ part.old) }
     ensures journal_stays { OnErr result (journal.new ≡ journal.old) }
-    ensures changing_stays { OnErr result (changing.new.items ≡ changing.old.items) }
+    ensures replaced_stays { OnErr result (replaced.new.items ≡ replaced.old.items) }
 {
-    changing.reserve(1)?;
-    let place = journal.len();
     let out = part.step(alloc, &event)?;
-    if let Err(fault) = note(alloc, journal, ticket, event, &out) {
+    if let Err(fault) = record(alloc, journal, replaced, ticket, event, &out) {
         part.undo(out.report, out.beside);
         return Err(fault);
-    }
-    if !changed_nothing(&out) {
-        changing.push_reserved(place);
     }
     Ok(out)
 }
 
-// Makes the step of an entry again, if there is one, and keeps what it replaced.
-fn repeat(
-    alloc: Global,
-    base: &mut Node,
-    entry: Option<&JournalEntry>,
-    replaced: &mut Vec<Replaced>,
-) -> Result<(), Memory>
-    requires event { IfSome (option_copied entry) (λ e. IsEvent e.event) }
-    requires node { IsNode base.old }
-    ensures base { OnOk result (base.new ≡ after_found (option_copied entry.entry) base.old) }
-    ensures node { IsNode base.new }
-    ensures replaced { (first : NodeState) → AreReplaced first replaced.old.items base.old → AreReplaced first replaced.new.items base.new }
-{
-    let Some(entry) = entry else {
-        return Ok(());
-    };
-    replaced.reserve(1)?;
-    let out = base.step(alloc, &entry.event)?;
-    replaced.push_reserved(Replaced {
-        report: out.report,
-        beside: out.beside,
-    });
-    Ok(())
-}
-
 // Undoes steps, the last one first.
-fn take_back(base: &mut Node, replaced: Vec<Replaced>)
-    requires { (first : NodeState) × AreReplaced first replaced.items base.old }
-    ensures { (first : NodeState) → AreReplaced first replaced.items base.old → base.new ≡ first }
+fn take_back(node: &mut Node, replaced: Vec<Replaced>)
+    requires { (first : NodeState) × AreReplaced first replaced.items node.old }
+    ensures { (first : NodeState) → AreReplaced first replaced.items node.old → node.new ≡ first }
 {
     let mut replaced = replaced;
     while let Some(last) = replaced.pop() {
         let Replaced { report, beside } = last;
-        base.undo(report, beside);
+        node.undo(report, beside);
     }
 }
 
-// Makes the steps of the entries at these places again, and keeps what they replaced.
-fn repeat_all(
-    alloc: Global,
-    base: &mut Node,
-    journal: &Journal,
-    places: &[usize],
-    replaced: &mut Vec<Replaced>,
-) -> Result<(), Memory>
-    requires events { AllByRecursion (λ e. IsEvent e.event) journal.now }
-    requires node { IsNode base.old }
-    requires new { replaced.old.items ≡ [] }
-    ensures base { OnOk result (base.new ≡ replay_at base.old journal.now places.now) }
-    ensures replaced { AreReplaced base.old replaced.new.items base.new }
+/// The node as it was before the steps that replaced these. It shares keys and contents with the node as it is.
+pub(crate) fn before_all(alloc: Global, part: &Node, replaced: &[Replaced]) -> Result<Node, Memory>
+    requires { AreReplaced (before_all replaced.now part.now) replaced.now part.now }
+    ensures { IfOk result (λ node. node ≡ before_all replaced.now part.now) }
 {
-    for place in places {
-        repeat(alloc, base, journal.get(*place), replaced)?;
-    }
-    Ok(())
-}
-
-/// Makes the steps of the entries at these places again. Where memory is wanting, the node is as it was.
-pub(crate) fn go_on(
-    alloc: Global,
-    base: &mut Node,
-    journal: &Journal,
-    places: &[usize],
-) -> Result<(), Memory>
-    requires events { AllByRecursion (λ e. IsEvent e.event) journal.now }
-    requires node { IsNode base.old }
-    ensures base { OnOk result (base.new ≡ replay_at base.old journal.now places.now) }
-    ensures err { OnErr result (base.new ≡ base.old) }
-{
-    let mut replaced = Vec::new(alloc);
-    if let Err(fault) = repeat_all(alloc, base, journal, places, &mut replaced) {
-        take_back(base, replaced);
-        return Err(fault);
-    }
-    Ok(())
-}
-
-// Brings the base to its part, if it is level with it by these keys and none of their rows has an update that waits.
-fn level_if(
-    alloc: Global,
-    base: &mut Node,
-    part: &Node,
-    is_level: bool,
-    touched: &[Key],
-) -> Result<bool, Memory>
-    requires level { is_level ≡ true → AreLevel base.old part.now touched.now }
-    requires base { IsNode base.old }
-    requires part { IsNode part.now }
-    ensures done { IfOk result (λ done. done ≡ true → base.new ≡ part.now) }
-    ensures same { IfOk result (λ done. done ≡ false → base.new ≡ base.old) }
-    ensures err { OnErr result (base.new ≡ base.old) }
-{
-    if !is_level {
-        return Ok(false);
-    }
-    level(alloc, base, part, touched)
-}
-
-/// Brings the base to its part: by the rows of the keys that were touched, where it is level with it, else by the steps of the entries
-/// at these places. Where memory is wanting, the base is as it was.
-pub(crate) fn bring_up(
-    alloc: Global,
-    base: &mut Node,
-    part: &Node,
-    journal: &Journal,
-    places: &[usize],
-    is_level: bool,
-    touched: &[Key],
-) -> Result<(), Memory>
-    requires events { AllByRecursion (λ e. IsEvent e.event) journal.now }
-    requires node { IsNode base.old }
-    requires enough { replay_at base.old journal.now places.now ≡ part.now }
-    requires part { IsNode part.now }
-    requires level { is_level ≡ true → AreLevel base.old part.now touched.now }
-    ensures base { OnOk result (base.new ≡ part.now) }
-    ensures err { OnErr result (base.new ≡ base.old) }
-{
-    if level_if(alloc, base, part, is_level, touched)? {
-        return Ok(());
-    }
-    go_on(alloc, base, journal, places)
+    let all = share_all(alloc, replaced)?;
+    let mut node = part.copy(alloc)?;
+    take_back(&mut node, all);
+    Ok(node)
 }

@@ -4,8 +4,8 @@ use Rattle.hk_shard.proofs.step.take_back.Given as goal
 
 abbrev pub invariant-loop-last : goal.invariant-loop-last
 invariant-loop-last l =
-    ((first : NodeState) × AreReplaced first l.replaced.items l.base)
-    × ((first : NodeState) → AreReplaced first l.fn.replaced.items l.fn.base → AreReplaced first l.replaced.items l.base)
+    ((first : NodeState) × AreReplaced first l.replaced.items l.node)
+    × ((first : NodeState) → AreReplaced first l.fn.replaced.items l.fn.node → AreReplaced first l.replaced.items l.node)
 
 abbrev pub decreases-loop-last : goal.decreases-loop-last
 decreases-loop-last l = goal.left-loop-last l

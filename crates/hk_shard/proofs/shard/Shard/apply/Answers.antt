@@ -1,4 +1,4 @@
-use Rattle.std.proofs.Common.{◌<◌, List, sym, ap, ◌∙◌, subst}
+use Rattle.std.proofs.Common.{◌≡◌, ◌<◌, List, sym, ap, ◌∙◌, subst}
 use Rattle.std.specs.Option.{IsSome}
 use Rattle.std.specs.List.{AllByRecursion}
 use Rattle.hk_node.specs.declared.report.Former.{Former}
@@ -7,8 +7,9 @@ use Rattle.hk_node.specs.Node.{NodeState}
 use Rattle.hk_snap.specs.Leases.{Lease, raised}
 use Rattle.hk_shard.specs.Publishing.{publications, with_all, MayBePublished}
 use Rattle.hk_shard.specs.Shard.{ShardState, IsApplied}
-use Rattle.hk_shard.proofs.Keeping.{part_is_node, next_by, applied_by, applied_kept, noted_kept, still_unseen}
-use Rattle.hk_shard.proofs.Levelling.{level_more}
+use Rattle.hk_shard.proofs.Keeping.{part_is_node, next_by, applied_by, applied_kept, base_by, still_unseen}
+use Rattle.hk_shard.specs.Replaced.{before_all}
+use Rattle.hk_shard.proofs.Undoing.{back_at_first}
 use Rattle.hk_shard.proofs.shard.Shard.apply.Goals as goal
 
 pub make-requires-clause-node : goal.make-requires-clause-node
@@ -33,13 +34,13 @@ invariant_of-self-2 g c =
     let ends = c.publish_rows.ensures ∙ ap (λ (l : List Former). with_all c.self.inside.writer (publications c.make.new.part.rows c.args.ticket c.call_of-call.result l)) c.as_slice-rows.ensures in
     let lease = c.raise.ensures ∙ (λ i. raised c.self.inside.keeper (c.lease_end.ensures i) (c.now.ensures i)) in
     let applied = applied_by _ c.args.ticket c.args.event c.in_ok-out.out c.make.new.part c.make.new.journal c.call_of-call.result c.publish_rows.new.writer c.raise.new.self
-    c.self.invariant.0 c.requires.event told.out told.part told.journal c.call_of-call.ensures ends lease in (
-      applied_kept _ _ c.args.ticket c.args.event c.self.invariant.0 up c.requires.event applied,
-      noted_kept _ c.make.new.part c.make.new.journal c.args.ticket c.args.event c.self.inside.changing.items c.make.new.changing.items c.self.invariant.0 c.self.invariant.1 told.changing told.part told.journal,
+    c.self.invariant.0 c.requires.event told.out told.part told.journal c.call_of-call.ensures ends lease in
+    let by = base_by _ c.make.new.journal c.make.new.part c.args.ticket c.publish_rows.new.writer c.raise.new.self c.make.new.replaced.items (told.replaced _ c.self.invariant.1)
+    (applied_kept _ _ c.args.ticket c.args.event c.self.invariant.0 up c.requires.event applied) in (
+      by.0,
+      by.1,
       still_unseen c.self.inside.reader c.self.inside.writer c.publish_rows.new.writer applied.names c.self.invariant.2,
       c.self.invariant.3 ∙ sym (ap (λ (l : Lease). l.name) c.raise.ensures),
-      λ yes. level_more c.self.inside.base c.self.inside.part c.make.new.part c.args.event c.in_ok-out.out c.self.inside.touched.items c.stays_level-self-inside.new.touched.items
-          (c.self.invariant.4 (c.stays_level-self-inside.ensures.was yes)) told.out told.part (c.stays_level-self-inside.ensures.noted yes),
     )
 
 pub returns-clause-applied : goal.returns-clause-applied
@@ -48,13 +49,15 @@ returns-clause-applied g c =
     let ends = c.publish_rows.ensures ∙ ap (λ (l : List Former). with_all c.self.inside.writer (publications c.make.new.part.rows c.args.ticket c.call_of-call.result l)) c.as_slice-rows.ensures in
     let lease = c.raise.ensures ∙ (λ i. raised c.self.inside.keeper (c.lease_end.ensures i) (c.now.ensures i)) in
     let new : ShardState = record {
-      base = c.self.inside.base;
+      base = before_all c.self.inside.replaced.items c.self.inside.part;
       journal = c.make.new.journal;
       part = c.make.new.part;
       last = c.args.ticket;
       ends = c.publish_rows.new.writer;
       lease = c.raise.new.self;
     } in
-    subst (λ (s : ShardState). IsApplied s c.args.ticket c.args.event new) c.self.view_is
+    let back : new.base ≡ before_all c.make.new.replaced.items c.make.new.part = sym (back_at_first _ c.make.new.part c.make.new.replaced.items (told.replaced _ c.self.invariant.1)) in
+    subst (λ (b : NodeState). IsApplied c.args.self.now c.args.ticket c.args.event (record { base = b; journal = new.journal; part = new.part; last = new.last; ends = new.ends; lease = new.lease })) back
+    (subst (λ (s : ShardState). IsApplied s c.args.ticket c.args.event new) c.self.view_is
     (applied_by _ c.args.ticket c.args.event c.in_ok-out.out c.make.new.part c.make.new.journal c.call_of-call.result c.publish_rows.new.writer c.raise.new.self
-    c.self.invariant.0 c.requires.event told.out told.part told.journal c.call_of-call.ensures ends lease)
+    c.self.invariant.0 c.requires.event told.out told.part told.journal c.call_of-call.ensures ends lease))

@@ -1,18 +1,22 @@
-use Rattle.std.proofs.Common.{ap, sym, ◌∙◌}
-use Rattle.hk_shard.specs.Changing.{replay_at}
-use Rattle.hk_shard.proofs.Keeping.{checkpoint_by, enough_by, part_is_node}
-use Rattle.hk_shard.proofs.Levelling.{level_at_first}
+use Rattle.std.proofs.Common.{ap, ◌∙◌}
+use Rattle.hk_shard.specs.Replaced.{before_all}
+use Rattle.hk_shard.specs.Shard.{ShardState, checkpointed}
+use Rattle.hk_shard.proofs.Keeping.{checkpoint_by, checkpoint_is}
 use Rattle.hk_shard.proofs.shard.Shard.checkpoint.Goals as goal
 
-pub bring_up-requires-clause-enough : goal.bring_up-requires-clause-enough
-bring_up-requires-clause-enough c =
-    ap (replay_at c.self.inside.base c.self.inside.journal) c.as_slice.ensures.value ∙ enough_by _ c.self.inside.changing.items c.self.invariant.0 c.self.invariant.1
+pub invariant_of-self : goal.invariant_of-self
+invariant_of-self c =
+    let kept = checkpoint_by _ c.replace.new.dest c.clear.new.self.items c.self.invariant.0 (c.replace.ensures.after ∙ c.new.ensures) c.clear.ensures.items in
+    (kept.0, kept.1, c.self.invariant.2, c.self.invariant.3)
 
-pub bring_up-requires-clause-part : goal.bring_up-requires-clause-part
-bring_up-requires-clause-part c = part_is_node _ c.self.invariant.0
-
-pub invariant_of-self-2 : goal.invariant_of-self-2
-invariant_of-self-2 c =
-    let base = c.in_ok-bring_up.ensures.base in
-    let kept = checkpoint_by _ c.bring_up.new.base c.replace.new.dest c.clear.new.self.items c.self.invariant.0 base (c.replace.ensures.after ∙ c.new.ensures) c.clear.ensures.items in
-    (kept.0, kept.1, c.self.invariant.2, c.self.invariant.3, λ yes. level_at_first _ _ _ (sym base) c.clear-2.ensures.items)
+pub returns-clause-anew : goal.returns-clause-anew
+returns-clause-anew c =
+    let s : ShardState = record {
+      base = before_all c.self.inside.replaced.items c.self.inside.part;
+      journal = c.self.inside.journal;
+      part = c.self.inside.part;
+      last = c.self.inside.last;
+      ends = c.self.inside.writer;
+      lease = c.self.inside.keeper;
+    } in
+    checkpoint_is s c.replace.new.dest c.clear.new.self.items (c.replace.ensures.after ∙ c.new.ensures) c.clear.ensures.items ∙ ap checkpointed c.self.view_is

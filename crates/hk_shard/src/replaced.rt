@@ -1,0 +1,154 @@
+//! What steps replaced at their node.
+
+ghost use Rattle.std.specs.Prelude.{◌≡◌, IfOk};
+ghost use Rattle.hk_shard.specs.Replaced.{replaced_of};
+
+use hk_base::{Key, Memory, Sequence, View};
+use hk_key::Row;
+use hk_node::{Beside, Former, FormerRows, NodeOut, Report};
+use std::alloc::Global;
+
+/// What a step replaced at its node, by which it is undone.
+#[derive(Drop)]
+pub struct Replaced {
+    pub report: Report,
+    pub beside: Beside,
+}
+
+fn copy_row(alloc: Global, row: &Option<Row>) -> Result<Option<Row>, Memory>
+    ensures { IfOk result (λ same. same ≡ row.now) }
+{
+    match row {
+        Some(row) => {
+            let same = row.copy(alloc)?;
+            Ok(Some(same))
+        }
+        None => Ok(None),
+    }
+}
+
+fn copy_former(alloc: Global, former: &Former) -> Result<Former, Memory>
+    ensures { IfOk result (λ same. same ≡ former.now) }
+{
+    let key = former.key.share()?;
+    let row = copy_row(alloc, &former.row)?;
+    Ok(Former { key, row })
+}
+
+fn copy_rows(alloc: Global, rows: &[Former]) -> Result<FormerRows, Memory>
+    ensures { IfOk result (λ same. same ≡ rows.now) }
+{
+    let mut same = Vec::with_capacity(alloc, rows.len())?;
+    for former in rows {
+        let former = copy_former(alloc, former)?;
+        same.push(former)?;
+    }
+    Ok(Sequence::from_vec(same))
+}
+
+fn copy_report(alloc: Global, report: &Report) -> Result<Report, Memory>
+    ensures { IfOk result (λ same. same ≡ report.now) }
+{
+    let rows = copy_rows(alloc, report.rows.as_slice())?;
+    Ok(Report {
+        epoch: report.epoch,
+        readied: report.readied,
+        rows,
+    })
+}
+
+fn copy_numbers(alloc: Global, numbers: &Sequence<u64>) -> Result<Sequence<u64>, Memory>
+    ensures { IfOk result (λ same. same ≡ numbers.now) }
+{
+    let same = numbers.as_slice().to_vec(alloc)?;
+    Ok(Sequence::from_vec(same))
+}
+
+fn copy_view(alloc: Global, view: &Option<View>) -> Result<Option<View>, Memory>
+    ensures { IfOk result (λ same. same ≡ view.now) }
+{
+    match view {
+        Some(view) => {
+            let same = view.copy(alloc)?;
+            Ok(Some(same))
+        }
+        None => Ok(None),
+    }
+}
+
+fn share_key(key: &Option<Key>) -> Result<Option<Key>, Memory>
+    ensures { IfOk result (λ same. same ≡ key.now) }
+{
+    match key {
+        Some(key) => {
+            let same = key.share()?;
+            Ok(Some(same))
+        }
+        None => Ok(None),
+    }
+}
+
+fn copy_beside(alloc: Global, beside: &Beside) -> Result<Beside, Memory>
+    ensures { IfOk result (λ same. same ≡ beside.now) }
+{
+    match beside {
+        Beside::Nothing => Ok(Beside::Nothing),
+        Beside::Clock(now) => Ok(Beside::Clock(*now)),
+        Beside::Lease(end) => Ok(Beside::Lease(*end)),
+        Beside::Granted { granted, ends } => {
+            let ends = copy_numbers(alloc, ends)?;
+            Ok(Beside::Granted {
+                granted: *granted,
+                ends,
+            })
+        }
+        Beside::Activated(activated) => {
+            let activated = copy_numbers(alloc, activated)?;
+            Ok(Beside::Activated(activated))
+        }
+        Beside::View { view, activated } => {
+            let view = copy_view(alloc, view)?;
+            let activated = copy_numbers(alloc, activated)?;
+            Ok(Beside::View { view, activated })
+        }
+        Beside::Cursor(cursor) => {
+            let cursor = share_key(cursor)?;
+            Ok(Beside::Cursor(cursor))
+        }
+    }
+}
+
+/// What the step that gave this replaced.
+pub(crate) fn replaced_of(alloc: Global, out: &NodeOut) -> Result<Replaced, Memory>
+    ensures { IfOk result (λ replaced. replaced ≡ replaced_of out.now) }
+{
+    let report = copy_report(alloc, &out.report)?;
+    let beside = copy_beside(alloc, &out.beside)?;
+    Ok(Replaced { report, beside })
+}
+
+fn share(alloc: Global, replaced: &Replaced) -> Result<Replaced, Memory>
+    ensures { IfOk result (λ same. same ≡ replaced.now) }
+{
+    let report = copy_report(alloc, &replaced.report)?;
+    let beside = copy_beside(alloc, &replaced.beside)?;
+    Ok(Replaced { report, beside })
+}
+
+/// The same of all these steps.
+pub(crate) fn share_all(alloc: Global, replaced: &[Replaced]) -> Result<Vec<Replaced>, Memory>
+    ensures { IfOk result (λ same. same.items ≡ replaced.now) }
+{
+    let mut same = Vec::with_capacity(alloc, replaced.len())?;
+    for one in replaced {
+        let one = share(alloc, one)?;
+        same.push(one)?;
+    }
+    Ok(same)
+}
+
+/// Drops two of them at most, the last ones.
+pub(crate) fn let_go(spent: &mut Vec<Replaced>) {
+    let left = spent.len().saturating_sub(2);
+    spent.truncate(left);
+}
