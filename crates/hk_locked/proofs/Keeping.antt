@@ -10,7 +10,7 @@ use Rattle.hk_base.specs.declared.call.Reply.{Reply}
 use Rattle.hk_key.specs.declared.row.Row.{Row}
 use Rattle.hk_node.specs.declared.event.NodeEvent.{NodeEvent}
 use Rattle.hk_node.specs.declared.event.NodeEvent.TheVariants.{Call}
-use Rattle.hk_node.specs.Rows.{row_at}
+use Rattle.hk_node.specs.Rows.{Rows, row_at}
 use Rattle.hk_node.specs.Node.{NodeState}
 use Rattle.hk_node.specs.Calls.{lease_end}
 use Rattle.hk_node.specs.Stepped.{replies_of}
@@ -47,6 +47,7 @@ use Rattle.hk_told.proofs.Telling.{calls_begin_in_lists}
 use Rattle.hk_locked.specs.Places.{NodeNames, node_names, shard_names}
 use Rattle.hk_told.specs.Shown.{BeginsIn}
 use Rattle.hk_locked.specs.Locked.{lists_in, LockedState, IsLocked}
+use Rattle.hk_locked.specs.Moments.{Follows}
 use Rattle.hk_locked.specs.Steps.{GivesUp, IsLeft, AreOneOrNone, HasCalled, Begins, replies_with}
 
 -- ---- a shard's lists show its rows
@@ -163,11 +164,17 @@ called_letters s call key op event letters is same given =
 -- a step that is reported is followed
 pub follows : (s t : ShardState) (ticket : ℕ) (event : NodeEvent) (changed shown : List Former) (part : NodeState) (keys followed : OpenState) → IsApplied s ticket event t
     → AreChanged changed s.part.rows (node_step s.part event).node.rows → shown ≡ changed → part ≡ t.part → AreNoted part.rows ticket (map (λ f. f.key) shown) keys followed
-    → AreOpen keys s.part.rows → AreOpen followed t.part.rows
-follows s t ticket event changed shown part keys followed applied are same at noted was =
-    following_keeps changed s.part.rows t.part.rows ticket keys followed (subst (λ (n : NodeState). AreChanged changed s.part.rows n.rows) (sym applied.part) are)
-    (subst (λ (l : List Former). AreNoted t.part.rows ticket (map (λ f. f.key) l) keys followed) same
-    (subst (λ (n : NodeState). AreNoted n.rows ticket (map (λ (f : Former). f.key) shown) keys followed) at noted)) was
+    → Follows ticket s.part.rows t.part.rows keys followed
+follows s t ticket event changed shown part keys followed applied are same at noted = record {
+  changed = changed;
+  differ = subst (λ (n : NodeState). AreChanged changed s.part.rows n.rows) (sym applied.part) are;
+  noted = subst (λ (l : List Former). AreNoted t.part.rows ticket (map (λ f. f.key) l) keys followed) same
+      (subst (λ (n : NodeState). AreNoted n.rows ticket (map (λ (f : Former). f.key) shown) keys followed) at noted);
+}
+
+-- and the keys are those of the open rows again
+still_open : (ticket : ℕ) (old new : Rows) (before after : OpenState) → Follows ticket old new before after → AreOpen before old → AreOpen after new
+still_open ticket old new before after follow = following_keeps follow.changed old new ticket before after follow.differ follow.noted
 
 none_open : AreOpen (record { since = []; whole = true }) []
 none_open = record { open_ones = λ key there. absurd (false≢true there); all_open = λ whole key is. absurd (false≢true is) }
@@ -178,7 +185,7 @@ module _ (places : List NodeNames) (node : NodeId) (number skew : ℕ) where
   locked shard asks keys = record { node = node; number = number; skew = skew; shard = shard; asks = asks; open_keys = keys }
 
   moved : (s t : ShardState) (ticket : ℕ) (event : NodeEvent) (asks new : List (CallNo × Ask)) (keys followed : OpenState) → IsShard s → IsEvent event → IsApplied s ticket event t
-      → IsLocked places (locked s asks keys) → (AreOpen keys s.part.rows → AreOpen followed t.part.rows) → IsHeld t.part.rows (lists_in t.ends) t.last (asks_in new)
+      → IsLocked places (locked s asks keys) → Follows ticket s.part.rows t.part.rows keys followed → IsHeld t.part.rows (lists_in t.ends) t.last (asks_in new)
       → IsLocked places (locked t new followed)
   moved s t ticket event asks new keys followed is within applied old follow held = record {
     cells = applied.names ∙ old.cells;
@@ -186,12 +193,12 @@ module _ (places : List NodeNames) (node : NodeId) (number skew : ℕ) where
     skew = old.skew;
     part = ap (λ p. p.skew) applied.part ∙ ((steps_keep_numbers s.part event (part_is_node s is) within).1 ∙ old.part);
     held = held;
-    are_open = follow old.are_open;
+    are_open = still_open ticket s.part.rows t.part.rows keys followed follow old.are_open;
   }
 
   -- a step that is no call
   pub applied_locked : (s t : ShardState) (ticket : ℕ) (event : NodeEvent) (asks new : List (CallNo × Ask)) (keys followed : OpenState) → IsShard s → s.last < ticket → IsEvent event
-      → IsNoCall event → IsApplied s ticket event t → Delivers (replies_of (node_step s.part event)) (asks_in asks) (asks_in new) → (AreOpen keys s.part.rows → AreOpen followed t.part.rows)
+      → IsNoCall event → IsApplied s ticket event t → Delivers (replies_of (node_step s.part event)) (asks_in asks) (asks_in new) → Follows ticket s.part.rows t.part.rows keys followed
       → IsLocked places (locked s asks keys) → IsLocked places (locked t new followed)
   applied_locked s t ticket event asks new keys followed is up within no_call applied delivered follow old =
       moved s t ticket event asks new keys followed is within applied old follow
@@ -200,7 +207,7 @@ module _ (places : List NodeNames) (node : NodeId) (number skew : ℕ) where
 
   -- a call
   pub called_locked : (s t : ShardState) (ticket : ℕ) (call : CallNo) (key : List ℕ) (op : Op) (answer : Option Answer) (asks new : List (CallNo × Ask)) (keys followed : OpenState) → IsShard s
-      → s.last < ticket → HasCalled s (asks_in asks) ticket call key op t (asks_in new) answer → (AreOpen keys s.part.rows → AreOpen followed t.part.rows)
+      → s.last < ticket → HasCalled s (asks_in asks) ticket call key op t (asks_in new) answer → Follows ticket s.part.rows t.part.rows keys followed
       → IsLocked places (locked s asks keys) → IsLocked places (locked t new followed)
   called_locked s t ticket call key op answer asks new keys followed is up called follow old =
       moved s t ticket (Call call key op) asks new keys followed is tt called.applied old follow

@@ -1,6 +1,7 @@
 -- What is told of moments under a shard's lock.
 use Rattle.std.proofs.Common.{◌≡◌, ℕ, ◌<◌, List, [], Option, Result, Ok, Err, Bool, true, false, refl, sym, ap, ◌∙◌, subst}
 use Rattle.std.specs.Prelude.{not, IsTrue, IfOk, IsSome}
+use Rattle.hk_base.specs.declared.stamp.NodeId.{NodeId}
 use Rattle.hk_base.specs.declared.call.CallNo.{CallNo}
 use Rattle.hk_base.specs.declared.letter.Letter.{Letter}
 use Rattle.hk_node.specs.declared.event.NodeEvent.{NodeEvent}
@@ -19,12 +20,13 @@ use Rattle.hk_locked.specs.Places.{NodeNames}
 use Rattle.hk_node.specs.Calls.{lease_end}
 use Rattle.hk_locked.specs.Locked.{LockedState, ReaderState, IsLocked}
 use Rattle.hk_locked.specs.Steps.{MeetsLease, is_short}
-use Rattle.hk_locked.specs.Moments.{WasApplied, WasDue, WasJournal, WasQuiet}
+use Rattle.hk_locked.specs.Moments.{Follows, WasApplied, WasDue, WasJournal, WasQuiet}
 
 pub was_applied : (places : List NodeNames) (s now : LockedState) (t : ShardState) (ticket : ℕ) (event : NodeEvent) (asks : List (CallNo × Ask)) (keys : OpenState) (letters : List Letter)
     → s ≡ now → s.shard.last < ticket → IsApplied s.shard ticket event t → letters ≡ (node_step s.shard.part event).letters → IsLocked places s
-    → IsLocked places (record { node = s.node; number = s.number; skew = s.skew; shard = t; asks = asks; open_keys = keys }) → WasApplied places now.node now.number event letters
-was_applied places s now t ticket event asks keys letters same up applied given old new = record {
+    → IsLocked places (record { node = s.node; number = s.number; skew = s.skew; shard = t; asks = asks; open_keys = keys }) → Follows ticket s.shard.part.rows t.part.rows s.open_keys keys
+    → WasApplied places now.node now.number event letters
+was_applied places s now t ticket event asks keys letters same up applied given old new follow = record {
   before = s;
   after = record { node = s.node; number = s.number; skew = s.skew; shard = t; asks = asks; open_keys = keys };
   ticket = ticket;
@@ -33,7 +35,15 @@ was_applied places s now t ticket event asks keys letters same up applied given 
   drawn = up;
   applied = applied;
   given = given;
+  followed = follow;
 }
+
+-- of a reader of the same shard, with which nothing was done before
+pub applied_there : (places : List NodeNames) (s now : LockedState) (node : NodeId) (number : ℕ) (event : NodeEvent) (letters : List Letter) → s ≡ now → node ≡ now.node → number ≡ now.number
+    → WasApplied places s.node s.number event letters → WasApplied places node number event letters
+applied_there places s now node number event letters same of_node numbered was =
+    subst (λ (n : NodeId). WasApplied places n number event letters) (sym (of_node ∙ sym (ap (λ (x : LockedState). x.node) same)))
+    (subst (λ k. WasApplied places s.node k event letters) (sym (numbered ∙ sym (ap (λ (x : LockedState). x.number) same))) was)
 
 pub was_due : (places : List NodeNames) (s now : LockedState) (after : Option (List ℕ)) (before : ℕ) (due : Option Due) → s ≡ now → IsLocked places s
     → due ≡ due_of after before s.open_keys s.shard.part.rows → WasDue places now.node now.number after before due

@@ -92,10 +92,12 @@ grown_lease s key old new m = record {
 met_at : (xs : List End) (cell k : ℕ) (e : End) → k ≡ cell → k < length xs → at (slice_set xs k e) cell ≡ e
 met_at xs cell k e is below = subst (λ j. at (slice_set xs k e) j ≡ e) is (get_or-set_same xs k e (writing_end no_name []) below)
 
-pub met : (s : LockedState) (key : List ℕ) (cell : ℕ) (old : ReaderState) (cells : Reader) → old.skew ≡ s.skew → cell ≡ cell_of key → cell < 32 → length old.cells.ends ≡ 32
+pub met : (s : LockedState) (key : List ℕ) (cell : ℕ) (old : ReaderState) (cells : Reader) → old.node ≡ s.node → old.number ≡ s.number → old.skew ≡ s.skew → cell ≡ cell_of key → cell < 32 → length old.cells.ends ≡ 32
     → cells ≡ looked old.cells cell (seen_at s.shard.ends cell) → Loads old.cells cell cells
     → Meets s key old (record { node = old.node; number = old.number; skew = old.skew; cells = cells; lease = old.lease })
-met s key cell old cells skew is below long looks loads = record {
+met s key cell old cells node number skew is below long looks loads = record {
+  node = node;
+  number = number;
   skew = skew;
   same = record {
     node = refl;
@@ -208,12 +210,12 @@ pub met_inside : (places : List NodeNames) (s now : LockedState) (r old : Reader
     → cells ≡ looked r.cells cell (seen_at s.shard.ends cell) → Loads r.cells cell cells
     → Meets now key old (record { node = r.node; number = r.number; skew = r.skew; cells = cells; lease = r.lease })
 met_inside places s now r old key cell cells same_shard same_reader locked reads node number is below long looks loads =
-    let one : IsOfOne s r = of_one_shard places s r locked reads
-    (ap (λ (x : ReaderState). x.node) same_reader ∙ (node ∙ sym (ap (λ (x : LockedState). x.node) same_shard)))
-    (ap (λ (x : ReaderState). x.number) same_reader ∙ (number ∙ sym (ap (λ (x : LockedState). x.number) same_shard))) in
+    let of_node : r.node ≡ s.node = ap (λ (x : ReaderState). x.node) same_reader ∙ (node ∙ sym (ap (λ (x : LockedState). x.node) same_shard)) in
+    let numbered : r.number ≡ s.number = ap (λ (x : ReaderState). x.number) same_reader ∙ (number ∙ sym (ap (λ (x : LockedState). x.number) same_shard)) in
+    let one : IsOfOne s r = of_one_shard places s r locked reads of_node numbered in
     subst (λ (x : LockedState). Meets x key old (record { node = r.node; number = r.number; skew = r.skew; cells = cells; lease = r.lease })) same_shard
     (subst (λ (x : ReaderState). Meets s key x (record { node = r.node; number = r.number; skew = r.skew; cells = cells; lease = r.lease })) same_reader
-    (met s key cell r cells one.skew is below (same_long r.cells.ends s.shard.ends one.cells ∙ long) looks loads))
+    (met s key cell r cells of_node numbered one.skew is below (same_long r.cells.ends s.shard.ends one.cells ∙ long) looks loads))
 
 -- ---- a read without the lock
 module _ (key : List ℕ) (r old : ReaderState) (cells : Reader) (lease : Lease) (same_reader : r ≡ old) (long : length r.cells.ends ≡ 32) (loads : Loads r.cells (cell_of key) cells) (looks : LooksAtLease r.lease lease) where

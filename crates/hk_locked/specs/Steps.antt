@@ -52,6 +52,8 @@ pub record IsGrown (key : List ℕ) (old new : ReaderState) : Type 0 where
 
 -- The reader is of this shard, and by one load of the key's cell has seen all that the shard published in it. The list begins with what it had seen.
 pub record Meets (s : LockedState) (key : List ℕ) (old new : ReaderState) : Type 0 where
+  pub node : old.node ≡ s.node
+  pub number : old.number ≡ s.number
   pub skew : old.skew ≡ s.skew
   pub same : IsSameBut key old new
   pub lease : new.lease ≡ old.lease

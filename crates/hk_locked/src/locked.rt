@@ -18,10 +18,9 @@ ghost use Rattle.hk_node.specs.declared.event.NodeEvent.TheVariants.{Call};
 ghost use Rattle.hk_node.specs.Stepped.{replies_of};
 ghost use Rattle.hk_node.specs.Steps.{node_step};
 ghost use Rattle.hk_node.specs.Calls.{lease_end};
-ghost use Rattle.hk_due.specs.Keys.{AreOpen};
 ghost use Rattle.hk_locked.specs.Places.{shard_names, node_names};
 ghost use Rattle.hk_locked.specs.ByRow.{ReadsRow};
-ghost use Rattle.hk_locked.specs.Moments.{WasApplied, WasDue, WasJournal, WasQuiet};
+ghost use Rattle.hk_locked.specs.Moments.{Follows, WasApplied, WasDue, WasJournal, WasQuiet};
 ghost use Rattle.hk_locked.specs.Steps.{IsGrown, Meets, MeetsLease, Ticks, Trims, Begins, StartsAt, LooksFor, GivesUp, HasNoAsk, HasCalled, AreOneOrNone, replies_with, is_short};
 ghost use Rattle.hk_told.specs.declared.asks.Look.TheVariants.{Gone};
 
@@ -195,7 +194,7 @@ fn step<R: Wait>(
     requires event { IsEvent event }
     ensures out { IfOk result (λ out. IsOutOf out shard.old.part (node_step shard.old.part event)) }
     ensures applied { OnOk result (IsApplied shard.old ticket event shard.new) }
-    ensures followed { OnOk result (AreOpen keys.old shard.old.part.rows → AreOpen keys.new shard.new.part.rows) }
+    ensures followed { OnOk result (Follows ticket shard.old.part.rows shard.new.part.rows keys.old keys.new) }
     ensures shard { OnErr result (shard.new ≡ shard.old) }
     ensures unfollowed { OnErr result (keys.new ≡ keys.old) }
 {
@@ -223,7 +222,8 @@ fn make_call<F: Completion + Drop, R: Wait>(
     ensures called { IfOk result (λ started. HasCalled shard.old (asks_in asks.old) ticket call key.now op.now shard.new (asks_in asks.new) started.answer) }
     ensures ticket { IfOk result (λ started. started.ticket ≡ ticket) }
     ensures letters { IfOk result (λ started. AllByRecursion IsLetter started.letters) }
-    ensures followed { OnOk result (AreOpen keys.old shard.old.part.rows → AreOpen keys.new shard.new.part.rows) }
+    ensures given { IfOk result (λ started. started.letters ≡ (node_step shard.old.part (Call call key.now op.now)).letters) }
+    ensures followed { OnOk result (Follows ticket shard.old.part.rows shard.new.part.rows keys.old keys.new) }
     ensures shard { OnErr result (shard.new ≡ shard.old) }
     ensures unfollowed { OnErr result (keys.new ≡ keys.old) }
     ensures asks { OnErr result ((other : CallNo) → asks_in asks.new other ≡ asks_in asks.old other) }
@@ -426,6 +426,7 @@ impl<F: Completion + Copy + Drop, P: Places> LockedShard<F, P> {
     ) -> Result<Started, Memory>
         requires ticket { self.old.shard.last < ticket }
         ensures begins { IfOk result (λ started. Begins self.old self.new call key.now ticket op.now started.answer) }
+        ensures applied { IfOk result (λ started. WasApplied P.places self.old.node self.old.number (Call call key.now op.now) started.letters) }
         ensures ticket { IfOk result (λ started. started.ticket ≡ ticket) }
         ensures letters { IfOk result (λ started. AllByRecursion IsLetter started.letters) }
         ensures node { self.new.node ≡ self.old.node }
@@ -463,6 +464,7 @@ impl<F: Completion + Copy + Drop, P: Places> LockedShard<F, P> {
     ) -> Result<Started, Memory>
         requires ticket { self.old.shard.last < ticket }
         ensures starts { IfOk result (λ started. StartsAt reader.old reader.new call key.now started.ticket op.now started.answer) }
+        ensures applied { IfOk result (λ started. WasApplied P.places reader.old.node reader.old.number (Call call key.now op.now) started.letters) }
         ensures letters { IfOk result (λ started. AllByRecursion IsLetter started.letters) }
         ensures grown { IsGrown key.now reader.old reader.new }
     {

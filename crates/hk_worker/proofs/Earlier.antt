@@ -106,7 +106,7 @@ asked_earlier key old mid new l a = record {
   others = λ shard apart. a.others shard apart ∙ l.others shard apart;
 }
 
-number_earlier : (key : List ℕ) (old mid : PostState) → HasLooked key old mid → call_number mid.number (mid.asks + 1) ≡ call_number old.number (old.asks + 1)
+pub number_earlier : (key : List ℕ) (old mid : PostState) → HasLooked key old mid → call_number mid.number (mid.asks + 1) ≡ call_number old.number (old.asks + 1)
 number_earlier key old mid l = ap (λ n. call_number n (mid.asks + 1)) l.number ∙ ap (λ n. call_number old.number (n + 1)) l.asks
 
 risen : (reading : Option ℕ) (value a b : ℕ) → IfSome reading (λ time. value ≡ time) → min value MAX_TIME ≤ a → a ≤ b → IfSome reading (λ time. min time MAX_TIME ≤ b)

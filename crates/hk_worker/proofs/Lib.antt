@@ -4,6 +4,7 @@ pub mod Earlier
 pub mod Freely
 pub mod Local
 pub mod Posts
+pub mod Sending
 pub mod Telling
 pub mod Turns
 pub mod Asked

@@ -3,9 +3,12 @@
 ghost use Rattle.std.specs.Prelude.{◌≡◌, ◌<◌, ℕ, None, IfOk, OnErr};
 ghost use Rattle.std.specs.List.{AllByRecursion};
 ghost use Rattle.hk_base.specs.Range.{IsLetter};
+ghost use Rattle.hk_node.specs.declared.event.NodeEvent.TheVariants.{Call};
 ghost use Rattle.hk_outside.specs.Desk.{Suits};
+ghost use Rattle.hk_locked.specs.Moments.{WasApplied};
 ghost use Rattle.hk_locked.specs.Steps.{IsGrown, IsLeft, StartsAt, LooksFor};
 ghost use Rattle.hk_worker.specs.Asking.{LooksOften, Tells};
+ghost use Rattle.hk_worker.specs.Sending.{SendsOrFails};
 
 use crate::shards::Shards;
 use hk_base::{Actor, Answer, CallNo, Key, Memory, Op};
@@ -16,7 +19,7 @@ use hk_outside::DeskReply;
 use hk_overseer::send_all;
 use hk_told::Look;
 use std::alloc::Global;
-use std::sync::Wait;
+use std::sync::{MutexGuard, Wait};
 use std::{hint, thread};
 
 /// After so many looks the outcome of an update is told as unknown.
@@ -25,30 +28,48 @@ pub const TURNS: u64 = 100_000;
 // So often a desk looks, before it makes its call, whether the key's row is Valid.
 const LOOKS: u64 = 1_000;
 
-// Who looks again and again rings at each of so many looks, so that the node's workers send again what got lost.
-const LOOKS_A_RING: u64 = 256;
+// Who looks again and again rings at the 256th of so many looks, so that the node's workers send again what got lost.
+const LOOKS_A_RING: u64 = 1_024;
 
-// So often it looks again at once, before other threads go first.
-const LOOKS_AT_ONCE: u64 = 64;
+const FIRST_RING: u64 = 255;
 
-// A pause behind a look is so long.
-const SPINS: u32 = 64;
+// Behind each of its first looks it waits for a step of a worker at the shard, for so many pauses at most.
+const FIRST_LOOKS: u64 = 64;
 
-/// What is done between two looks.
-pub(crate) fn pause<F: Completion + Copy + Drop, P: Places, R: Wait>(
-    rt: &R,
-    shards: &Shards<F, P>,
-    look: u64,
-) {
-    if look % LOOKS_A_RING == LOOKS_A_RING - 1 {
-        shards.bell().ring(rt);
-    }
-    if look >= LOOKS_AT_ONCE {
-        thread::yield_now();
-        return;
-    }
+const PAUSES: u64 = 16;
+
+// Before other threads go first a pause is so long.
+const SPINS: u32 = 32;
+
+// Other threads go first.
+fn pause() {
     for _ in 0..SPINS {
         hint::spin_loop();
+    }
+    thread::yield_now();
+}
+
+// How many pauses there are behind the look of this number at most. Most asks are told in the first looks; the others are not to take long.
+fn pauses_behind(look: u64) -> u64 {
+    if look < FIRST_LOOKS { PAUSES } else { 1 }
+}
+
+/// What is done between two looks. Before the first of them so many steps of workers had been made at the shard: one more may have changed what is looked for.
+pub(crate) fn wait_for_step<F: Completion + Copy + Drop, P: Places, R: Wait>(
+    rt: &R,
+    shards: &Shards<F, P>,
+    shard: u8,
+    steps: u64,
+    look: u64,
+) {
+    if look % LOOKS_A_RING == FIRST_RING {
+        shards.bell().ring(rt);
+    }
+    for _ in 0..pauses_behind(look) {
+        if shards.steps_at(shard) != steps {
+            return;
+        }
+        pause();
     }
 }
 
@@ -60,11 +81,28 @@ fn settle<F: Completion + Copy + Drop, P: Places, R: Wait>(
     key: &Key,
 ) {
     for look in 0..LOOKS {
+        let steps = shards.steps_at(shard);
         if shards.lock_of(shard).lock(rt).is_settled(key) {
             return;
         }
-        pause(rt, shards, look);
+        wait_for_step(rt, shards, shard, steps, look);
     }
+}
+
+// The shard's lock, once the key's row was found Valid under it or was waited for.
+fn lock_settled<'a, F: Completion + Copy + Drop, P: Places, R: Wait>(
+    rt: &R,
+    shards: &'a Shards<F, P>,
+    shard: u8,
+    key: &Key,
+) -> MutexGuard<'a, LockedShard<F, P>> {
+    let held = shards.lock_of(shard).lock(rt);
+    if held.is_settled(key) {
+        return held;
+    }
+    drop(held);
+    settle(rt, shards, shard, key);
+    shards.lock_of(shard).lock(rt)
 }
 
 // Makes the call at the shard. Where no memory was found its update may have begun, and nobody waits for what it is told.
@@ -81,6 +119,7 @@ fn start<F: Completion + Copy + Drop, P: Places, R: Wait>(
 ) -> Result<Started, Memory>
     requires { held.old.shard.last < ticket }
     ensures starts { IfOk result (λ started. StartsAt reader.old reader.new call key.now started.ticket op.now started.answer) }
+    ensures applied { IfOk result (λ started. WasApplied P.places reader.old.node reader.old.number (Call call key.now op.now) started.letters) }
     ensures letters { IfOk result (λ started. AllByRecursion IsLetter started.letters) }
     ensures grown { IsGrown key.now reader.old reader.new }
     ensures left { OnErr result (IsLeft call held.new) }
@@ -112,7 +151,7 @@ fn look<F: Completion + Copy + Drop, P: Places, R: Wait>(
     Ok(look)
 }
 
-// Makes the call, under the shard's lock.
+// Waits a while until the key is Valid, and makes the call, under the shard's lock.
 fn begin<F: Completion + Copy + Drop, P: Places, R: Wait>(
     rt: &R,
     alloc: Global,
@@ -124,10 +163,11 @@ fn begin<F: Completion + Copy + Drop, P: Places, R: Wait>(
     tell: F,
 ) -> Result<Started, Memory>
     ensures starts { IfOk result (λ started. StartsAt reader.old reader.new call key.now started.ticket op.now started.answer) }
+    ensures applied { IfOk result (λ started. WasApplied P.places reader.old.node reader.old.number (Call call key.now op.now) started.letters) }
     ensures letters { IfOk result (λ started. AllByRecursion IsLetter started.letters) }
     ensures grown { IsGrown key.now reader.old reader.new }
 {
-    let mut held = shards.lock_of(reader.number()).lock(rt);
+    let mut held = lock_settled(rt, shards, reader.number(), key);
     let ticket = shards.tickets().draw_above(rt, held.last_ticket());
     start(rt, alloc, &mut *held, reader, ticket, call, key, op, tell)
 }
@@ -160,10 +200,12 @@ fn wait<F: Completion + Copy + Drop, P: Places, R: Wait>(
     ensures waits { IfOk result (λ told. (turns : ℕ) × (told ≡ None → turns ≡ 100000) × LooksOften turns key.now ticket reader.old reader.new told) }
     ensures grown { IsGrown key.now reader.old reader.new }
 {
+    let shard = reader.number();
     for looked in 0..TURNS {
+        let steps = shards.steps_at(shard);
         match turn(rt, shards, reader, key, call, ticket)? {
             Look::Told(answer) => return Ok(Some(answer)),
-            Look::Waits => pause(rt, shards, looked),
+            Look::Waits => wait_for_step(rt, shards, shard, steps, looked),
             Look::Gone => return Err(Memory),
         }
     }
@@ -196,10 +238,10 @@ pub(crate) fn ask<F: Completion + Copy + Drop, P: Places, R: Wait>(
     requires { reader.old.number < 8 }
     ensures tells { IfOk result (λ reply. Tells call key.now op.now reader.old reader.new reply) }
     ensures suits { Suits op.now result }
+    ensures sent { SendsOrFails P.places reader.old.node reader.old.number call key.now op.now outlets.old.items outlets.new.items result }
     ensures grown { IsGrown key.now reader.old reader.new }
 {
     let shard = reader.number();
-    settle(rt, shards, shard, key);
     let started = begin(rt, alloc, shards, reader, call, key, op, tell)?;
     let Started {
         ticket,
@@ -210,7 +252,6 @@ pub(crate) fn ask<F: Completion + Copy + Drop, P: Places, R: Wait>(
     if let Some(answer) = answer {
         return Ok(DeskReply::Told(answer));
     }
-    shards.bell().ring(rt);
     if let Some(answer) = wait(rt, shards, reader, key, call, ticket)? {
         return Ok(DeskReply::Told(answer));
     }

@@ -8,6 +8,7 @@ ghost use Rattle.hk_base.specs.declared.time.TheConstants.{MAX_TIME};
 ghost use Rattle.hk_outside.specs.Desk.{Suits, answers};
 ghost use Rattle.hk_worker.specs.Asking.{reader_of};
 ghost use Rattle.hk_worker.specs.Reading.{AsksByClock, HasLooked, TellsRead};
+ghost use Rattle.hk_worker.specs.Sending.{SendsByClock};
 
 use crate::desk::NodeDesk;
 use crate::post::Post;
@@ -90,6 +91,7 @@ impl<F: Completion + Copy + Drop, P: Places> Post<F, P> {
     ) -> Result<DeskReply, Memory>
         ensures suits { Suits op.now result }
         ensures told { AsksByClock (C.reading clock.now) key.now op.now self.old self.new result }
+        ensures sent { SendsByClock P.places key.now op.now self.old self.new result }
     {
         if let Some(answer) = self.read(rt, clock, key, op)? {
             return Ok(DeskReply::Told(answer));
@@ -129,6 +131,7 @@ impl<C: Clock + Drop, R: Wait + Drop, F: Completion + Copy + Drop, P: Places> De
     fn ask(&mut self, key: &Key, op: &Op) -> Result<DeskReply, Memory>
         ensures suits { Suits op.now result }
         ensures told { AsksByClock (C.reading (arc_value self.old.clock)) key.now op.now self.old.desk.post self.new.desk.post result }
+        ensures sent { SendsByClock P.places key.now op.now self.old.desk.post self.new.desk.post result }
     {
         self.desk.ask_by(&*self.clock, key, op)
     }

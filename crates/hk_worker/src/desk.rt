@@ -4,6 +4,7 @@ ghost use Rattle.std.specs.Prelude.{◌≡◌, None};
 ghost use Rattle.hk_outside.specs.Desk.{Suits};
 ghost use Rattle.hk_worker.specs.Asking.{AsksAtPost};
 ghost use Rattle.hk_worker.specs.Reading.{AsksByClock};
+ghost use Rattle.hk_worker.specs.Sending.{Sends, SendsByClock};
 
 use crate::post::Post;
 use hk_base::{Key, Memory, Op};
@@ -36,6 +37,7 @@ impl<R: Wait + Drop, F: Completion + Copy + Drop, P: Places> NodeDesk<R, F, P> {
     ) -> Result<DeskReply, Memory>
         ensures suits { Suits op.now result }
         ensures told { AsksByClock (C.reading clock.now) key.now op.now self.old.post self.new.post result }
+        ensures sent { SendsByClock P.places key.now op.now self.old.post self.new.post result }
     {
         self.post.ask_by(&self.rt, clock, key, op)
     }
@@ -47,6 +49,7 @@ impl<R: Wait + Drop, F: Completion + Copy + Drop, P: Places> Desk for NodeDesk<R
     fn ask(&mut self, key: &Key, op: &Op) -> Result<DeskReply, Memory>
         ensures suits { Suits op.now result }
         ensures told { AsksAtPost key.now op.now self.old.post self.new.post result }
+        ensures sent { Sends P.places key.now op.now self.old.post self.new.post result }
     {
         self.post.ask(&self.rt, key, op)
     }

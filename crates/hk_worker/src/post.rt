@@ -5,6 +5,7 @@ ghost use Rattle.hk_base.specs.declared.time.TheConstants.{MAX_TIME};
 ghost use Rattle.hk_outside.specs.Desk.{Suits};
 ghost use Rattle.hk_worker.specs.Asking.{AsksAtPost, AreReadersBelow, HaveTicked, HaveAsked, AsksBy, IsTicked, call_number};
 ghost use Rattle.std.specs.Arc.{arc_value};
+ghost use Rattle.hk_worker.specs.Sending.{Sends};
 ghost use Rattle.hk_worker.specs.Working.{HasWorked, WereQuietBelow};
 
 use crate::asking::ask;
@@ -107,11 +108,12 @@ impl<F: Completion + Copy + Drop, P: Places> Post<F, P> {
         })
     }
 
-    /// Asks one operation. What is told is shown by what the post's reader of the key's shard has seen. Spent comes exactly where the post has made
-    /// 4,294,967,295 asks.
+    /// Asks one operation. What is told is shown by what the post's reader of the key's shard has seen, and just the letters of the call's step are sent. Spent comes
+    /// exactly where the post has made 4,294,967,295 asks.
     pub fn ask<R: Wait>(&mut self, rt: &R, key: &Key, op: &Op) -> Result<DeskReply, Memory>
         ensures suits { Suits op.now result }
         ensures told { AsksAtPost key.now op.now self.old self.new result }
+        ensures sent { Sends P.places key.now op.now self.old self.new result }
     {
         if self.asks == u32::MAX {
             return Ok(DeskReply::Spent {

@@ -31,6 +31,7 @@ use hk_snap::{LeaseCell, SnapReader};
 use hk_turns::Workplace;
 use std::alloc::Global;
 use std::marker::Model;
+use std::sync::atomic::{AtomicU64, Ordering};
 use std::sync::{Arc, Mutex, Wait};
 
 /// The eight shards of a founder, not under their locks yet. Contracts see the node, its skew, and the shards in the order of their numbers.
@@ -74,6 +75,22 @@ pub struct Shards<F: Completion + Copy + Drop, P: Places> {
     locks: Eight<Mutex<LockedShard<F, P>>>,
     tickets: Arc<Tickets>,
     bell: Arc<Bell>,
+    // How many steps workers made at each.
+    steps: Eight<AtomicU64>,
+}
+
+// No steps yet.
+fn no_steps() -> Eight<AtomicU64> {
+    Eight {
+        of_0: AtomicU64::new(0),
+        of_1: AtomicU64::new(0),
+        of_2: AtomicU64::new(0),
+        of_3: AtomicU64::new(0),
+        of_4: AtomicU64::new(0),
+        of_5: AtomicU64::new(0),
+        of_6: AtomicU64::new(0),
+        of_7: AtomicU64::new(0),
+    }
 }
 
 // A shard over a founder.
@@ -145,6 +162,7 @@ impl Founded {
             },
             tickets,
             bell,
+            steps: no_steps(),
         }
     }
 }
@@ -237,6 +255,11 @@ impl<F: Completion + Copy + Drop, P: Places> Shards<F, P> {
         &self.bell
     }
 
+    /// How many steps workers made at a shard, 0 to 7, modulo 2^64. Whoever waits for one looks at this between two looks under the lock.
+    pub(crate) fn steps_at(&self, shard: u8) -> u64 {
+        self.steps.get(shard).load(Ordering::SeqCst)
+    }
+
     // Whether a row of a shard, 0 to 7, is open.
     fn has_open_at<R: Wait>(&self, rt: &R, shard: u8) -> bool
         requires { shard < 8 }
@@ -305,6 +328,30 @@ impl<F: Completion + Copy + Drop, P: Places> Shards<F, P> {
         held.copy_journal(alloc)
     }
 
+    // Makes the step of an event at a shard, 0 to 7, with a ticket that is drawn under its lock.
+    fn step_at<R: Wait>(
+        &self,
+        rt: &R,
+        alloc: Global,
+        shard: u8,
+        event: NodeEvent,
+    ) -> Result<Letters, Memory>
+        requires shard { shard < 8 }
+        requires event { IsEvent event }
+        requires no_call { IsNoCall event }
+        ensures applied { IfOk result (λ letters. WasApplied P.places self.now.node shard event letters) }
+        ensures in_range { IfOk result (λ letters. AllByRecursion IsLetter letters) }
+    {
+        let mut guard = self.lock_of(shard).lock(rt);
+        let held = &mut *guard;
+        if !held.is_of(self.node, shard) {
+            return Err(Memory);
+        }
+        let ticket = self.tickets().draw_above(rt, held.last_ticket());
+        let given = held.apply(rt, alloc, ticket, event)?;
+        Ok(given.letters)
+    }
+
     // Raises the clock of the reader's shard to a reading, with a ticket that is drawn under its lock. It gives whether of its lease less is left than has gone.
     pub(crate) fn tick<R: Wait>(
         &self,
@@ -362,14 +409,9 @@ impl<F: Completion + Copy + Drop, P: Places> Workplace for Shards<F, P> {
         ensures applied { IfOk result (λ letters. WasApplied P.places self.now.node shard event letters) }
         ensures in_range { IfOk result (λ letters. AllByRecursion IsLetter letters) }
     {
-        let mut guard = self.lock_of(shard).lock(rt);
-        let held = &mut *guard;
-        if !held.is_of(self.node, shard) {
-            return Err(Memory);
-        }
-        let ticket = self.tickets().draw_above(rt, held.last_ticket());
-        let given = held.apply(rt, alloc, ticket, event)?;
-        Ok(given.letters)
+        let letters = self.step_at(rt, alloc, shard, event)?;
+        self.steps.get(shard).fetch_add(1, Ordering::SeqCst);
+        Ok(letters)
     }
 
     fn due<R: Wait>(

@@ -1,4 +1,6 @@
+use Rattle.std.proofs.Common.{rules, ◌≡◌, Err}
 use Rattle.hk_locked.proofs.Reading.{grown_on}
+use Rattle.hk_worker.proofs.Sending.{sends_call, failed_sends_call}
 use Rattle.hk_worker.proofs.Telling.{tells_now, tells_later, tells_nothing, tells_suit}
 use Rattle.hk_worker.proofs.asking.ask.Goals as goal
 
@@ -37,3 +39,23 @@ returns-clause-tells g c =
 
 pub returns-clause-grown : goal.returns-clause-grown
 returns-clause-grown g c = grown_on c.args.key.now c.args.reader.now c.begin.new.reader c.wait.new.reader c.begin.ensures.grown c.wait.ensures.grown
+
+pub returns-in-Some-clause-sent : goal.returns-in-Some-clause-sent
+returns-in-Some-clause-sent g c = (sends_call g.P.Places.places c.args.reader.now.node c.args.reader.now.number c.number-shard.result c.args.call c.args.key.now c.args.op.now c.in_ok-started.started.letters c.args.outlets.now.items c.send_all.new.outlets.items
+    c.number-shard.ensures c.in_ok-started.ensures.applied c.send_all.ensures)
+
+pub returns-in_err-answer-clause-sent : goal.returns-in_err-answer-clause-sent
+returns-in_err-answer-clause-sent g c =
+    let fails : c.from_residual-in_err-answer.result ≡ Err c.in_err-answer.field-0.0 = search rules in
+    failed_sends_call g.P.Places.places c.args.reader.now.node c.args.reader.now.number c.args.call c.args.key.now c.args.op.now c.args.outlets.now.items c.send_all.new.outlets.items
+    c.in_err-answer.field-0.0 c.from_residual-in_err-answer.result fails
+    (sends_call g.P.Places.places c.args.reader.now.node c.args.reader.now.number c.number-shard.result c.args.call c.args.key.now c.args.op.now c.in_ok-started.started.letters c.args.outlets.now.items c.send_all.new.outlets.items
+    c.number-shard.ensures c.in_ok-started.ensures.applied c.send_all.ensures)
+
+pub returns-in-Some-2-clause-sent : goal.returns-in-Some-2-clause-sent
+returns-in-Some-2-clause-sent g c = (sends_call g.P.Places.places c.args.reader.now.node c.args.reader.now.number c.number-shard.result c.args.call c.args.key.now c.args.op.now c.in_ok-started.started.letters c.args.outlets.now.items c.send_all.new.outlets.items
+    c.number-shard.ensures c.in_ok-started.ensures.applied c.send_all.ensures)
+
+pub returns-clause-sent : goal.returns-clause-sent
+returns-clause-sent g c = (sends_call g.P.Places.places c.args.reader.now.node c.args.reader.now.number c.number-shard.result c.args.call c.args.key.now c.args.op.now c.in_ok-started.started.letters c.args.outlets.now.items c.send_all.new.outlets.items
+    c.number-shard.ensures c.in_ok-started.ensures.applied c.send_all.ensures)

@@ -30,4 +30,4 @@ returns-clause-step g c =
     c.self.invariant
     (applied_locked _ c.self.inside.node c.self.inside.number c.self.inside.skew c.self.inside.shard c.step.new.shard c.args.ticket c.args.event c.self.inside.asks c.deliver.new.asks
     c.self.inside.open_keys c.step.new.keys c.keeps.ensures up c.requires.event c.requires.no_call c.in_ok-out.ensures.applied
-    (subst (λ (l : List Reply). Delivers l (asks_in c.self.inside.asks) (asks_in c.deliver.new.asks)) c.in_ok-out.ensures.out.replies c.deliver.ensures) c.in_ok-out.ensures.followed c.self.invariant)
+    (subst (λ (l : List Reply). Delivers l (asks_in c.self.inside.asks) (asks_in c.deliver.new.asks)) c.in_ok-out.ensures.out.replies c.deliver.ensures) c.in_ok-out.ensures.followed c.self.invariant) c.in_ok-out.ensures.followed

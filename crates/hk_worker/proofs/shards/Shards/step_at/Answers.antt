@@ -1,6 +1,6 @@
 use Rattle.std.proofs.Common.{rules, IsTrue}
 use Rattle.hk_worker.proofs.Placed.{applied_at}
-use Rattle.hk_worker.proofs.shards.ShardsWorkplace.apply.Goals as goal
+use Rattle.hk_worker.proofs.shards.Shards.step_at.Goals as goal
 
 pub returns-clause-applied : goal.returns-clause-applied
 returns-clause-applied g c =
