@@ -4,3 +4,4 @@ pub mod Keeping
 pub mod Counting
 pub mod Gathered
 pub mod Putting
+mod Batched

@@ -12,6 +12,11 @@ use Rattle.hk_link.specs.Ends.{IsPut}
 abbrev pub frame_of : Parcel → List ℕ
 frame_of p = frame p.shard p.letter
 
+-- the frames of these parcels, one behind the other
+abbrev pub frames_of : List Parcel → List ℕ
+frames_of [] = []
+frames_of (p ∷ parcels) = frame_of p ++ frames_of parcels
+
 -- its letter has a frame
 abbrev pub HasFrame : Parcel → Type 0
 HasFrame p = IsSendable p.shard p.letter

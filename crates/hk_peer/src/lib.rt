@@ -9,6 +9,7 @@
 //! The caller gives a link's outlet that it has to itself, if the clause is to say all that was put.
 #![tactic(auto)]
 
+mod batch;
 mod cutter;
 mod ends;
 mod pass;
@@ -18,6 +19,7 @@ mod step;
 
 ghost use Rattle.hk_peer.specs.Laws.{CutInOneWay, StepsStay, PutsAddUp};
 
+pub use batch::{forward_all, send_parcels};
 pub use cutter::PeerCutter;
 pub use ends::PeerEnd;
 pub use send::{ForwardFault, SendFault, forward, send_parcel};

@@ -1,0 +1,81 @@
+//! Sending several parcels at once.
+
+ghost use Rattle.std.specs.Prelude.{◌≡◌, ◌≤◌, Err, IfOk};
+ghost use Rattle.hk_outside.specs.Causes.{Rose};
+ghost use Rattle.hk_peer.specs.Sending.{Sends, IsWritten, Forwards, DialsFor};
+ghost use Rattle.hk_peer.specs.Parcels.{frames_of};
+
+use crate::send::{ForwardFault, SendFault};
+use hk_base::Memory;
+use hk_frame::print_letter;
+use hk_link::Parcel;
+use hk_outside::{Connection, Dial, Sink, write_all};
+use std::alloc::Global;
+
+// The frames of these parcels, one behind the other.
+fn print_frames(alloc: Global, parcels: &[Parcel]) -> Result<Vec<u8>, Memory>
+    ensures { IfOk result (λ frames. frames.items ≡ frames_of parcels.now) }
+{
+    let mut frames = Vec::new(alloc);
+    for parcel in parcels {
+        print_letter(parcel.shard, &parcel.letter, &mut frames)?;
+    }
+    Ok(frames)
+}
+
+/// Writes the frames of these parcels, in their order and in one write where the sink takes them, as [`crate::send_parcel`] writes one.
+pub fn send_parcels<K: Sink>(
+    alloc: Global,
+    sink: &mut K,
+    parcels: &[Parcel],
+) -> Result<(), SendFault>
+    ensures sent { Sends result (frames_of parcels.now) (K.held sink.old) (K.held sink.new) }
+    ensures later { K.faults sink.old ≤ K.faults sink.new }
+    ensures write_fault { result ≡ Err SendFault.WriteFault → Rose (K.faults sink.old) (K.faults sink.new) }
+{
+    let Ok(frames) = print_frames(alloc, parcels) else {
+        return Err(SendFault::Memory);
+    };
+    match write_all(sink, frames.as_slice()) {
+        Ok(()) => Ok(()),
+        Err(_) => Err(SendFault::WriteFault),
+    }
+}
+
+fn write_parcels<C: Connection>(
+    alloc: Global,
+    conn: &mut C,
+    parcels: &[Parcel],
+) -> Result<(), ForwardFault>
+    ensures { IsWritten C.Sink.held C.Sink.faults result (frames_of parcels.now) conn.old conn.new }
+{
+    match send_parcels(alloc, conn, parcels) {
+        Ok(()) => Ok(()),
+        Err(SendFault::Memory) => Err(ForwardFault::Memory),
+        Err(SendFault::WriteFault) => Err(ForwardFault::WriteFault),
+    }
+}
+
+/// Sends these parcels, in their order and in one write where the connection takes them, as [`crate::forward`] sends one.
+pub fn forward_all<D: Dial>(
+    alloc: Global,
+    dialer: &mut D,
+    port: u16,
+    conn: &mut Option<D::Conn>,
+    parcels: &[Parcel],
+) -> Result<(), ForwardFault>
+    ensures forwarded { Forwards D.Conn.Sink.held D.Conn.Source.faults D.Conn.Sink.faults result (frames_of parcels.now) conn.old conn.new }
+    ensures port { DialsFor conn.old (D.ports dialer.old) (D.ports dialer.new) port }
+    ensures later { D.faults dialer.old ≤ D.faults dialer.new }
+    ensures dial_fault { result ≡ Err ForwardFault.DialFault → Rose (D.faults dialer.old) (D.faults dialer.new) }
+{
+    if let Some(held) = conn {
+        return write_parcels(alloc, held, parcels);
+    }
+    let Ok(mut dialled) = dialer.dial(port) else {
+        return Err(ForwardFault::DialFault);
+    };
+    let result = write_parcels(alloc, &mut dialled, parcels);
+    *conn = Some(dialled);
+    result
+}
