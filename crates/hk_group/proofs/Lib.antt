@@ -1,3 +1,3 @@
 mod Views
 mod Naming
-mod Started
+pub mod Started

@@ -5,7 +5,7 @@ ghost use Rattle.hk_outside.specs.Desk.{Suits};
 ghost use Rattle.hk_worker.specs.Reading.{AsksByClock};
 
 use crate::completion::Unheard;
-use crate::load::{Load, data_in};
+use crate::load::{Load, MAX_ENTRIES, data_in};
 use hk_base::{Key, Memory, Op};
 use hk_link::Bell;
 use hk_locked::Places;
@@ -22,9 +22,10 @@ const LOOKS: u64 = 100_000;
 // While it looks it rings at each of so many looks.
 const LOOKS_A_RING: u64 = 64;
 
-// After so many updates the workers are to look at the journals, or where these brought so many bytes.
-const ASKS_A_RING: u64 = 512;
+// After so many updates a desk looks at the journals.
+const UPDATES_A_LOOK: u64 = 64;
 
+// Where its updates brought so many bytes, the workers are to look at them too.
 const DATA_A_RING: u64 = 1_048_576;
 
 /// What a desk has to know of leases.
@@ -38,7 +39,7 @@ pub(crate) struct LeaseTerms {
     pub(crate) skew: u64,
 }
 
-// What a desk does beside asking: it rings for its node's workers.
+// What a desk has to do beside asking.
 #[derive(Drop)]
 pub(crate) struct Ringing<C: Drop> {
     pub(crate) clock: Arc<C>,
@@ -46,7 +47,9 @@ pub(crate) struct Ringing<C: Drop> {
     pub(crate) leases: Vec<LeaseCell>,
     pub(crate) bell: Arc<Bell>,
     pub(crate) load: Arc<Load>,
-    pub(crate) asks: u64,
+    /// So many updates were asked since the desk looked at the journals.
+    pub(crate) updates: u64,
+    /// So many bytes they brought since the workers were to look.
     pub(crate) bytes: u64,
     pub(crate) ghost eight: { length leases.items ≡ 8 },
 }
@@ -75,26 +78,35 @@ impl<C: Clock + Drop> Ringing<C> {
         }
     }
 
-    // Has the workers look at the journals now and then. Reads fill none.
-    fn count<R: Wait>(&mut self, rt: &R, op: &Op) {
-        if matches!(op, Op::Read) {
-            return;
-        }
-        self.asks = self.asks.saturating_add(1);
-        self.bytes = self.bytes.saturating_add(data_in(op) as u64);
-        if self.asks < ASKS_A_RING && self.bytes < DATA_A_RING {
+    // Has the workers look at the journals where much data was brought.
+    fn count_data<R: Wait>(&mut self, rt: &R, bytes: u64) {
+        self.bytes = self.bytes.saturating_add(bytes);
+        if self.bytes < DATA_A_RING {
             return;
         }
         self.load.add(self.bytes);
-        self.asks = 0;
         self.bytes = 0;
         self.bell.ring(rt);
     }
+
+    // Counts what was asked, and gives whether the desk is to look at the journals now. Reads fill none.
+    fn count<R: Wait>(&mut self, rt: &R, op: &Op) -> bool {
+        if matches!(op, Op::Read) {
+            return false;
+        }
+        self.count_data(rt, data_in(op) as u64);
+        self.updates = self.updates.saturating_add(1);
+        if self.updates < UPDATES_A_LOOK {
+            return false;
+        }
+        self.updates = 0;
+        true
+    }
 }
 
-/// A desk at a node. It wakes the node's workers where it finds a lease near its end, or has filled journals.
+/// A desk at a node. It has the journals that it filled begun anew, and wakes the node's workers where it finds a lease near its end, or brought much data.
 #[derive(Drop)]
-pub(crate) struct GroupDesk<C: Clock + Drop, R: Wait + Drop, P: Places> {
+pub struct GroupDesk<C: Clock + Drop, R: Wait + Drop, P: Places> {
     pub(crate) rt: R,
     pub(crate) desk: ClockDesk<C, R, Unheard, P>,
     pub(crate) ringing: Ringing<C>,
@@ -109,7 +121,9 @@ impl<C: Clock + Drop, R: Wait + Drop, P: Places> Desk for GroupDesk<C, R, P> {
     {
         self.ringing.keep_lease(&self.rt, key);
         let reply = self.desk.ask(key, op);
-        self.ringing.count(&self.rt, op);
+        if self.ringing.count(&self.rt, op) {
+            let _ = self.desk.desk.post.trim(&self.rt, MAX_ENTRIES);
+        }
         reply
     }
 }

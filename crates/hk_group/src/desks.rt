@@ -33,7 +33,7 @@ pub(crate) struct Station<R: Wait + Drop, C: Drop> {
 
 /// Makes a desk for each connection, at the nodes in turn.
 #[derive(Drop)]
-pub(crate) struct GroupDesks<R: Wait + Drop, C: Drop, P: Places> {
+pub struct GroupDesks<R: Wait + Drop, C: Drop, P: Places> {
     pub(crate) station: Station<R, C>,
     /// The shards of the nodes, those of node 0 first.
     pub(crate) nodes: Vec<Arc<Shards<Unheard, P>>>,
@@ -68,7 +68,7 @@ fn new_ringing<R: Wait + Drop, C: Clock + Drop, P: Places>(
         leases: lease_cells(&station.rt, station.alloc, shards)?,
         bell: Arc::try_clone(shards.bell())?,
         load: Arc::try_clone(&station.load)?,
-        asks: 0,
+        updates: 0,
         bytes: 0,
     })
 }

@@ -1,6 +1,6 @@
 //! The nodes of a group, before anything happened.
 
-ghost use Rattle.std.specs.Prelude.{◌≡◌, ◌≤◌, ◌<◌, map, IfOk};
+ghost use Rattle.std.specs.Prelude.{◌≡◌, ◌≤◌, ◌<◌, length, map, IfOk};
 ghost use Rattle.hk_base.specs.declared.time.TheConstants.{MAX_TIME};
 ghost use Rattle.hk_worker.specs.Founding.{names_of};
 ghost use Rattle.hk_group.specs.Founding.{AreNamed, IsGroup, counted, first_view};
@@ -25,7 +25,7 @@ fn counted(alloc: Global, nodes: u8) -> Result<Vec<NodeId>, Memory>
 }
 
 /// The first view of a group of so many nodes.
-pub(crate) fn first_view(alloc: Global, nodes: u8) -> Result<View, Memory>
+pub fn first_view(alloc: Global, nodes: u8) -> Result<View, Memory>
     ensures { IfOk result (λ view. view ≡ first_view nodes) }
 {
     let members = counted(alloc, nodes)?;
@@ -48,8 +48,8 @@ fn first_end(group: &Group) -> u64
     }
 }
 
-// The shards of the node of this number.
-fn found_node<R: Wait>(
+/// The shards of the node of this number, at which nothing happened yet.
+pub fn found_node<R: Wait>(
     rt: &R,
     alloc: Global,
     view: &View,
@@ -83,7 +83,8 @@ pub(crate) fn found_nodes<R: Wait>(
 ) -> Result<Vec<Founded>, Memory>
     requires group { IsGroup group.now }
     requires view { view.now ≡ first_view group.now.nodes }
-    ensures { IfOk result (λ nodes. AreNamed (map names_of nodes.items) nodes.items) }
+    ensures named { IfOk result (λ nodes. AreNamed (map names_of nodes.items) nodes.items) }
+    ensures all { IfOk result (λ nodes. length nodes.items ≡ group.now.nodes) }
 {
     let tickets = Arc::new(alloc, Tickets::new())?;
     let mut nodes = Vec::new(alloc);

@@ -7,23 +7,25 @@ use std::sync::{Arc, Wait};
 
 /// Whether the loops are to end. It is told once.
 #[derive(Drop)]
-pub(crate) struct Ending {
+pub struct Ending {
     told: AtomicBool,
 }
 
 impl Ending {
-    pub(crate) fn new() -> Ending {
+    /// Nothing was told yet.
+    pub fn new() -> Ending {
         Ending {
             told: AtomicBool::new(false),
         }
     }
 
     /// The loops are to end. Whoever sleeps has to be woken.
-    pub(crate) fn tell(&self) {
+    pub fn tell(&self) {
         self.told.store(true, Ordering::SeqCst);
     }
 
-    fn is_told(&self) -> bool {
+    /// Whether it was told.
+    pub fn is_told(&self) -> bool {
         self.told.load(Ordering::SeqCst)
     }
 }

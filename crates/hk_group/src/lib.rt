@@ -5,8 +5,8 @@
 //! joined by links. When the connections have ended the other loops are told to end, and it returns once they have. How it ends, and what shows it, stands in
 //! its contract; that all have ended then is only tested.
 //!
-//! A worker sleeps until its node's bell is rung: by what puts a parcel for the node, by a desk there that waits for long, that finds a lease near its end, or that has
-//! filled journals, and by the end of the server. For each ring one of the node's workers makes a turn. So does a manager's loop. No wait ends by time, so a server
+//! A worker sleeps until its node's bell is rung: by what puts a parcel for the node, by a desk there that waits for long, that finds a lease near its end, or that
+//! brought much data, and by the end of the server. For each ring one of the node's workers makes a turn. So does a manager's loop. No wait ends by time, so a server
 //! at rest uses no processor.
 //!
 //! The caller gives the runtime value, a clock, doors, a spawner, and a group within the limits of `specs/Founding.antt`.
@@ -21,9 +21,13 @@ mod group;
 mod lines;
 mod load;
 mod managing;
+mod member;
 mod program;
 mod server;
 mod working;
 
+pub use founding::{first_view, found_node};
+pub use gate::Ending;
 pub use group::Group;
-pub use server::serve;
+pub use member::{Member, Running, Way};
+pub use server::{serve, start_each};

@@ -44,6 +44,14 @@ impl Lines {
         split_all(alloc, &mut self.outlets)
     }
 
+    /// One outlet more by the first link.
+    pub(crate) fn split_first(&mut self) -> Result<Outlet, Memory> {
+        let Some(first) = self.outlets.first_mut() else {
+            return Err(Memory);
+        };
+        first.1.split()
+    }
+
     /// Wakes whoever sleeps at one of the bells.
     pub(crate) fn ring_all<R: Wait>(&self, rt: &R) {
         for bell in &self.bells {

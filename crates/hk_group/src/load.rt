@@ -3,8 +3,8 @@
 use hk_base::Op;
 use std::sync::atomic::{AtomicU64, Ordering};
 
-/// A journal is begun anew at so many entries.
-pub(crate) const MAX_ENTRIES: u32 = 4_096;
+/// A journal is begun anew at so many entries. That is done under the lock of its shard, for which all who ask there wait.
+pub(crate) const MAX_ENTRIES: u32 = 64;
 
 // Or where the calls of all nodes brought so many bytes of data since.
 const MAX_DATA: u64 = 16 * 1_048_576;
@@ -32,25 +32,48 @@ impl Load {
     }
 }
 
-/// From how many entries on a worker has the journals of its node begun anew.
+/// When a worker has journals of its node begun anew.
 #[derive(Drop)]
 pub(crate) struct Trimming {
     seen: u64,
+    turns: u64,
 }
 
 impl Trimming {
     pub(crate) fn new() -> Trimming {
-        Trimming { seen: 0 }
+        Trimming { seen: 0, turns: 0 }
     }
 
-    /// All journals, where the calls brought much data since they were begun anew; else those that are full.
-    pub(crate) fn entries(&mut self, load: &Load) -> u32 {
+    /// The worker made so many turns more, each of which fills a journal by one entry at most.
+    pub(crate) fn count(&mut self, turns: u64) {
+        self.turns = self.turns.saturating_add(turns);
+    }
+
+    // Whether the calls brought much data since this was told last.
+    fn is_much(&mut self, load: &Load) -> bool {
         let brought = load.brought();
         if brought.wrapping_sub(self.seen) < MAX_DATA {
-            return MAX_ENTRIES;
+            return false;
         }
         self.seen = brought;
-        1
+        true
+    }
+
+    // Whether a journal may be full since this was told last.
+    fn is_full(&mut self) -> bool {
+        if self.turns < u64::from(MAX_ENTRIES) {
+            return false;
+        }
+        self.turns = 0;
+        true
+    }
+
+    /// From how many entries on journals are to begin anew, if any are: all, where the calls brought much data, else those that are full.
+    pub(crate) fn due(&mut self, load: &Load) -> Option<u32> {
+        if self.is_much(load) {
+            return Some(1);
+        }
+        self.is_full().then_some(MAX_ENTRIES)
     }
 }
 

@@ -4,7 +4,7 @@ ghost use Rattle.hk_worker.specs.Founding.{names_of};
 ghost use Rattle.hk_base.specs.View.{IsView};
 ghost use Rattle.hk_locked.specs.Places.{node_names};
 ghost use Rattle.hk_group.specs.Founding.{AreNamed, IsGroup, first_view};
-ghost use Rattle.std.specs.Prelude.{◌≡◌, ◌<◌};
+ghost use Rattle.std.specs.Prelude.{◌≡◌, ◌<◌, ◌+◌, ◌*◌, length, IfOk, OnOk};
 
 use crate::completion::Unheard;
 use crate::desk::LeaseTerms;
@@ -48,10 +48,10 @@ pub(crate) struct Program<R: Wait + Drop, C: Drop, P: Places> {
     pub(crate) desks: Arc<GroupDesks<R, C, P>>,
 }
 
-// A node with what comes for it.
+/// A node with what comes for it.
 #[derive(Drop)]
-struct Seat<P: Places> {
-    shards: Arc<Shards<Unheard, P>>,
+pub(crate) struct Seat<P: Places> {
+    pub(crate) shards: Arc<Shards<Unheard, P>>,
     inlet: Inlet,
     rings: Arc<Rings>,
 }
@@ -69,8 +69,8 @@ fn rings_of(alloc: Global, bell: &Arc<Bell>) -> Result<Arc<Rings>, Memory> {
     Ok(Arc::new(alloc, Rings::new(bell))?)
 }
 
-// Names the cells of a node, and makes the link to it.
-fn seat_node<P: Places>(
+/// Names the cells of a node, and makes the link to it.
+pub(crate) fn seat_node<P: Places>(
     alloc: Global,
     founded: Founded,
     lines: &mut Lines,
@@ -94,6 +94,7 @@ fn seat_nodes<P: Places>(
     lines: &mut Lines,
 ) -> Result<Vec<Seat<P>>, Memory>
     requires { AreNamed P.places founded.items }
+    ensures { IfOk result (λ seats. length seats.items ≡ length founded.items) }
 {
     let mut seats = Vec::new(alloc);
     for one in founded {
@@ -173,18 +174,34 @@ impl<R: Wait + Copy + Send + Sync + Drop + 'static, C: Clock + Send + Sync + Dro
         })
     }
 
-    // So many workers of each node.
-    fn workers<P: Places>(
+    // So many workers of a node more.
+    fn add_workers<P: Places>(
+        &self,
+        jobs: &mut Vec<WorkJob<R, C, P>>,
+        seat: &mut Seat<P>,
+        count: u8,
+        lines: &mut Lines,
+    ) -> Result<(), Memory>
+        ensures { OnOk result (length jobs.new.items ≡ length jobs.old.items + count) }
+    {
+        for number in 0..count {
+            jobs.push(self.worker(seat, number, lines)?)?;
+        }
+        Ok(())
+    }
+
+    /// So many workers of each node.
+    pub(crate) fn workers<P: Places>(
         &self,
         seats: &mut Vec<Seat<P>>,
         count: u8,
         lines: &mut Lines,
-    ) -> Result<Vec<WorkJob<R, C, P>>, Memory> {
+    ) -> Result<Vec<WorkJob<R, C, P>>, Memory>
+        ensures { IfOk result (λ jobs. length jobs.items ≡ length seats.old.items * count) }
+    {
         let mut jobs = Vec::new(self.alloc);
         for place in 0..seats.len() {
-            for number in 0..count {
-                jobs.push(self.worker(&mut seats[place], number, lines)?)?;
-            }
+            self.add_workers(&mut jobs, &mut seats[place], count, lines)?;
         }
         Ok(jobs)
     }
@@ -233,6 +250,7 @@ impl<R: Wait + Copy + Send + Sync + Drop + 'static, C: Clock + Send + Sync + Dro
     ) -> Result<Vec<ManageJob<R, C>>, Memory>
         requires group { IsGroup group.now }
         requires view { IsView view.now }
+        ensures { IfOk result (λ jobs. length jobs.items ≡ group.now.managers) }
     {
         let mut jobs = Vec::new(self.alloc);
         for number in 0..group.managers {
@@ -244,8 +262,8 @@ impl<R: Wait + Copy + Send + Sync + Drop + 'static, C: Clock + Send + Sync + Dro
         Ok(jobs)
     }
 
-    // What makes the desks of connections.
-    fn desks<P: Places>(
+    /// What makes the desks of connections.
+    pub(crate) fn desks<P: Places>(
         &self,
         seats: Vec<Seat<P>>,
         group: &Group,
@@ -289,6 +307,8 @@ pub(crate) fn prepare<
     requires group { IsGroup group.now }
     requires view { IsView view.now }
     requires named { AreNamed P.places founded.items }
+    ensures workers { IfOk result (λ program. length program.workers.items ≡ length founded.items * group.now.workers) }
+    ensures managers { IfOk result (λ program. length program.managers.items ≡ group.now.managers) }
 {
     let alloc = shared.alloc;
     let mut lines = Lines::new(alloc);

@@ -1,11 +1,11 @@
 //! The server.
 
-ghost use Rattle.std.specs.Prelude.{◌≡◌};
+ghost use Rattle.std.specs.Prelude.{◌≡◌, ◌+◌, length, OnOk};
 ghost use Rattle.hk_base.specs.View.{IsView};
 ghost use Rattle.hk_outside.specs.Causes.{Rose};
-ghost use Rattle.hk_accept.specs.Serving.{EndsServe, HasServed};
+ghost use Rattle.hk_accept.specs.Serving.{EndsServe, Taken};
 ghost use Rattle.hk_group.specs.Founding.{AreNamed, IsGroup};
-ghost use Rattle.hk_group.specs.Jobs.{HasStarted};
+ghost use Rattle.hk_group.specs.Jobs.{HasStarted, HasServedBeside, own_jobs};
 
 use crate::desks::GroupDesks;
 use crate::founding::{first_view, found_nodes};
@@ -22,9 +22,10 @@ use std::alloc::Global;
 use std::marker::Brand;
 use std::sync::{Arc, Wait};
 
-// Starts these jobs.
-fn start_each<J: Job, S: Spawner>(jobs: Vec<J>, spawner: &mut S) -> Result<(), Failed>
-    ensures { HasStarted (S.taken spawner.old) (S.taken spawner.new) (S.faults spawner.old) (S.faults spawner.new) result }
+/// Starts these jobs, one after the other.
+pub fn start_each<J: Job, S: Spawner>(jobs: Vec<J>, spawner: &mut S) -> Result<(), Failed>
+    ensures started { HasStarted (S.taken spawner.old) (S.taken spawner.new) (S.faults spawner.old) (S.faults spawner.new) result }
+    ensures all { OnOk result (Taken (S.taken spawner.old) (S.taken spawner.new) (length jobs.items)) }
 {
     for job in jobs {
         spawner.start(job)?;
@@ -33,7 +34,7 @@ fn start_each<J: Job, S: Spawner>(jobs: Vec<J>, spawner: &mut S) -> Result<(), F
 }
 
 // Starts the workers, the managers' loops, and then a job for each connection that comes.
-#[tactic(auto, using(crate::proofs::Started::served_after_both))]
+#[tactic(auto, using(crate::proofs::Started::served_beside))]
 fn serve_conns<
     P: Places + Send + Sync + 'static,
     R: Wait + Copy + Send + Sync + Drop + 'static,
@@ -51,7 +52,7 @@ fn serve_conns<
     spawner: &mut S,
 ) -> Status
     ensures ends { EndsServe result }
-    ensures done { result ≡ Status.Done → HasServed (D.left doors.old) (D.left doors.new) (S.taken spawner.old) (S.taken spawner.new) conns }
+    ensures done { result ≡ Status.Done → HasServedBeside (length workers.items + length managers.items) (D.left doors.old) (D.left doors.new) (S.taken spawner.old) (S.taken spawner.new) conns }
     ensures door_fault { result ≡ Status.DoorFault → Rose (D.faults doors.old) (D.faults doors.new) }
     ensures spawn_fault { result ≡ Status.SpawnFault → Rose (S.faults spawner.old) (S.faults spawner.new) }
 {
@@ -82,8 +83,9 @@ fn run<
     requires group { IsGroup group.now }
     requires view { IsView view.now }
     requires named { AreNamed P.places founded.items }
+    requires nodes { length founded.items ≡ group.now.nodes }
     ensures ends { EndsServe result }
-    ensures done { result ≡ Status.Done → HasServed (D.left doors.old) (D.left doors.new) (S.taken spawner.old) (S.taken spawner.new) group.now.conns }
+    ensures done { result ≡ Status.Done → HasServedBeside (own_jobs group.now) (D.left doors.old) (D.left doors.new) (S.taken spawner.old) (S.taken spawner.new) group.now.conns }
     ensures door_fault { result ≡ Status.DoorFault → Rose (D.faults doors.old) (D.faults doors.new) }
     ensures spawn_fault { result ≡ Status.SpawnFault → Rose (S.faults spawner.old) (S.faults spawner.new) }
 {
@@ -133,8 +135,9 @@ pub fn serve<
 >(rt: R, alloc: Global, clock: Arc<C>, group: &Group, doors: &mut D, spawner: &mut S) -> Status
     requires { IsGroup group.now }
     ensures ends { EndsServe result }
-    // A server that is done took the stated number of connections, or all that were left, and its spawner took a job for each.
-    ensures done { result ≡ Status.Done → HasServed (D.left doors.old) (D.left doors.new) (S.taken spawner.old) (S.taken spawner.new) group.now.conns }
+    // A server that is done has started each worker and each manager's loop: its spawner took a job for each of them. It took the stated number of connections, or
+    // all that were left, and its spawner took a job for each of these too.
+    ensures done { result ≡ Status.Done → HasServedBeside (own_jobs group.now) (D.left doors.old) (D.left doors.new) (S.taken spawner.old) (S.taken spawner.new) group.now.conns }
     ensures door_fault { result ≡ Status.DoorFault → Rose (D.faults doors.old) (D.faults doors.new) }
     ensures spawn_fault { result ≡ Status.SpawnFault → Rose (S.faults spawner.old) (S.faults spawner.new) }
 {

@@ -15,7 +15,7 @@ pub(crate) const TURNS: u64 = 64;
 
 /// A worker of a node.
 #[derive(Drop)]
-pub(crate) struct WorkJob<R: Wait + Drop, C: Drop, P: Places> {
+pub struct WorkJob<R: Wait + Drop, C: Drop, P: Places> {
     pub(crate) rt: R,
     pub(crate) post: Post<Unheard, P>,
     pub(crate) clock: Arc<C>,
@@ -25,18 +25,20 @@ pub(crate) struct WorkJob<R: Wait + Drop, C: Drop, P: Places> {
     pub(crate) jobs: WaitGroup,
 }
 
-// What is done between turns: the node's clock rises to the reading, and full journals begin anew. Where memory is wanting, it is left out.
+// What is done between turns: the node's clock rises to the reading, and journals begin anew. Where memory is wanting, it is left out.
 fn tend<R: Wait, P: Places>(
     rt: &R,
     post: &mut Post<Unheard, P>,
     reading: u64,
     last: u64,
-    entries: u32,
+    due: Option<u32>,
 ) {
     if last < reading {
         let _ = post.tick(rt, reading);
     }
-    let _ = post.trim(rt, entries);
+    if let Some(entries) = due {
+        let _ = post.trim(rt, entries);
+    }
 }
 
 // Makes turns until the ending is told: one for each ring, and where the clock rose one for each request for a lease that may be due then. It sleeps in between.
@@ -52,12 +54,12 @@ fn go_on<R: Wait, C: Clock, P: Places>(
     let mut trimming = Trimming::new();
     for _ in rt.forever() {
         let reading = clock.now();
-        tend(rt, post, reading, last, trimming.entries(load));
+        tend(rt, post, reading, last, trimming.due(load));
         if last < reading {
             gate.grant(requests);
         }
         last = reading;
-        work(rt, post, gate, TURNS);
+        trimming.count(work(rt, post, gate, TURNS));
         if gate.is_over() {
             return;
         }

@@ -4,5 +4,5 @@ use Rattle.hk_group.proofs.founding.found_nodes.Goals as goal
 pub loop-number-preserved : goal.loop-number-preserved
 loop-number-preserved g c = placed_more c.loop-number.number _ _ c.in_ok-node.node c.loop-number.invariant.0 c.in_ok-node.ensures c.loop-number.invariant.1 c.in_ok-push.ensures.items
 
-pub returns : goal.returns
-returns g c = are_named _ _ c.loop-number.invariant.1
+pub returns-clause-named : goal.returns-clause-named
+returns-clause-named g c = are_named _ _ c.loop-number.invariant.1

@@ -1,0 +1,153 @@
+//! One node of a group whose other nodes run in programs of their own.
+
+ghost use Rattle.std.specs.Prelude.{◌≡◌};
+ghost use Rattle.hk_locked.specs.Places.{node_names};
+ghost use Rattle.hk_worker.specs.Founding.{names_of};
+
+use crate::desks::GroupDesks;
+use crate::gate::Ending;
+use crate::group::Group;
+use crate::lines::Lines;
+use crate::program::{Seat, Shared, seat_node};
+use crate::working::WorkJob;
+use crossbeam_utils::sync::WaitGroup;
+use hk_base::{Actor, Memory, NodeId};
+use hk_link::{Bell, Inlet, Outlet};
+use hk_locked::Places;
+use hk_outside::Clock;
+use hk_worker::Founded;
+use std::alloc::Global;
+use std::sync::{Arc, Wait};
+
+/// The way of parcels from the node to another one.
+#[derive(Drop)]
+pub struct Way {
+    pub node: NodeId,
+    pub inlet: Inlet,
+    /// Each put rings it.
+    pub bell: Arc<Bell>,
+}
+
+/// A node of a group whose other nodes run in programs of their own: its workers, what makes the desks of its clients, what comes for it, and what goes to the
+/// others.
+#[derive(Drop)]
+pub struct Member<R: Wait + Drop, C: Drop, P: Places> {
+    pub workers: Vec<WorkJob<R, C, P>>,
+    pub desks: GroupDesks<R, C, P>,
+    /// Leads to the node. Its workers take what is put.
+    pub outlet: Outlet,
+    /// One to each other node, in the order of their numbers.
+    pub ways: Vec<Way>,
+    pub running: Running,
+}
+
+/// What ends the workers of a node.
+#[derive(Drop)]
+pub struct Running {
+    ending: Arc<Ending>,
+    lines: Lines,
+    workers: WaitGroup,
+}
+
+impl Running {
+    /// Has the workers end, and returns once they have.
+    pub fn end<R: Wait>(self, rt: &R) {
+        let Running {
+            ending,
+            lines,
+            workers,
+        } = self;
+        ending.tell();
+        lines.ring_all(rt);
+        workers.wait(rt);
+    }
+}
+
+// The way to the node of this number.
+fn new_way(alloc: Global, number: u8, lines: &mut Lines) -> Result<Way, Memory> {
+    let node = NodeId(u16::from(number));
+    let bell = Arc::new(alloc, Bell::new())?;
+    let inlet = lines.add(alloc, Actor::Node(node), &bell)?;
+    Ok(Way { node, inlet, bell })
+}
+
+// A way to each node of the group but this one.
+fn new_ways(
+    alloc: Global,
+    node: NodeId,
+    group: &Group,
+    lines: &mut Lines,
+) -> Result<Vec<Way>, Memory> {
+    let mut ways = Vec::new(alloc);
+    for number in 0..group.nodes {
+        if u16::from(number) != node.0 {
+            ways.push(new_way(alloc, number, lines)?)?;
+        }
+    }
+    Ok(ways)
+}
+
+// An outlet to the node whose link is the first, and a way to each other node.
+fn new_links(
+    alloc: Global,
+    node: NodeId,
+    group: &Group,
+    lines: &mut Lines,
+) -> Result<(Outlet, Vec<Way>), Memory> {
+    let ways = new_ways(alloc, node, group, lines)?;
+    let outlet = lines.split_first()?;
+    Ok((outlet, ways))
+}
+
+// The workers of a node, and what makes its desks.
+fn new_staff<
+    R: Wait + Copy + Send + Sync + Drop + 'static,
+    C: Clock + Send + Sync + Drop + 'static,
+    P: Places,
+>(
+    shared: &Shared<R, C>,
+    seat: Seat<P>,
+    group: &Group,
+    lines: &mut Lines,
+) -> Result<(Vec<WorkJob<R, C, P>>, GroupDesks<R, C, P>), Memory> {
+    let mut seats = Vec::new(shared.alloc);
+    seats.push(seat)?;
+    let workers = shared.workers(&mut seats, group.workers, lines)?;
+    let desks = shared.desks(seats, group, lines)?;
+    Ok((workers, desks))
+}
+
+impl<
+    R: Wait + Copy + Send + Sync + Drop + 'static,
+    C: Clock + Send + Sync + Drop + 'static,
+    P: Places + Send + Sync + 'static,
+> Member<R, C, P> {
+    /// The node of which these are the shards. It has no managers.
+    pub fn new(
+        rt: R,
+        alloc: Global,
+        clock: Arc<C>,
+        founded: Founded,
+        group: &Group,
+    ) -> Result<Member<R, C, P>, Memory>
+        requires { node_names P.places founded.node ≡ names_of founded }
+    {
+        let mut lines = Lines::new(alloc);
+        let seat = seat_node::<P>(alloc, founded, &mut lines)?;
+        let shared = Shared::new(rt, alloc, clock)?;
+        let (outlet, ways) = new_links(alloc, seat.shards.node(), group, &mut lines)?;
+        let (workers, desks) = new_staff(&shared, seat, group, &mut lines)?;
+        let Shared { ending, jobs, .. } = shared;
+        Ok(Member {
+            workers,
+            desks,
+            outlet,
+            ways,
+            running: Running {
+                ending,
+                lines,
+                workers: jobs,
+            },
+        })
+    }
+}
