@@ -6,9 +6,9 @@ use Rattle.hk_base.specs.declared.time.TheConstants.{MAX_TIME}
 use Rattle.hk_storm.specs.declared.opts.StormOpts.{StormOpts}
 use Rattle.hk_group.specs.declared.group.Group.{Group}
 use Rattle.hk_cli.specs.declared.words.Command.{Command}
-use Rattle.hk_cli.specs.declared.words.Command.TheVariants.{Drill, Joint, Generate, Storm, Serve, Watch}
-use Rattle.hk_cli.specs.Words.{Given, option, IsGenerate, IsStorm, IsServe, IsWatch, IsCommand, IsCommandRead, WordsTellCommands}
-use Rattle.hk_cli.specs.Options.{option_count, option_is, value_of, ranged, generate_of, storm_of, serve_of, watch_of, alone, command_of, group_of}
+use Rattle.hk_cli.specs.declared.words.Command.TheVariants.{Drill, Joint, Generate, Storm, Serve, Watch, JointStorm}
+use Rattle.hk_cli.specs.Words.{Given, option, IsGenerate, IsStorm, IsServe, IsWatch, IsJointStorm, IsCommand, IsCommandRead, WordsTellCommands}
+use Rattle.hk_cli.specs.Options.{option_count, option_is, value_of, ranged, generate_of, storm_of, serve_of, watch_of, joint_storm_of, alone, command_of, group_of}
 use Rattle.hk_script.specs.Parts.{is_text}
 use Rattle.hk_script.proofs.Choices.{chosen, held, bind_some, some_same, no_some, text_is}
 use Rattle.hk_cli.proofs.Orders.{AreApart, IsNamed, first_of, order_all, order_found, order_length, found_order, are_read, are_again}
@@ -318,6 +318,56 @@ watch_again w words is =
     let writes = ap (ranged 1 10000) (again.values (codes "writes") ∙ found.0) ∙ ranged_again 1 10000 w is.some_writes is.few_writes in
     rw one (rw writes refl)
 
+-- ---- joint-storm
+abbrev jointly : ℕ → ℕ → List Given
+jointly w r = option (codes "workers") w ∷ option (codes "reads") r ∷ []
+
+jointly_apart : (w r : ℕ) → AreApart (jointly w r)
+jointly_apart w r = (((refl, refl), tt), (tt, tt))
+
+jointly_named : (w r : ℕ) → w < 2 ^ 64 → r < 2 ^ 64 → AllByRecursion IsNamed (jointly w r)
+jointly_named w r a b = ((refl, a), ((refl, b), tt))
+
+joint_storm_takes : (words : List (List ℕ)) (command : Command) → joint_storm_of words ≡ Some command → IsCommand command (codes "joint-storm" ∷ words)
+unfolding joint_storm_of
+joint_storm_takes words command e =
+    let n = length words in
+    let two = held (option_is 2 (option_count n words)) _ command e in
+    let w = bind_some (ranged 1 8 (value_of (codes "workers") n words)) _ command two.1 in
+    let r = bind_some (ranged 1 10000 (value_of (codes "reads") n words)) _ command w.2 in
+    let is : JointStorm w.0 r.0 ≡ command = some_same _ command r.2 in
+    let read = are_read n words 2 (counted (option_count n words) 2 two.0) in
+    let ws = ranged_takes 1 8 _ w.0 w.1 in
+    let rs = ranged_takes 1 10000 _ r.0 r.1 in
+    let a : first_of (codes "workers") read.given ≡ Some w.0 = sym (read.values (codes "workers")) ∙ ws.0 in
+    let b : first_of (codes "reads") read.given ≡ Some r.0 = sym (read.values (codes "reads")) ∙ rs.0 in
+    let order = found_order (jointly w.0 r.0) read.given (jointly_apart w.0 r.0) read.many (a, (b, tt)) in
+    subst (λ (k : Command). IsCommand k (codes "joint-storm" ∷ words)) is (
+      words,
+      refl,
+      record {
+        some_workers = ws.1;
+        few_workers = ws.2;
+        some_reads = rs.1;
+        few_reads = rs.2;
+        options = (read.given, order, read.are);
+      },
+    )
+
+joint_storm_again : (w r : ℕ) (words : List (List ℕ)) → IsJointStorm w r words → joint_storm_of words ≡ Some (JointStorm w r)
+unfolding joint_storm_of
+joint_storm_again w r words is =
+    let order = is.options.1 in
+    let ws = is.few_workers in
+    let rs = is.few_reads in
+    let all = order_all IsNamed (jointly w r) is.options.0 order (jointly_named w r (omega (arith, ws)) (omega (arith, rs))) in
+    let again = are_again (length words) is.options.0 words (omega arith) all is.options.2 in
+    let found = order_found (jointly w r) is.options.0 (jointly_apart w r) order in
+    let two : option_is 2 (option_count (length words) words) ≡ true = ap (option_is 2) (again.counted ∙ ap (λ k. Some k) (order_length (jointly w r) is.options.0 order)) in
+    let workers = ap (ranged 1 8) (again.values (codes "workers") ∙ found.0) ∙ ranged_again 1 8 w is.some_workers ws in
+    let reads = ap (ranged 1 10000) (again.values (codes "reads") ∙ found.1.0) ∙ ranged_again 1 10000 r is.some_reads rs in
+    rw two (rw (workers, reads) refl)
+
 -- ---- all commands
 alone_takes : (name : Command) (words : List (List ℕ)) (command : Command) → alone name words ≡ Some command → (words ≡ []) × (name ≡ command)
 alone_takes name [] command e = (refl, some_same name command e)
@@ -347,8 +397,12 @@ command_takes (name ∷ words) command e = elim (chosen (is_text name (codes "dr
                         elim (chosen (is_text name (codes "serve")) _ _ (Some command) lone.1) [
                           | inl s ↦ subst (λ (w : List ℕ). IsCommand command (w ∷ words)) (sym (text_is name (codes "serve") s.0)) (serve_takes words command s.1)
                           | inr more ↦
-                              let v = held (is_text name (codes "watch")) (watch_of words) command more.1 in
-                              subst (λ (w : List ℕ). IsCommand command (w ∷ words)) (sym (text_is name (codes "watch") v.0)) (watch_takes words command v.1)
+                              elim (chosen (is_text name (codes "watch")) _ _ (Some command) more.1) [
+                                | inl v ↦ subst (λ (w : List ℕ). IsCommand command (w ∷ words)) (sym (text_is name (codes "watch") v.0)) (watch_takes words command v.1)
+                                | inr rest ↦
+                                    let j = held (is_text name (codes "joint-storm")) (joint_storm_of words) command rest.1 in
+                                    subst (λ (w : List ℕ). IsCommand command (w ∷ words)) (sym (text_is name (codes "joint-storm") j.0)) (joint_storm_takes words command j.1)
+                              ]
                         ]
                   ]
             ]
@@ -363,6 +417,7 @@ command_again words (Generate s c n) is = ap command_of is.1 ∙ generate_again 
 command_again words (Storm opts) is = ap command_of is.1 ∙ storm_again opts is.0 is.2
 command_again words (Serve g) is = ap command_of is.1 ∙ serve_again g is.0 is.2
 command_again words (Watch w) is = ap command_of is.1 ∙ watch_again w is.0 is.2
+command_again words (JointStorm w r) is = ap command_of is.1 ∙ joint_storm_again w r is.0 is.2
 
 command_read_at : (o : Option Command) (words : List (List ℕ)) → command_of words ≡ o → IsCommandRead o words
 command_read_at (Some command) words e = command_takes words command e

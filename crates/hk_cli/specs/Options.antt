@@ -5,7 +5,7 @@ use Rattle.hk_base.specs.declared.time.TheConstants.{MAX_TIME}
 use Rattle.hk_cli.specs.Words.{Given, option}
 use Rattle.hk_group.specs.declared.group.Group.{Group}
 use Rattle.hk_cli.specs.declared.words.Command.{Command}
-use Rattle.hk_cli.specs.declared.words.Command.TheVariants.{Drill, Joint, Generate, Storm, Serve, Watch}
+use Rattle.hk_cli.specs.declared.words.Command.TheVariants.{Drill, Joint, Generate, Storm, Serve, Watch, JointStorm}
 use Rattle.hk_script.specs.Parts.{is_text, number_64}
 
 -- a word behind its two dashes
@@ -104,6 +104,14 @@ watch_of words =
     (ranged 1 10000 (value_of (codes "writes") (length words) words))
     else None
 
+unfoldable pub joint_storm_of : List (List ℕ) → Option Command
+joint_storm_of words =
+    if option_is 2 (option_count (length words) words) then
+    option_and_then (λ w. option_and_then (λ r. Some (JointStorm w r))
+    (ranged 1 10000 (value_of (codes "reads") (length words) words)))
+    (ranged 1 8 (value_of (codes "workers") (length words) words))
+    else None
+
 unfoldable pub command_of : List (List ℕ) → Option Command
 command_of [] = None
 command_of (name ∷ words) =
@@ -112,4 +120,5 @@ command_of (name ∷ words) =
     else (if is_text name (codes "generate") then generate_of words
     else (if is_text name (codes "storm") then storm_of words
     else (if is_text name (codes "serve") then serve_of words
-    else (if is_text name (codes "watch") then watch_of words else None)))))
+    else (if is_text name (codes "watch") then watch_of words
+    else (if is_text name (codes "joint-storm") then joint_storm_of words else None))))))

@@ -4,7 +4,7 @@ use Rattle.hk_base.specs.declared.time.TheConstants.{MAX_TIME}
 use Rattle.hk_storm.specs.declared.opts.StormOpts.{StormOpts}
 use Rattle.hk_group.specs.declared.group.Group.{Group}
 use Rattle.hk_cli.specs.declared.words.Command.{Command}
-use Rattle.hk_cli.specs.declared.words.Command.TheVariants.{Drill, Joint, Generate, Storm, Serve, Watch}
+use Rattle.hk_cli.specs.declared.words.Command.TheVariants.{Drill, Joint, Generate, Storm, Serve, Watch, JointStorm}
 
 -- ---- options
 -- an option and its value
@@ -78,6 +78,14 @@ pub record IsWatch (writes : ℕ) (words : List (List ℕ)) : Type 0 where
   pub few_writes : writes ≤ 10000
   pub options : GiveEach (option (codes "writes") writes ∷ []) words
 
+-- 1 to 8 writers, and 1 to 10,000 reads
+pub record IsJointStorm (workers reads : ℕ) (words : List (List ℕ)) : Type 0 where
+  pub some_workers : 1 ≤ workers
+  pub few_workers : workers ≤ 8
+  pub some_reads : 1 ≤ reads
+  pub few_reads : reads ≤ 10000
+  pub options : GiveEach (option (codes "workers") workers ∷ option (codes "reads") reads ∷ []) words
+
 -- the command comes first
 abbrev pub IsCommand : Command → List (List ℕ) → Type 0
 IsCommand Drill words = words ≡ codes "drill" ∷ []
@@ -86,6 +94,7 @@ IsCommand (Generate start count nodes) words = (options : List (List ℕ)) × (w
 IsCommand (Storm opts) words = (options : List (List ℕ)) × (words ≡ codes "storm" ∷ options) × IsStorm opts options
 IsCommand (Serve group) words = (options : List (List ℕ)) × (words ≡ codes "serve" ∷ options) × IsServe group options
 IsCommand (Watch writes) words = (options : List (List ℕ)) × (words ≡ codes "watch" ∷ options) × IsWatch writes options
+IsCommand (JointStorm workers reads) words = (options : List (List ℕ)) × (words ≡ codes "joint-storm" ∷ options) × IsJointStorm workers reads options
 
 -- what is read: the command that the words are; none where they are no command's
 abbrev pub IsCommandRead : Option Command → List (List ℕ) → Type 0

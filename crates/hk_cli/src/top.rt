@@ -7,18 +7,20 @@ ghost use Rattle.hk_drill.specs.Drilled.{AllLegal, IsDone, IsExact, IsFront, IsS
 ghost use Rattle.hk_drill.specs.Together.{IsJointDone, IsJointFront, IsJointTold};
 ghost use Rattle.hk_drill.specs.Generated.{generated, summary};
 ghost use Rattle.hk_storm.specs.Stormed.{IsStormed};
-ghost use Rattle.hk_accept.specs.Serving.{HasServed};
 ghost use Rattle.hk_group.specs.declared.group.Group.{Group as GroupOf};
+ghost use Rattle.hk_group.specs.Jobs.{HasServedBeside, own_jobs};
 ghost use Rattle.hk_watching.specs.Watching.{watched_line};
+ghost use Rattle.hk_joint_storm.specs.Concluded.{IsJointStorm};
 ghost use Rattle.hk_storm.specs.declared.opts.StormOpts.{StormOpts};
 ghost use Rattle.hk_cli.specs.declared.words.Command.{Command as CommandOf};
-ghost use Rattle.hk_cli.specs.declared.words.Command.TheVariants.{Drill, Joint, Generate, Storm, Serve, Watch};
+ghost use Rattle.hk_cli.specs.declared.words.Command.TheVariants.{Drill, Joint, Generate, Storm, Serve, Watch, JointStorm};
 ghost use Rattle.hk_cli.specs.Words.{IsCommand};
 ghost use Rattle.hk_cli.specs.Commands.{texts, IsNoCommand, usage_line, MayEnd, IsInRange};
 
 use crate::words::{Command, read_command};
 use hk_drill::{drill, generate_run, joint};
 use hk_group::serve;
+use hk_joint_storm::joint_storm;
 use hk_outside::{Clock, Doors, Sink, Source, Spawner, Status, write_all};
 use hk_storm::storm;
 use hk_watching::watch_writes;
@@ -83,10 +85,11 @@ fn perform<
     ensures stormed { (opts : StormOpts) → command ≡ Some (Storm opts) → (source.new ≡ source.old) × IsStormed result opts (K.held sink.old) (K.held sink.new) }
     ensures aside { (group : GroupOf) → command ≡ Some (Serve group) → (source.new ≡ source.old) × (sink.new ≡ sink.old) }
     ensures served { (group : GroupOf) → command ≡ Some (Serve group) → result ≡ Status.Done
-        → HasServed (D.left doors.old) (D.left doors.new) (P.taken spawner.old) (P.taken spawner.new) group.conns }
+        → HasServedBeside (own_jobs group) (D.left doors.old) (D.left doors.new) (P.taken spawner.old) (P.taken spawner.new) group.conns }
     ensures watched { (writes : ℕ) → command ≡ Some (Watch writes) → result ≡ Status.Done → Appends (K.held sink.old) (K.held sink.new) (watched_line writes) }
     ensures watching { (writes : ℕ) → command ≡ Some (Watch writes)
         → (source.new ≡ source.old) × ((n : ℕ) × Appends (K.held sink.old) (K.held sink.new) (take n (watched_line writes))) }
+    ensures joint_stormed { (workers reads : ℕ) → command ≡ Some (JointStorm workers reads) → (source.new ≡ source.old) × IsJointStorm result workers reads (K.held sink.old) (K.held sink.new) }
     ensures read_fault { result ≡ Status.ReadFault → Rose (S.faults source.old) (S.faults source.new) }
     ensures write_fault { result ≡ Status.WriteFault → Rose (K.faults sink.old) (K.faults sink.new) }
     ensures door_fault { result ≡ Status.DoorFault → Rose (D.faults doors.old) (D.faults doors.new) }
@@ -105,6 +108,9 @@ fn perform<
         Some(Command::Storm(opts)) => storm(rt, alloc, &opts, &*clock, sink),
         Some(Command::Serve(group)) => serve(rt, alloc, clock, &group, doors, spawner),
         Some(Command::Watch { writes }) => watch_writes(rt, alloc, writes, sink),
+        Some(Command::JointStorm { workers, reads }) => {
+            joint_storm(rt, alloc, workers, reads, &*clock, sink)
+        }
         None => tell_usage(sink),
     }
 }
@@ -125,6 +131,9 @@ fn perform<
 ///
 /// - `watch --writes N` writes a key N times in one thread while a watch of it looks in another, and writes one line, which tells the last
 ///   stamp that the watch was told. It reads no source.
+///
+/// - `joint-storm --workers W --reads R` writes four keys of a shard in W threads, R times in each, while a reader reads all four together R times, and writes whether what it found stood
+///   together at one moment of the shard's journal. It reads no source.
 ///
 /// For all other words one line is written, which tells the commands, and the status is Usage. Only `serve` touches the doors and the spawner.
 pub fn hermes<
@@ -197,9 +206,10 @@ pub fn hermes<
     // they are not. Nothing is read.
     ensures stormed { (opts : StormOpts) → IsCommand (Storm opts) (texts words.now) → (source.new ≡ source.old) × IsStormed result opts (K.held sink.old) (K.held sink.new) }
 
-    // A server that is done took the stated number of connections, or all that were left, and its spawner took a job for each. It reads and writes nothing else.
+    // A server that is done took the stated number of connections, or all that were left, and its spawner took a job for each of them, and one for each worker and each
+    // manager's loop before. It reads and writes nothing else.
     ensures served { (group : GroupOf) → IsCommand (Serve group) (texts words.now) → result ≡ Status.Done
-        → HasServed (D.left doors.old) (D.left doors.new) (P.taken spawner.old) (P.taken spawner.new) group.conns }
+        → HasServedBeside (own_jobs group) (D.left doors.old) (D.left doors.new) (P.taken spawner.old) (P.taken spawner.new) group.conns }
     ensures aside { (group : GroupOf) → IsCommand (Serve group) (texts words.now) → (source.new ≡ source.old) × (sink.new ≡ sink.old) }
 
     // A watch that is done wrote its line, which is a function of the words. Whatever the answer, what was written is a front of that line, and
@@ -207,6 +217,9 @@ pub fn hermes<
     ensures watched { (writes : ℕ) → IsCommand (Watch writes) (texts words.now) → result ≡ Status.Done → Appends (K.held sink.old) (K.held sink.new) (watched_line writes) }
     ensures watching { (writes : ℕ) → IsCommand (Watch writes) (texts words.now)
         → (source.new ≡ source.old) × ((n : ℕ) × Appends (K.held sink.old) (K.held sink.new) (take n (watched_line writes))) }
+
+    // A storm of joint reads tells what some reads come to by the journal of some shard: Done, where each of them stood together at one moment; Gap, where one did not. Nothing is read.
+    ensures joint_stormed { (workers reads : ℕ) → IsCommand (JointStorm workers reads) (texts words.now) → (source.new ≡ source.old) × IsJointStorm result workers reads (K.held sink.old) (K.held sink.new) }
 
     // A fault is the outside's.
     ensures read_fault { result ≡ Status.ReadFault → Rose (S.faults source.old) (S.faults source.new) }

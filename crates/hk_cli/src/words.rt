@@ -3,7 +3,7 @@
 ghost use Rattle.std.specs.Prelude.{◌≡◌, ◌≤◌, map, length, string_bytes, IfSome};
 ghost use Rattle.hk_cli.specs.Words.{IsCommandRead};
 ghost use Rattle.hk_cli.specs.Commands.{IsInRange};
-ghost use Rattle.hk_cli.specs.Options.{alone, command_of, generate_of, serve_of, storm_of, watch_of, option_is, option_count, ranged, value_of};
+ghost use Rattle.hk_cli.specs.Options.{alone, command_of, generate_of, serve_of, storm_of, watch_of, joint_storm_of, option_is, option_count, ranged, value_of};
 
 use crate::options::{option_count, value_of};
 use hk_base::MAX_TIME;
@@ -25,6 +25,8 @@ pub enum Command {
     Serve(Group),
     /// Write a key so often in one thread while a watch of it looks in another, and tell the last stamp that the watch was told.
     Watch { writes: u32 },
+    /// Write keys in so many threads while a reader reads all of them together so often, and place what it found.
+    JointStorm { workers: u8, reads: u32 },
 }
 
 // Whether the words are so many options, and so not more than each of them once.
@@ -127,6 +129,21 @@ fn read_watch(words: &[String]) -> Option<Command>
     })
 }
 
+#[tactic(auto, unfolding(crate::specs::Options::joint_storm_of))]
+fn read_joint_storm(words: &[String]) -> Option<Command>
+    ensures { result ≡ joint_storm_of (map (λ w. string_bytes w) words.now) }
+{
+    if !are_options(words, 2) {
+        return None;
+    }
+    let workers = ranged(words, b"workers", 1, 8)?;
+    let reads = ranged(words, b"reads", 1, 10_000)?;
+    Some(Command::JointStorm {
+        workers: workers as u8,
+        reads: reads as u32,
+    })
+}
+
 // The command, with no words behind it.
 fn alone(words: &[String], command: Command) -> Option<Command>
     ensures { result ≡ alone command (map (λ w. string_bytes w) words.now) }
@@ -150,6 +167,7 @@ fn read(words: &[String]) -> Option<Command>
         "storm" => read_storm(words),
         "serve" => read_serve(words),
         "watch" => read_watch(words),
+        "joint-storm" => read_joint_storm(words),
         _ => None,
     }
 }

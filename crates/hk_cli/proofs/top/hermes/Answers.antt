@@ -1,6 +1,6 @@
 use Rattle.std.proofs.Common.{subst}
 use Rattle.std.specs.Prelude.{IfSome}
-use Rattle.hk_cli.specs.declared.words.Command.TheVariants.{Drill, Joint, Generate, Storm, Serve, Watch}
+use Rattle.hk_cli.specs.declared.words.Command.TheVariants.{Drill, Joint, Generate, Storm, Serve, Watch, JointStorm}
 use Rattle.hk_cli.specs.Commands.{MayEnd}
 use Rattle.hk_cli.proofs.Ending.{read_is, none_is, is_none}
 use Rattle.hk_cli.proofs.top.hermes.Goals as goal
@@ -73,3 +73,6 @@ returns-clause-watched g c = λ writes is. c.perform.ensures.watched writes (rea
 
 pub returns-clause-watching : goal.returns-clause-watching
 returns-clause-watching g c = λ writes is. c.perform.ensures.watching writes (read_is _ _ (Watch writes) c.read_command.ensures.read is)
+
+pub returns-clause-joint_stormed : goal.returns-clause-joint_stormed
+returns-clause-joint_stormed g c = λ workers reads is. c.perform.ensures.joint_stormed workers reads (read_is _ _ (JointStorm workers reads) c.read_command.ensures.read is)

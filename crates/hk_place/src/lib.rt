@@ -1,0 +1,15 @@
+//! Where several keys of a shard stood together.
+//!
+//! A reader of several cells finds of each key the row that was published last, and the ticket of the step that published it. Each cell has a rule of its own,
+//! so that the cells showed these rows at one moment is not known from them. The journal of the node decides it: [`place`] makes its steps again, and looks whether the
+//! rows that were found stood in the node together, at the greatest of their tickets. [`Changes`] keeps of a journal which step changed which row, so that many
+//! reads are placed by look-ups alone.
+//!
+//! The caller gives a journal that is a replay from its base, and whose events are such as a node may be given: a shard's base and journal are.
+#![tactic(auto)]
+
+mod changes;
+mod placing;
+
+pub use changes::Changes;
+pub use placing::{PlaceFault, place};
