@@ -19,13 +19,14 @@ const COMMANDS: &[Command] = &[
         &[("nodes", 1, 16), ("workers", 1, 8), ("managers", 0, 9), ("lease", 0, MOST_TIME), ("skew", 0, MOST_TIME), ("port", 1, 65_535), ("conns", 1, 1_000_000)],
     ),
     ("watch", &[("writes", 1, 10_000)]),
+    ("joint-storm", &[("workers", 1, 8), ("reads", 1, 10_000)]),
 ];
 
 /// The options whose values are told, in this order.
-const TOLD: &[&str] = &["start", "count", "calls", "nodes", "workers", "managers", "lease", "skew", "port", "conns", "writes"];
+const TOLD: &[&str] = &["start", "count", "calls", "nodes", "workers", "managers", "lease", "skew", "port", "conns", "writes", "reads"];
 
 pub fn draw(random: &mut Random) -> Drawn {
-    let (name, options) = COMMANDS[[0, 1, 2, 2, 3, 3, 4, 4, 5][random.below(9)]];
+    let (name, options) = COMMANDS[[0, 1, 2, 2, 3, 3, 4, 4, 5, 6][random.below(10)]];
     let mut words = vec![name.to_string()];
     let mut options = options.to_vec();
     while !options.is_empty() {
@@ -45,7 +46,7 @@ pub fn draw(random: &mut Random) -> Drawn {
             let at = random.below(words.len());
             words.insert(random.below(words.len() + 1), words[at].clone());
         }
-        2 => words.insert(random.below(words.len() + 1), random.pick(&["--", "-h", "--help", "help", "", "now", "0", "--nodes=1", "storm", "serve"]).to_string()),
+        2 => words.insert(random.below(words.len() + 1), random.pick(&["--", "-h", "--help", "help", "", "now", "0", "--nodes=1", "storm", "serve", "joint"]).to_string()),
         3 => {
             let (first, second) = (random.below(words.len()), random.below(words.len()));
             words.swap(first, second);

@@ -137,7 +137,7 @@ impl Frame {
     }
 }
 
-pub fn draw(random: &mut Random) -> Drawn {
+fn draw_whole(random: &mut Random) -> Drawn {
     let mut frame = Frame::default();
     let kind = random.number(1, 13);
     frame.number(4, 0);
@@ -150,11 +150,28 @@ pub fn draw(random: &mut Random) -> Drawn {
     let mut drawn = frame.0;
     let length = drawn.bytes.len() as u32 - 4;
     drawn.bytes[..4].copy_from_slice(&length.to_be_bytes());
+    drawn
+}
+
+pub fn draw(random: &mut Random) -> Drawn {
+    let mut drawn = draw_whole(random);
     // the next frame may be there already
     if random.one_in(8) {
         drawn.bytes.extend_from_slice(&[0, 0, 0, 16]);
     }
     drawn
+}
+
+/// Frames one after the other.
+pub fn draw_several(random: &mut Random) -> Drawn {
+    let mut all = Drawn::default();
+    for _ in 0..1 + random.below(3) {
+        let start = all.bytes.len();
+        let frame = draw_whole(random);
+        all.numbers.extend(frame.numbers.iter().map(|(at, len)| (start + at, *len)));
+        all.bytes.extend_from_slice(&frame.bytes);
+    }
+    all
 }
 
 /// Why bytes are no frame, as it is told.
@@ -304,5 +321,22 @@ pub fn read(bytes: &[u8]) -> String {
     match bytes.get(..wanted) {
         None => format!("short {wanted}"),
         Some(frame) => read_whole(frame).unwrap_or_else(|fault| fault),
+    }
+}
+
+/// Reads frames one after the other: the letter of each, and then the first fault, or that more is needed.
+pub fn read_several(bytes: &[u8]) -> String {
+    let mut text = String::new();
+    let mut rest = bytes;
+    loop {
+        let told = read(rest);
+        match told.split_once(' ') {
+            Some((len, letter)) if len.starts_with(|c: char| c.is_ascii_digit()) => {
+                text += &format!(" {letter};");
+                rest = &rest[len.parse::<usize>().unwrap()..];
+            }
+            _ if told.starts_with("short") => return text + "need",
+            _ => return text + &told,
+        }
     }
 }

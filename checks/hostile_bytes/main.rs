@@ -33,6 +33,7 @@ fn kind(name: &str) -> Option<Kind> {
         "requests" => Kind { draw: requests::draw, read: requests::read },
         "reply" => Kind { draw: reply::draw, read: reply::read },
         "frame" => Kind { draw: frame::draw, read: frame::read },
+        "frames" => Kind { draw: frame::draw_several, read: frame::read_several },
         _ => return None,
     })
 }
@@ -59,6 +60,7 @@ fn name(kind: &str, answer: &str) -> String {
             words.split(' ').take(if words.starts_with("refused") { 2 } else { 1 }).collect::<Vec<_>>().join(" ")
         }
         "reply" | "frame" if answer.starts_with(|c: char| c.is_ascii_digit()) => "read".to_string(),
+        "frames" => answer.rsplit(';').next().and_then(|end| end.split(' ').next()).unwrap_or("").to_string(),
         "script" => answer.split(' ').filter(|word| word.parse::<u64>().is_err()).collect::<Vec<_>>().join(" "),
         _ => answer.split(' ').next().unwrap_or("").to_string(),
     }

@@ -74,6 +74,9 @@ pub fn tell(alloc: Global, bytes: &[u8], out: &mut Vec<u8>) -> Result<(), Memory
                 ],
             )
         }
+        Some(Command::JointStorm { workers, reads }) => {
+            put_numbers(out, b"joint-storm", &[u64::from(workers), u64::from(reads)])
+        }
         Some(Command::Watch { writes }) => put_numbers(out, b"watch", &[u64::from(writes)]),
         None => put(out, b"none"),
     }

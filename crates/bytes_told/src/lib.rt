@@ -7,6 +7,8 @@
 
 mod answer;
 mod input;
+mod told;
 
 pub use answer::{put, put_bytes, put_flag, put_number, put_op, put_stamp};
 pub use input::{Input, next_input};
+pub use told::{Teller, tell_all};

@@ -147,7 +147,8 @@ fn put_view_body(out: &mut Vec<u8>, body: &Body) -> Result<(), Memory> {
     }
 }
 
-fn put_letter(out: &mut Vec<u8>, shard: u8, letter: &Letter) -> Result<(), Memory> {
+/// Puts the shard and the letter.
+pub fn put_letter(out: &mut Vec<u8>, shard: u8, letter: &Letter) -> Result<(), Memory> {
     put_counted(out, b" ", u64::from(shard))?;
     put_counted(out, b" ", letter.epoch)?;
     put_actor(out, letter.from)?;
@@ -155,7 +156,8 @@ fn put_letter(out: &mut Vec<u8>, shard: u8, letter: &Letter) -> Result<(), Memor
     put_row_body(out, &letter.body)
 }
 
-fn put_fault(out: &mut Vec<u8>, fault: FrameFault) -> Result<(), Memory> {
+/// Puts a fault.
+pub fn put_fault(out: &mut Vec<u8>, fault: FrameFault) -> Result<(), Memory> {
     match fault {
         FrameFault::Memory => Err(Memory),
         FrameFault::Short { wanted } => put_counted(out, b"short ", wanted as u64),

@@ -1,55 +1,37 @@
-//! Tells what the readers of requests, replies and frames make of bytes from anyone: it reads inputs of the kinds `requests`, `reply` and
-//! `frame` from standard input, as `bytes_told` says, and writes one line for each. An input that no kind is ends it. `checks/bytes` compares
+//! Tells what the readers of requests, replies and frames make of bytes from anyone: it reads inputs of the kinds `requests`, `reply`,
+//! `frame` and `frames` from standard input, as `bytes_told` says, and writes one line for each. An input that no kind is ends it. `checks/bytes` compares
 //! these lines with those of readers of its own.
 #![tactic(auto)]
 
 mod frame;
+mod frames;
 mod reply;
 mod requests;
 
-use bytes_told::{Input, next_input, put};
+use bytes_told::{Input, Teller, tell_all};
 use hk_base::Memory;
 use std::alloc::Global;
 use std::io;
-use std::io::{Read, Write};
 use std::process::ExitCode;
 
-// What was told is written once it is so long.
-const ENOUGH: usize = 65_536;
+// The readers of what comes over connections.
+struct WireTeller;
 
-// Tells of one input. Answers whether there is such a kind.
-fn tell(alloc: Global, input: &Input, out: &mut Vec<u8>) -> Result<bool, Memory> {
-    match input.kind {
-        b"requests" => requests::tell(alloc, input.bytes, out)?,
-        b"reply" => reply::tell(alloc, input.bytes, out)?,
-        b"frame" => frame::tell(alloc, input.bytes, out)?,
-        _ => return Ok(false),
+impl Teller for WireTeller {
+    fn tell(&self, alloc: Global, input: &Input, out: &mut Vec<u8>) -> Result<bool, Memory> {
+        match input.kind {
+            b"requests" => requests::tell(alloc, input.bytes, out)?,
+            b"reply" => reply::tell(alloc, input.bytes, out)?,
+            b"frame" => frame::tell(alloc, input.bytes, out)?,
+            b"frames" => frames::tell(alloc, input.bytes, out)?,
+            _ => return Ok(false),
+        }
+        Ok(true)
     }
-    put(out, b"\n")?;
-    Ok(true)
 }
 
 fn main(rt: HostRuntime) -> io::Result<ExitCode> {
-    let alloc = rt.alloc();
-    let mut bytes = Vec::new(alloc);
-    rt.reader().read_to_end(&mut bytes)?;
+    let mut reader = rt.reader();
     let mut writer = io::writer(&rt);
-    let mut out = Vec::new(alloc);
-    let mut rest = bytes.as_slice();
-    for _input in 0..u64::MAX {
-        let Some(input) = next_input(rest) else {
-            break;
-        };
-        match tell(alloc, &input, &mut out) {
-            Ok(true) => rest = input.rest,
-            Ok(false) => return Ok(ExitCode::from(2)),
-            Err(_) => return Ok(ExitCode::from(1)),
-        }
-        if out.len() >= ENOUGH {
-            writer.write_all(out.as_slice())?;
-            out.clear();
-        }
-    }
-    writer.write_all(out.as_slice())?;
-    Ok(ExitCode::from(if rest.is_empty() { 0 } else { 2 }))
+    tell_all(rt.alloc(), &mut reader, &mut writer, &WireTeller)
 }

@@ -10,59 +10,68 @@ use hk_key::{Aim, Row, Sending, What};
 use std::alloc::Global;
 use std::process::Abort;
 
-#[test]
-fn ends_at_the_version_limit(rt: HostRuntime) {
-    let alloc = rt.alloc();
+// The last stamp of a plain write, and that of the read-modify-write after it.
+const LAST_WRITE: Stamp = Stamp {
+    version: 281_474_976_710_654,
+    node: 1,
+};
+
+const LAST: Stamp = Stamp {
+    version: 281_474_976_710_655,
+    node: 0,
+};
+
+fn content(rt: &impl Abort, alloc: Global, bytes: &[u8]) -> Content {
+    Content {
+        flags: 0,
+        bytes: Data::read(alloc, bytes).expect(rt, "memory"),
+    }
+}
+
+// A view of nodes 0 and 1.
+fn pair(rt: &impl Abort, alloc: Global) -> View {
     let mut members = Members::new(alloc);
-    members.push(NodeId(0)).expect(&rt, "memory");
-    members.push(NodeId(1)).expect(&rt, "memory");
-    let view = View {
+    members.push(NodeId(0)).expect(rt, "memory");
+    members.push(NodeId(1)).expect(rt, "memory");
+    View {
         epoch: 1,
         members,
         next: 2,
-    };
-    let last_write = Stamp {
-        version: 281_474_976_710_654,
-        node: 1,
-    };
-    let content = Content {
-        flags: 0,
-        bytes: Data::read(alloc, b"5").expect(&rt, "memory"),
-    };
+    }
+}
+
+#[test]
+fn ends_at_the_version_limit(rt: HostRuntime) {
+    let alloc = rt.alloc();
     let mut row = Row::first();
-    let out = row.on_inv(NodeId(1), last_write, Kind::Write, Some(content));
+    let five = content(&rt, alloc, b"5");
+    let out = row.on_inv(NodeId(1), LAST_WRITE, Kind::Write, Some(five));
     let ack = What::Ack {
-        stamp: last_write,
-        top: last_write,
+        stamp: LAST_WRITE,
+        top: LAST_WRITE,
     };
     let aim = Aim::One(NodeId(1));
     assert_eq!(rt; out.send, Some(Sending { aim, what: ack }));
     assert_eq!(rt; row.state, State::Invalid);
-    row.on_val(last_write);
+    row.on_val(LAST_WRITE);
     assert_eq!(rt; row.state, State::Valid);
     assert_eq!(rt; row.stamp.after_write(NodeId(0)), None);
-    let last = Stamp {
-        version: 281_474_976_710_655,
-        node: 0,
-    };
-    assert_eq!(rt; row.stamp.after_rmw(NodeId(0)), Some(last));
+    assert_eq!(rt; row.stamp.after_rmw(NodeId(0)), Some(LAST));
     let reply = Reply {
         call: CallNo(2),
         answer: Answer::Number(6),
     };
-    let six = Content {
-        flags: 0,
-        bytes: Data::read(alloc, b"6").expect(&rt, "memory"),
-    };
+    let view = pair(&rt, alloc);
+    let six = Some(content(&rt, alloc, b"6"));
     let out = row
-        .begin(alloc, NodeId(0), &view, reply, last, Kind::Rmw, Some(six))
+        .begin(alloc, NodeId(0), &view, reply, LAST, Kind::Rmw, six)
         .expect(&rt, "memory");
     let inv = Sending {
         aim: Aim::Others,
         what: What::InvPending,
     };
     assert_eq!(rt; out.send, Some(inv));
-    assert_eq!(rt; (row.state, row.stamp), (State::Write, last));
+    assert_eq!(rt; (row.state, row.stamp), (State::Write, LAST));
 }
 
 #[test]
