@@ -4,6 +4,8 @@
 // `load PORT PROCESS CONNECTIONS DEPTH REQUESTS SETS` asks over so many connections, each a thread that has DEPTH requests on their way,
 // REQUESTS in all, of which SETS in a hundred are sets; the others are gets. There are 10,000 keys, each with a value of 100 bytes, which
 // are set first where they are not there yet.
+//
+// `load PORT KEYS` sets so many keys, each with such a value, and prints nothing.
 use std::io::{self, BufRead, BufReader, Read, Write};
 use std::net::TcpStream;
 use std::time::{Duration, Instant};
@@ -67,10 +69,10 @@ fn put_request(out: &mut Vec<u8>, key: u64, is_set: bool) -> io::Result<()> {
     Ok(())
 }
 
-/// Whether the server has the key that is set last.
-fn is_filled(client: &mut Client) -> io::Result<bool> {
+/// Whether the server has this key.
+fn is_there(client: &mut Client, key: u64) -> io::Result<bool> {
     let mut out = Vec::new();
-    put_request(&mut out, KEYS - 1, false)?;
+    put_request(&mut out, key, false)?;
     client.stream.write_all(&out)?;
     client.read_line()?;
     if client.line == b"END\r\n" {
@@ -81,15 +83,16 @@ fn is_filled(client: &mut Client) -> io::Result<bool> {
     Ok(true)
 }
 
-fn fill(port: u16) -> io::Result<()> {
+/// Sets so many keys, unless the last of them is there.
+fn fill(port: u16, keys: u64) -> io::Result<()> {
     let mut client = Client::new(port)?;
-    if is_filled(&mut client)? {
+    if is_there(&mut client, keys - 1)? {
         return Ok(());
     }
     let mut out = Vec::new();
-    for key in 0..KEYS {
+    for key in 0..keys {
         put_request(&mut out, key, true)?;
-        if out.len() > 8192 || key + 1 == KEYS {
+        if out.len() > 8192 || key + 1 == keys {
             client.stream.write_all(&out)?;
             let requests = out.windows(4).filter(|bytes| bytes == b"set ").count();
             for _ in 0..requests {
@@ -138,12 +141,15 @@ fn spent(process: u64) -> io::Result<f64> {
 
 fn main() -> io::Result<()> {
     let words: Vec<u64> = std::env::args().skip(1).map(|word| word.parse().expect("a number")).collect();
+    if let [port, keys] = words[..] {
+        return fill(port as u16, keys);
+    }
     let [port, process, connections, depth, requests, sets] = words[..] else {
-        eprintln!("usage: load PORT PROCESS CONNECTIONS DEPTH REQUESTS SETS");
+        eprintln!("usage: load PORT PROCESS CONNECTIONS DEPTH REQUESTS SETS | load PORT KEYS");
         std::process::exit(2);
     };
     let port = port as u16;
-    fill(port)?;
+    fill(port, KEYS)?;
     let (spent_before, begun) = (spent(process)?, Instant::now());
     let asking: Vec<_> = (0..connections).map(|start| std::thread::spawn(move || ask(port, start, depth, requests / connections, sets))).collect();
     let mut times = Vec::new();
