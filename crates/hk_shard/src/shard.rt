@@ -5,7 +5,8 @@ ghost use Rattle.hk_node.specs.Outs.{IsOutOf};
 ghost use Rattle.hk_node.specs.Steps.{node_step};
 ghost use Rattle.hk_node.specs.Calls.{lease_end};
 ghost use Rattle.hk_node.specs.Sound.{IsEvent};
-ghost use Rattle.hk_snap.specs.Ends.{names, seen_at, looked, Loads};
+ghost use mathlib.Core.List.{IsPrefix};
+ghost use Rattle.hk_snap.specs.Ends.{names, noted, seen_at, looked, Loads};
 ghost use Rattle.hk_snap.specs.Leases.{Looks};
 ghost use Rattle.hk_shard.specs.Shard.{shard_of};
 
@@ -159,6 +160,17 @@ impl Shard {
         ensures err { OnErr result (reader.new ≡ reader.old) }
     {
         self.writer.meet(rt, cell, reader)
+    }
+
+    /// The same, but the reader shows what it showed before. It takes no memory.
+    pub fn see(&mut self, cell: u8, reader: &mut SnapReader)
+        requires cell { cell < 32 }
+        requires same { names reader.old.ends ≡ names self.old.ends }
+        ensures same { self.new ≡ self.old }
+        ensures seen { reader.new ≡ noted reader.old cell (seen_at self.old.ends cell) }
+        ensures grown { IsPrefix (seen_at reader.old.ends cell) (seen_at self.old.ends cell) }
+    {
+        self.writer.see(cell, reader);
     }
 
     /// By one load the other has seen the end of the part's lease and its clock. It is of this shard's lease cell.

@@ -55,6 +55,10 @@ looked r cell seen = record {
   shown = last_shown seen;
 }
 
+-- a reader after a meeting that shows nothing
+abbrev pub noted : Reader → ℕ → List Publication → Reader
+noted r cell seen = record { ends = (looked r cell seen).ends; shown = r.shown }
+
 -- One load of a cell. The list that is seen begins with all that was seen of it, and its last is what is shown. Nothing is seen of
 -- other cells.
 abbrev pub Loads : Reader → ℕ → Reader → Type 0

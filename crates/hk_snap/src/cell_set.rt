@@ -5,7 +5,8 @@ ghost use Rattle.std.specs.List.{AllByRecursion};
 ghost use Rattle.hk_base.specs.Range.{IsWithin};
 ghost use Rattle.hk_snap.specs.Snapshots.{cell_of, published, last_shown, glance_of, shown_content, IsNext, IsRising};
 ghost use Rattle.hk_snap.specs.Locals.{local_of};
-ghost use Rattle.hk_snap.specs.Ends.{names, at, seen_at, with_publication, looked, Loads, another, joined_ends, writing_end};
+ghost use mathlib.Core.List.{IsPrefix};
+ghost use Rattle.hk_snap.specs.Ends.{names, at, seen_at, with_publication, looked, noted, Loads, another, joined_ends, writing_end};
 
 use crate::ends::{CellReader, CellWriter};
 use crate::local::{Local, local_of};
@@ -109,6 +110,18 @@ impl SnapWriter {
         let at = usize::from(cell);
         self.ends[at].meet(rt, &mut reader.ends[at], &mut reader.room);
         Ok(())
+    }
+
+    /// The same, but the reader shows what it showed before: no word of the cell is read. It costs one load, and takes no memory.
+    pub fn see(&mut self, cell: u8, reader: &mut SnapReader)
+        requires cell { cell < 32 }
+        requires same { names reader.old.ends ≡ names self.old }
+        ensures same { self.new ≡ self.old }
+        ensures seen { reader.new ≡ noted reader.old cell (seen_at self.old cell) }
+        ensures grown { IsPrefix (seen_at reader.old.ends cell) (seen_at self.old cell) }
+    {
+        let at = usize::from(cell);
+        self.ends[at].see(&mut reader.ends[at]);
     }
 }
 

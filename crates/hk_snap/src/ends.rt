@@ -10,7 +10,7 @@ ghost use Rattle.hk_snap.specs.Rule.{longer, Adds};
 ghost use Rattle.hk_snap.specs.Ends.{writing_end, another};
 
 use crate::rule::{Cell, CellPass, Picked, Words};
-use crate::steps::{cell, join, load, meet, put, split};
+use crate::steps::{cell, join, load, meet, put, see, split};
 use crate::words::words_of;
 use hk_base::{CallNo, Key, Memory};
 use hk_key::Row;
@@ -127,6 +127,16 @@ impl CellWriter {
         ensures words { AreWords room.new }
     {
         meet(rt, &self.cell, &mut self.pass, &mut reader.pass, room);
+    }
+
+    // The same with no word read.
+    pub(crate) fn see(&mut self, reader: &mut CellReader)
+        requires { reader.old.name ≡ self.old.name }
+        ensures same { self.new ≡ self.old }
+        ensures told { reader.new ≡ record { name = reader.old.name; seen = self.old.seen; loads = reader.old.loads + 1 } }
+        ensures grown { IsPrefix reader.old.seen self.old.seen }
+    {
+        see(&self.cell, &mut self.pass, &mut reader.pass);
     }
 }
 

@@ -77,10 +77,13 @@ pub fn lease_cell<R: Wait>(
 }
 
 impl LeaseKeeper {
-    /// Shows the greater of this end and the present one, and of this clock and the present one, by one store.
+    /// Shows the greater of this end and the present one, and of this clock and the present one, by one store. Where neither is greater, nothing is stored.
     pub fn raise<R: Wait>(&mut self, rt: &R, end: u64, now: u64)
         ensures { self.new ≡ raised self.old end now }
     {
+        if end <= self.end && now <= self.now {
+            return;
+        }
         self.end = self.end.max(end);
         self.now = self.now.max(now);
         raise(rt, &self.cell, &mut self.pass, self.end, self.now);

@@ -1,10 +1,11 @@
 //! A cell: what is published in it, what each pass knows of that, and the kinds of its steps.
 
 use atomic_table::{Join, Split};
-use crossbeam_utils::atomic::seq_cell::{Pass, RuledSeqCell};
+use crossbeam_utils::atomic::seq_cell::Pass;
 use crossbeam_utils::rule::{Outcome, Protocol};
 use hk_base::{CallNo, Key};
 use hk_key::Row;
+use hk_seq::WordCell;
 use std::collections::LinkedList;
 use std::marker::{Brand, PhantomData};
 
@@ -145,6 +146,6 @@ impl Join<Knowledge> for Meets {
     ghost spent = { reader [] 0 };
 }
 
-pub type Cell = RuledSeqCell<Words, Knowledge, OneList, 165>;
+pub type Cell = WordCell<Knowledge, OneList, 165>;
 
 pub type CellPass = Pass<Words, Knowledge>;

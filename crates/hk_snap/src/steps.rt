@@ -20,7 +20,7 @@ use std::sync::Wait;
 pub(crate) fn cell(alloc: Global) -> Result<(Cell, CellPass), Memory>
     ensures { IfOk result (λ c. (c.1.table_id ≡ c.0.table.shared.table_id) × (cell_view c.1 ≡ opening)) }
 {
-    let made = Cell::ruled(alloc, no_words())?;
+    let made = Cell::ruled(alloc, &no_words())?;
     Ok(made)
 }
 
@@ -34,7 +34,7 @@ pub(crate) fn put<P: Picked, R: Wait>(rt: &R, cell: &Cell, pass: &mut CellPass, 
     ensures cell { (pass.new.table_id ≡ pass.old.table_id) × (pass.new.id ≡ pass.old.id) }
     ensures added { Adds P.publication (cell_view pass.old) [] [] (cell_view pass.new) }
 {
-    cell.swap_as::<Publishes<P>, R>(rt, pass, *words);
+    cell.store_as::<Publishes<P>, R>(rt, pass, words);
 }
 
 // One load.
@@ -43,7 +43,7 @@ pub(crate) fn load<R: Wait>(rt: &R, cell: &Cell, pass: &mut CellPass, room: &mut
     ensures cell { pass.new.table_id ≡ pass.old.table_id }
     ensures loaded { Loaded (cell_view pass.old) room.new room.new (cell_view pass.new) }
 {
-    *room = cell.load_as::<Loads, R>(rt, pass);
+    cell.load_as::<Loads, R>(rt, pass, room);
 }
 
 // A reader's pass that has seen as much.
@@ -86,7 +86,24 @@ pub(crate) fn meet<R: Wait>(
 {
     let claim = cell.split_pass::<Reads>(reader);
     cell.join_pass::<Claims>(writer, claim);
-    *room = cell.load_as::<Compares, R>(rt, writer);
+    cell.load_as::<Compares, R>(rt, writer, room);
+    let seen = cell.split_pass::<Reads>(writer);
+    cell.join_pass::<Meets>(reader, seen);
+}
+
+// The same with no word read, by one load of the cell's version.
+pub(crate) fn see(cell: &Cell, writer: &mut CellPass, reader: &mut CellPass)
+    requires cell { (writer.old.table_id ≡ cell.now.table.shared.table_id) × (reader.old.table_id ≡ writer.old.table_id) }
+    requires publishes { ((cell_view writer.old).publishes ≡ true) × ((cell_view reader.old).publishes ≡ false) }
+    ensures cell { (writer.new.table_id ≡ writer.old.table_id) × (reader.new.table_id ≡ reader.old.table_id) }
+    ensures seen { ((cell_view writer.new).seen ≡ (cell_view writer.old).seen) × ((cell_view writer.new).publishes ≡ (cell_view writer.old).publishes) }
+    ensures met { cell_view reader.new ≡ met (cell_view reader.old) (cell_view writer.old) }
+    ensures grown { IsPrefix (cell_view reader.old).seen (cell_view writer.old).seen }
+    ensures list { IsRising (cell_view writer.old).seen × AllByRecursion IsInRange (cell_view writer.old).seen }
+{
+    let claim = cell.split_pass::<Reads>(reader);
+    cell.join_pass::<Claims>(writer, claim);
+    cell.note_as::<Compares>(writer);
     let seen = cell.split_pass::<Reads>(writer);
     cell.join_pass::<Meets>(reader, seen);
 }

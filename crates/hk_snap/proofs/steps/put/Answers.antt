@@ -2,5 +2,5 @@ use Rattle.std.proofs.Common.{rules}
 use Rattle.hk_snap.proofs.Keeping.{adds}
 use Rattle.hk_snap.proofs.steps.put.Goals as goal
 
-pub swap_as-requires : goal.swap_as-requires
-swap_as-requires g c = (search rules, (search rules, (c.requires.cell, adds _ _ _ _ c.requires.publishes c.requires.words c.requires.next c.requires.range)))
+pub store_as-requires : goal.store_as-requires
+store_as-requires g c = (search rules, (search rules, (search rules, (c.requires.cell, adds _ _ _ _ c.requires.publishes c.requires.words c.requires.next c.requires.range))))
