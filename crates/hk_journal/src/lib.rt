@@ -6,8 +6,10 @@
 //! Nothing here knows of threads, locks or cells: who keeps a journal makes one entry for each step, with a greater ticket.
 #![tactic(auto)]
 
+mod copying;
 mod laws;
 mod step_entry;
 
+pub use copying::share_journal;
 pub use laws::{changed_rows_are_reported, journals_are_joined};
 pub use step_entry::{Journal, JournalEntry, entry};

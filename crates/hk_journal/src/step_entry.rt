@@ -3,7 +3,8 @@
 ghost use Rattle.std.specs.Prelude.{◌≡◌, IfOk};
 ghost use Rattle.hk_journal.specs.Journal.{entry_of};
 
-use hk_base::{Letter, Letters, Memory, Replies, Reply, Sequence};
+use crate::copying::{share_letters, share_replies};
+use hk_base::{Letters, Memory, Replies, Sequence};
 use hk_node::{NodeEvent, NodeOut};
 use std::alloc::Global;
 
@@ -22,36 +23,6 @@ pub struct JournalEntry {
 
 /// The steps of one node, in their order.
 pub type Journal = Sequence<JournalEntry>;
-
-fn share_letters(alloc: Global, letters: &[Letter]) -> Result<Letters, Memory>
-    ensures { IfOk result (λ same. same ≡ letters.now) }
-{
-    let mut same = Sequence::new(alloc);
-    for letter in letters {
-        same.push(letter.share(alloc)?)?;
-    }
-    Ok(same)
-}
-
-fn share_reply(reply: &Reply) -> Result<Reply, Memory>
-    ensures { IfOk result (λ same. same ≡ reply.now) }
-{
-    let answer = reply.answer.share()?;
-    Ok(Reply {
-        call: reply.call,
-        answer,
-    })
-}
-
-fn share_replies(alloc: Global, replies: &[Reply]) -> Result<Replies, Memory>
-    ensures { IfOk result (λ same. same ≡ replies.now) }
-{
-    let mut same = Sequence::new(alloc);
-    for reply in replies {
-        same.push(share_reply(reply)?)?;
-    }
-    Ok(same)
-}
 
 /// The entry of a step that gave this. Keys and contents are shared.
 pub fn entry(

@@ -1,0 +1,90 @@
+//! Copies of journals. Keys and contents are shared.
+
+ghost use Rattle.std.specs.Prelude.{◌≡◌, IfOk};
+
+use crate::step_entry::{Journal, JournalEntry};
+use hk_base::{Letter, Letters, Memory, Replies, Reply, Sequence};
+use hk_node::NodeEvent;
+use std::alloc::Global;
+
+fn share_event(alloc: Global, event: &NodeEvent) -> Result<NodeEvent, Memory>
+    ensures { IfOk result (λ same. same ≡ event.now) }
+{
+    match event {
+        NodeEvent::Call { call, key, op } => {
+            let key = key.share()?;
+            let op = op.share()?;
+            Ok(NodeEvent::Call {
+                call: *call,
+                key,
+                op,
+            })
+        }
+        NodeEvent::Receive(letter) => Ok(NodeEvent::Receive(letter.share(alloc)?)),
+        NodeEvent::Resend(key) => Ok(NodeEvent::Resend(key.share()?)),
+        NodeEvent::Replay(key) => Ok(NodeEvent::Replay(key.share()?)),
+        NodeEvent::AskLease { manager } => Ok(NodeEvent::AskLease { manager: *manager }),
+        NodeEvent::AskCopy { from, room } => Ok(NodeEvent::AskCopy {
+            from: *from,
+            room: *room,
+        }),
+        NodeEvent::Tick { now } => Ok(NodeEvent::Tick { now: *now }),
+        NodeEvent::Grant { end } => Ok(NodeEvent::Grant { end: *end }),
+        NodeEvent::Install(view) => Ok(NodeEvent::Install(view.copy(alloc)?)),
+    }
+}
+
+pub(crate) fn share_letters(alloc: Global, letters: &[Letter]) -> Result<Letters, Memory>
+    ensures { IfOk result (λ same. same ≡ letters.now) }
+{
+    let mut same = Sequence::new(alloc);
+    for letter in letters {
+        same.push(letter.share(alloc)?)?;
+    }
+    Ok(same)
+}
+
+fn share_reply(reply: &Reply) -> Result<Reply, Memory>
+    ensures { IfOk result (λ same. same ≡ reply.now) }
+{
+    let answer = reply.answer.share()?;
+    Ok(Reply {
+        call: reply.call,
+        answer,
+    })
+}
+
+pub(crate) fn share_replies(alloc: Global, replies: &[Reply]) -> Result<Replies, Memory>
+    ensures { IfOk result (λ same. same ≡ replies.now) }
+{
+    let mut same = Sequence::new(alloc);
+    for reply in replies {
+        same.push(share_reply(reply)?)?;
+    }
+    Ok(same)
+}
+
+fn share_entry(alloc: Global, entry: &JournalEntry) -> Result<JournalEntry, Memory>
+    ensures { IfOk result (λ same. same ≡ entry.now) }
+{
+    let event = share_event(alloc, &entry.event)?;
+    let letters = share_letters(alloc, entry.letters.as_slice())?;
+    let replies = share_replies(alloc, entry.replies.as_slice())?;
+    Ok(JournalEntry {
+        ticket: entry.ticket,
+        event,
+        letters,
+        replies,
+    })
+}
+
+/// A copy of a journal, which shares its keys and contents.
+pub fn share_journal(alloc: Global, journal: &[JournalEntry]) -> Result<Journal, Memory>
+    ensures { IfOk result (λ same. same ≡ journal.now) }
+{
+    let mut same = Sequence::new(alloc);
+    for entry in journal {
+        same.push(share_entry(alloc, entry)?)?;
+    }
+    Ok(same)
+}
