@@ -47,7 +47,7 @@ use Rattle.hk_told.proofs.Telling.{calls_begin_in_lists}
 use Rattle.hk_locked.specs.Places.{NodeNames, node_names, shard_names}
 use Rattle.hk_told.specs.Shown.{BeginsIn}
 use Rattle.hk_locked.specs.Locked.{lists_in, LockedState, IsLocked}
-use Rattle.hk_locked.specs.Moments.{Follows}
+use Rattle.hk_locked.specs.Makes.{Follows}
 use Rattle.hk_locked.specs.Steps.{GivesUp, IsLeft, AreOneOrNone, HasCalled, Begins, replies_with}
 
 -- ---- a shard's lists show its rows

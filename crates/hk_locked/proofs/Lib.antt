@@ -1,4 +1,4 @@
 pub mod ByRow
 pub mod Keeping
 pub mod Reading
-pub mod Moments
+pub mod Making

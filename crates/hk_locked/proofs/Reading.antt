@@ -14,7 +14,7 @@ use Rattle.hk_snap.specs.declared.rule.Publication.{Publication}
 use Rattle.hk_snap.specs.declared.local.Local.{Local}
 use Rattle.hk_snap.specs.Locals.{local_of}
 use Rattle.hk_snap.specs.Snapshots.{cell_of, last_shown}
-use Rattle.hk_snap.specs.Ends.{End, Reader, at, names, seen_at, looked, Loads, writing_end, no_name}
+use Rattle.hk_snap.specs.Ends.{End, Reader, at, names, seen_at, looked, noted, Loads, writing_end, no_name}
 use Rattle.hk_snap.specs.Leases.{Lease, Looks as LooksAtLease}
 use Rattle.hk_snap.proofs.Lists.{same_long}
 use Rattle.hk_snap.proofs.Prefixes.{prefix_self, prefix_trans}
@@ -93,9 +93,9 @@ met_at : (xs : List End) (cell k : ℕ) (e : End) → k ≡ cell → k < length 
 met_at xs cell k e is below = subst (λ j. at (slice_set xs k e) j ≡ e) is (get_or-set_same xs k e (writing_end no_name []) below)
 
 pub met : (s : LockedState) (key : List ℕ) (cell : ℕ) (old : ReaderState) (cells : Reader) → old.node ≡ s.node → old.number ≡ s.number → old.skew ≡ s.skew → cell ≡ cell_of key → cell < 32 → length old.cells.ends ≡ 32
-    → cells ≡ looked old.cells cell (seen_at s.shard.ends cell) → Loads old.cells cell cells
+    → cells ≡ noted old.cells cell (seen_at s.shard.ends cell) → IsPrefix (seen_at old.cells.ends cell) (seen_at s.shard.ends cell)
     → Meets s key old (record { node = old.node; number = old.number; skew = old.skew; cells = cells; lease = old.lease })
-met s key cell old cells node number skew is below long looks loads = record {
+met s key cell old cells node number skew is below long notes grown = record {
   node = node;
   number = number;
   skew = skew;
@@ -103,23 +103,25 @@ met s key cell old cells node number skew is below long looks loads = record {
     node = refl;
     number = refl;
     skew = refl;
-    others = λ other apart. ap (λ (r : Reader). at r.ends other) looks
+    others = λ other apart. ap (λ (r : Reader). at r.ends other) notes
         ∙ get_or-set_other old.cells.ends cell other _ (writing_end no_name []) (λ e. apart (e ∙ is));
   };
   lease = refl;
-  seen = ap (λ (r : Reader). (at r.ends (cell_of key)).seen) looks ∙ (ap (λ (e : End). e.seen) (met_at old.cells.ends (cell_of key) cell _ is short) ∙ ap (seen_at s.shard.ends) is);
-  grown = subst (IsPrefix (end_at key old).seen) (sym (ap (λ (r : Reader). (at r.ends (cell_of key)).seen) loads.2 ∙ ap (λ (e : End). e.seen) (met_at old.cells.ends (cell_of key) cell _ is short)))
-      (subst (λ j. IsPrefix (seen_at old.cells.ends j) loads.0) is loads.1);
-  loads = ap (λ (r : Reader). (at r.ends (cell_of key)).loads) looks ∙ (ap (λ (e : End). e.loads) (met_at old.cells.ends (cell_of key) cell _ is short)
+  seen = all ∙ ap (seen_at s.shard.ends) is;
+  grown = subst (IsPrefix (end_at key old).seen) (sym all) (subst (λ j. IsPrefix (seen_at old.cells.ends j) (seen_at s.shard.ends cell)) is grown);
+  loads = ap (λ (r : Reader). (at r.ends (cell_of key)).loads) notes ∙ (ap (λ (e : End). e.loads) (met_at old.cells.ends (cell_of key) cell _ is short)
       ∙ ap (λ j. (at old.cells.ends j).loads + 1) is);
 }
   where
     short : cell < length old.cells.ends
     short = omega (arith, below, long)
 
+    all : (at cells.ends (cell_of key)).seen ≡ seen_at s.shard.ends cell
+    all = ap (λ (r : Reader). (at r.ends (cell_of key)).seen) notes ∙ ap (λ (e : End). e.seen) (met_at old.cells.ends (cell_of key) cell _ is short)
+
 -- the cells have the same names
-pub met_names : (old cells : Reader) (cell : ℕ) (seen : List Publication) → cells ≡ looked old cell seen → names cells.ends ≡ names old.ends
-met_names old cells cell seen is = ap (λ (r : Reader). names r.ends) is ∙ map-set_same (λ (e : End). e.name) old.ends cell _ (writing_end no_name []) refl
+pub met_names : (old cells : Reader) (cell : ℕ) (seen : List Publication) → cells.ends ≡ (looked old cell seen).ends → names cells.ends ≡ names old.ends
+met_names old cells cell seen is = ap names is ∙ map-set_same (λ (e : End). e.name) old.ends cell _ (writing_end no_name []) refl
 
 -- ---- a call begins
 pub started : (s t : LockedState) (call : CallNo) (key : List ℕ) (ticket : ℕ) (op : Op) (answer : Option Answer) (old met leased new : ReaderState)
@@ -207,15 +209,15 @@ grown_looked key ticket told old new l = record {
 -- a load by a reader of the same shard, as contracts see both
 pub met_inside : (places : List NodeNames) (s now : LockedState) (r old : ReaderState) (key : List ℕ) (cell : ℕ) (cells : Reader) → s ≡ now → r ≡ old → IsLocked places s → IsReader places r
     → old.node ≡ now.node → old.number ≡ now.number → cell ≡ cell_of key → cell < 32 → length s.shard.ends ≡ 32
-    → cells ≡ looked r.cells cell (seen_at s.shard.ends cell) → Loads r.cells cell cells
+    → cells ≡ noted r.cells cell (seen_at s.shard.ends cell) → IsPrefix (seen_at r.cells.ends cell) (seen_at s.shard.ends cell)
     → Meets now key old (record { node = r.node; number = r.number; skew = r.skew; cells = cells; lease = r.lease })
-met_inside places s now r old key cell cells same_shard same_reader locked reads node number is below long looks loads =
+met_inside places s now r old key cell cells same_shard same_reader locked reads node number is below long notes grown =
     let of_node : r.node ≡ s.node = ap (λ (x : ReaderState). x.node) same_reader ∙ (node ∙ sym (ap (λ (x : LockedState). x.node) same_shard)) in
     let numbered : r.number ≡ s.number = ap (λ (x : ReaderState). x.number) same_reader ∙ (number ∙ sym (ap (λ (x : LockedState). x.number) same_shard)) in
     let one : IsOfOne s r = of_one_shard places s r locked reads of_node numbered in
     subst (λ (x : LockedState). Meets x key old (record { node = r.node; number = r.number; skew = r.skew; cells = cells; lease = r.lease })) same_shard
     (subst (λ (x : ReaderState). Meets s key x (record { node = r.node; number = r.number; skew = r.skew; cells = cells; lease = r.lease })) same_reader
-    (met s key cell r cells of_node numbered one.skew is below (same_long r.cells.ends s.shard.ends one.cells ∙ long) looks loads))
+    (met s key cell r cells of_node numbered one.skew is below (same_long r.cells.ends s.shard.ends one.cells ∙ long) notes grown))
 
 -- ---- a read without the lock
 module _ (key : List ℕ) (r old : ReaderState) (cells : Reader) (lease : Lease) (same_reader : r ≡ old) (long : length r.cells.ends ≡ 32) (loads : Loads r.cells (cell_of key) cells) (looks : LooksAtLease r.lease lease) where

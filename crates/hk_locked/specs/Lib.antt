@@ -2,4 +2,4 @@ pub mod ByRow
 pub mod Locked
 pub mod Places
 pub mod Steps
-pub mod Moments
+pub mod Makes

@@ -13,7 +13,6 @@
 #![tactic(auto)]
 
 mod by_row;
-mod copying;
 mod locked;
 mod places;
 mod reader;

@@ -20,18 +20,17 @@ ghost use Rattle.hk_node.specs.Steps.{node_step};
 ghost use Rattle.hk_node.specs.Calls.{lease_end};
 ghost use Rattle.hk_locked.specs.Places.{shard_names, node_names};
 ghost use Rattle.hk_locked.specs.ByRow.{ReadsRow};
-ghost use Rattle.hk_locked.specs.Moments.{Follows, WasApplied, WasDue, WasJournal, WasQuiet};
+ghost use Rattle.hk_locked.specs.Makes.{Stands, Follows, Makes, MakesCall, CallsAt, IsQuiet, due_in};
 ghost use Rattle.hk_locked.specs.Steps.{IsGrown, Meets, MeetsLease, Ticks, Trims, Begins, StartsAt, LooksFor, GivesUp, HasNoAsk, HasCalled, AreOneOrNone, replies_with, is_short};
 ghost use Rattle.hk_told.specs.declared.asks.Look.TheVariants.{Gone};
 
 use crate::by_row::{RowRead, told_by};
-use crate::copying::share_journal;
 use crate::places::Places;
 use crate::reader::ShardReader;
 use hk_base::{Answer, CallNo, Key, Letters, Memory, NodeId, Op, Replies, Reply, State};
 use hk_callback::{Callbacks, Completion};
 use hk_due::{Due, OpenKeys};
-use hk_journal::Journal;
+use hk_journal::{Journal, share_journal};
 use hk_node::{Node, NodeEvent, NodeOut, Report};
 use hk_shard::Shard;
 use hk_snap::cell_of;
@@ -295,14 +294,16 @@ impl<F: Completion + Copy + Drop, P: Places> LockedShard<F, P> {
 
     /// Whether it is the node's shard of this number.
     pub fn is_of(&self, node: NodeId, number: u8) -> bool
-        ensures { IsTrue result → (self.now.node ≡ node) × (self.now.number ≡ number) }
+        ensures same { IsTrue result → (self.now.node ≡ node) × (self.now.number ≡ number) }
+        ensures stands { Stands P.places self.now }
     {
+        keeps(&self.shard);
         self.node == node && self.number == number
     }
 
     /// Whether a row is open, one that is not Valid.
     pub fn has_open(&self) -> bool
-        ensures { result ≡ false → WasQuiet P.places self.now.node self.now.number }
+        ensures { result ≡ false → IsQuiet self.now }
     {
         !self.open_keys.is_empty()
     }
@@ -310,7 +311,7 @@ impl<F: Completion + Copy + Drop, P: Places> LockedShard<F, P> {
     /// What is to be sent again of the least key behind this one, or of all, that is open since a step of a ticket up to `before`. It looks at no row but that
     /// key's, unless memory was wanting for keys of open rows.
     pub fn due(&self, after: Option<&Key>, before: u64) -> Result<Option<Due>, Memory>
-        ensures { IfOk result (λ due. WasDue P.places self.now.node self.now.number (option_copied after.entry) before due) }
+        ensures { IfOk result (λ due. due ≡ due_in (option_copied after.entry) before self.now) }
     {
         self.open_keys.due(self.shard.part(), after, before)
     }
@@ -329,7 +330,9 @@ impl<F: Completion + Copy + Drop, P: Places> LockedShard<F, P> {
         requires no_call { IsNoCall event }
         ensures letters { IfOk result (λ given. AllByRecursion IsLetter given.letters) }
         ensures applied { OnOk result (IsApplied self.old.shard ticket event self.new.shard) }
-        ensures step { IfOk result (λ given. WasApplied P.places self.old.node self.old.number event given.letters) }
+        ensures made { IfOk result (λ given. Makes ticket event given.letters self.old self.new) }
+        ensures told { OnOk result (Delivers (replies_of (node_step self.old.shard.part event)) (asks_in self.old.asks) (asks_in self.new.asks)) }
+        ensures stands { OnOk result (Stands P.places self.new) }
         ensures err { OnErr result (self.new ≡ self.old) }
     {
         keeps(&self.shard);
@@ -348,6 +351,7 @@ impl<F: Completion + Copy + Drop, P: Places> LockedShard<F, P> {
             ..
         } = out;
         deliver(&mut self.completions, &mut self.asks, replies);
+        keeps(&self.shard);
         Ok(Given { letters, report })
     }
 
@@ -359,12 +363,7 @@ impl<F: Completion + Copy + Drop, P: Places> LockedShard<F, P> {
     }
 
     /// By one load of the key's cell the reader has seen all that was published in it.
-    pub fn meet<R: Wait>(
-        &mut self,
-        rt: &R,
-        key: &Key,
-        reader: &mut ShardReader<P>,
-    ) -> Result<(), Memory>
+    pub fn meet(&mut self, key: &Key, reader: &mut ShardReader<P>) -> Result<(), Memory>
         ensures same { self.new ≡ self.old }
         ensures met { OnOk result (Meets self.old key.now reader.old reader.new) }
         ensures err { OnErr result (reader.new ≡ reader.old) }
@@ -373,7 +372,7 @@ impl<F: Completion + Copy + Drop, P: Places> LockedShard<F, P> {
             return Err(Memory);
         }
         keeps(&self.shard);
-        self.shard.meet(rt, cell_of(key), &mut reader.cells)?;
+        self.shard.see(cell_of(key), &mut reader.cells);
         Ok(())
     }
 
@@ -403,7 +402,7 @@ impl<F: Completion + Copy + Drop, P: Places> LockedShard<F, P> {
         ensures grown { IsGrown key.now reader.old reader.new }
     {
         keeps(&self.shard);
-        self.meet(rt, key, reader)?;
+        self.meet(key, reader)?;
         self.meet_lease(rt, reader)?;
         let part = self.shard.part();
         let end = lease_end(part);
@@ -426,7 +425,9 @@ impl<F: Completion + Copy + Drop, P: Places> LockedShard<F, P> {
     ) -> Result<Started, Memory>
         requires ticket { self.old.shard.last < ticket }
         ensures begins { IfOk result (λ started. Begins self.old self.new call key.now ticket op.now started.answer) }
-        ensures applied { IfOk result (λ started. WasApplied P.places self.old.node self.old.number (Call call key.now op.now) started.letters) }
+        ensures made { IfOk result (λ started. MakesCall ticket call key.now op.now started.letters started.answer self.old self.new) }
+        ensures stood { OnOk result (Stands P.places self.old) }
+        ensures stands { OnOk result (Stands P.places self.new) }
         ensures ticket { IfOk result (λ started. started.ticket ≡ ticket) }
         ensures letters { IfOk result (λ started. AllByRecursion IsLetter started.letters) }
         ensures node { self.new.node ≡ self.old.node }
@@ -447,6 +448,7 @@ impl<F: Completion + Copy + Drop, P: Places> LockedShard<F, P> {
             op,
             tell,
         )?;
+        keeps(&self.shard);
         Ok(started)
     }
 
@@ -464,21 +466,20 @@ impl<F: Completion + Copy + Drop, P: Places> LockedShard<F, P> {
     ) -> Result<Started, Memory>
         requires ticket { self.old.shard.last < ticket }
         ensures starts { IfOk result (λ started. StartsAt reader.old reader.new call key.now started.ticket op.now started.answer) }
-        ensures applied { IfOk result (λ started. WasApplied P.places reader.old.node reader.old.number (Call call key.now op.now) started.letters) }
+        ensures made { IfOk result (λ started. CallsAt P.places self.old self.new reader.old reader.new started.ticket call key.now op.now started.letters started.answer) }
         ensures letters { IfOk result (λ started. AllByRecursion IsLetter started.letters) }
         ensures grown { IsGrown key.now reader.old reader.new }
     {
-        self.meet(rt, key, reader)?;
+        self.meet(key, reader)?;
         self.meet_lease(rt, reader)?;
         let started = self.begin(rt, alloc, ticket, call, key, op, tell)?;
-        self.meet(rt, key, reader)?;
+        self.meet(key, reader)?;
         Ok(started)
     }
 
     /// How the ask stands of the call that began under the ticket, with one load of the key's cell by the reader.
-    pub fn look<R: Wait>(
+    pub fn look(
         &mut self,
-        rt: &R,
         reader: &mut ShardReader<P>,
         key: &Key,
         call: CallNo,
@@ -488,7 +489,7 @@ impl<F: Completion + Copy + Drop, P: Places> LockedShard<F, P> {
         ensures gone { IfOk result (λ look. look ≡ Gone → HasNoAsk call key.now ticket self.old) }
         ensures grown { IsGrown key.now reader.old reader.new }
     {
-        self.meet(rt, key, reader)?;
+        self.meet(key, reader)?;
         if !self.asks.is_at(call, key) {
             return Ok(Look::Gone);
         }
@@ -576,7 +577,7 @@ impl<F: Completion + Copy + Drop, P: Places> LockedShard<F, P> {
 
     /// A copy of the journal, in which keys and contents are shared.
     pub fn copy_journal(&self, alloc: Global) -> Result<Journal, Memory>
-        ensures { IfOk result (λ journal. WasJournal P.places self.now.node self.now.number journal) }
+        ensures { IfOk result (λ journal. journal ≡ self.now.shard.journal) }
     {
         share_journal(alloc, self.shard.journal().as_slice())
     }

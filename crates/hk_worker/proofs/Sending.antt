@@ -1,13 +1,12 @@
 -- Which letters an ask sends.
-use Rattle.std.proofs.Common.{◌≡◌, ◌⊎◌, inl, inr, ℕ, ◌+◌, ◌<◌, List, length, Result, Ok, Err, sym, ◌∙◌, subst, arith, slice_index_or}
-use Rattle.std.proofs.lemmas.List.{get_or_default}
+use Rattle.std.proofs.Common.{◌≡◌, ◌⊎◌, inl, inr, ℕ, ◌+◌, ◌<◌, List, length, Result, Ok, Err, sym, ◌∙◌, subst, arith, slice_index_or, slice_set}
+use Rattle.std.proofs.lemmas.List.{get_or_default, get_or-set_same}
 use Rattle.std.specs.Prelude.{IfOk}
 use Rattle.hk_base.specs.declared.letter.Actor.{Actor}
 use Rattle.hk_base.specs.declared.letter.Letter.{Letter}
 use Rattle.hk_base.specs.declared.stamp.NodeId.{NodeId}
 use Rattle.hk_base.specs.declared.call.CallNo.{CallNo}
 use Rattle.hk_base.specs.declared.call.Op.{Op}
-use Rattle.hk_node.specs.declared.event.NodeEvent.TheVariants.{Call}
 use Rattle.hk_outside.specs.declared.desk.DeskReply.{DeskReply}
 use Rattle.hk_outside.specs.declared.desk.DeskReply.TheVariants.{Told, Unknown, Spent}
 use Rattle.hk_link.specs.Ends.{End as LinkEnd}
@@ -15,25 +14,31 @@ use Rattle.hk_overseer.specs.Sends.{AreSent}
 use Rattle.hk_shard.specs.Shard.{shard_of}
 use Rattle.hk_locked.specs.Places.{NodeNames}
 use Rattle.hk_locked.specs.Locked.{ReaderState}
-use Rattle.hk_locked.specs.Moments.{WasApplied}
-use Rattle.hk_worker.specs.Asking.{Tells, PostState, no_reader, IsReaderOf, AreReadersBelow, call_number}
+use Rattle.hk_locked.specs.Steps.{IsGrown}
+use Rattle.hk_worker.specs.Moments.{WasCalled}
+use Rattle.hk_worker.specs.Asking.{Tells, PostState, no_reader, reader_of, IsReaderOf, AreReadersBelow, call_number}
 use Rattle.hk_worker.specs.Reading.{HasLooked}
 use Rattle.hk_worker.specs.Sending.{SendsCall, SendsOrFails, SendsNextCall, Sends, SendsByClock}
 use Rattle.hk_worker.proofs.Earlier.{number_earlier}
+use Rattle.hk_worker.proofs.Placed.{called_earlier}
 
 -- the letters of the step went out for the reader's shard
-pub sends_call : (places : List NodeNames) (node : NodeId) (number shard : ℕ) (call : CallNo) (key : List ℕ) (op : Op) (letters : List Letter) (before after : List (Actor × LinkEnd)) → shard ≡ number
-    → WasApplied places node number (Call call key op) letters → AreSent shard letters before after → SendsCall places node number call key op before after
-sends_call places node number shard call key op letters before after is was sent = record {
+pub sends_call : (places : List NodeNames) (shard : ℕ) (call : CallNo) (key : List ℕ) (op : Op) (letters : List Letter) (old mid new : ReaderState) (before after : List (Actor × LinkEnd))
+    → shard ≡ old.number → WasCalled places old.node old.number call key op letters old mid → IsGrown key mid new → AreSent shard letters before after
+    → SendsCall places old.node old.number call key op old new before after
+sends_call places shard call key op letters old mid new before after is was later sent = record {
   letters = letters;
-  applied = was;
+  mid = mid;
+  called = was;
+  later = later;
   sent = subst (λ n. AreSent n letters before after) is sent;
 }
 
 -- also where no memory was found behind
-pub failed_sends_call : {A E : Type 0} (places : List NodeNames) (node : NodeId) (shard : ℕ) (call : CallNo) (key : List ℕ) (op : Op) (before after : List (Actor × LinkEnd)) (fault : E)
-    (result : Result A E) → result ≡ Err fault → SendsCall places node shard call key op before after → SendsOrFails places node shard call key op before after result
-failed_sends_call places node shard call key op before after fault result is sends = subst (SendsOrFails places node shard call key op before after) (sym is) (inl sends)
+pub failed_sends_call : {A E : Type 0} (places : List NodeNames) (call : CallNo) (key : List ℕ) (op : Op) (old new : ReaderState) (before after : List (Actor × LinkEnd)) (fault : E)
+    (result : Result A E) → result ≡ Err fault → SendsCall places old.node old.number call key op old new before after
+    → SendsOrFails places old.node old.number call key op old new before after result
+failed_sends_call places call key op old new before after fault result is sends = subst (SendsOrFails places old.node old.number call key op old new before after) (sym is) (inl sends)
 
 -- ---- at a post
 module _ (places : List NodeNames) (key : List ℕ) (op : Op) (call : CallNo) (old : PostState) (i : ℕ) (before r : ReaderState) (is : i ≡ shard_of key) (short : i < 8)
@@ -41,32 +46,55 @@ module _ (places : List NodeNames) (key : List ℕ) (op : Op) (call : CallNo) (o
   below : i < length old.readers
   below = let long = readers.long in omega (arith, short, long)
 
+  stands : before ≡ slice_index_or old.readers i no_reader
+  stands = value ∙ get_or_default old.readers i before no_reader below
+
   of_shard : IsReaderOf old.node i before
-  of_shard = subst (IsReaderOf old.node i) (sym (value ∙ get_or_default old.readers i before no_reader below)) (readers.each i short)
+  of_shard = subst (IsReaderOf old.node i) (sym stands) (readers.each i short)
 
-  next : (new : PostState) → SendsCall places before.node before.number call key op old.outlets new.outlets → SendsNextCall places key op old new
-  next new s = subst (λ (n : CallNo). SendsCall places old.node (shard_of key) n key op old.outlets new.outlets) number
-      (subst (λ k. SendsCall places old.node k call key op old.outlets new.outlets) (of_shard.1 ∙ is)
-      (subst (λ (n : NodeId). SendsCall places n before.number call key op old.outlets new.outlets) of_shard.0 s))
+  old_reader : before ≡ reader_of key old
+  old_reader = subst (λ j. before ≡ slice_index_or old.readers j no_reader) is stands
 
-  at_reply : {E : Type 0} (new : PostState) (result : Result DeskReply E) → IfOk result (λ reply. Tells call key op before r reply)
-      → SendsOrFails places before.node before.number call key op old.outlets new.outlets result → Sends places key op old new result
-  at_reply new (Ok (Told answer)) t s = next new s
-  at_reply new (Ok (Unknown turns)) t s = next new s
-  at_reply new (Ok (Spent asks)) t s = absurd t
-  at_reply new (Err e) t (inl s) = inl (next new s)
-  at_reply new (Err e) t (inr same) = inr same
+  new_reader : (new : PostState) → new.readers ≡ slice_set old.readers i r → r ≡ reader_of key new
+  new_reader new made = subst (λ j. r ≡ slice_index_or new.readers j no_reader) is
+      (subst (λ l. r ≡ slice_index_or l i no_reader) (sym made) (sym (get_or-set_same old.readers i r no_reader below)))
 
-  pub sends_at_post : {E : Type 0} (now new : PostState) (result : Result DeskReply E) → old ≡ now → IfOk result (λ reply. Tells call key op before r reply)
-      → SendsOrFails places before.node before.number call key op old.outlets new.outlets result → Sends places key op now new result
-  sends_at_post now new result same tells sends = subst (λ (p : PostState). Sends places key op p new result) same (at_reply new result tells sends)
+  next : (new : PostState) → new.readers ≡ slice_set old.readers i r → SendsCall places before.node before.number call key op before r old.outlets new.outlets → SendsNextCall places key op old new
+  next new made s = subst (λ (x : ReaderState). SendsCall places old.node (shard_of key) (call_number old.number (old.asks + 1)) key op (reader_of key old) x old.outlets new.outlets) (new_reader new made)
+      (subst (λ (x : ReaderState). SendsCall places old.node (shard_of key) (call_number old.number (old.asks + 1)) key op x r old.outlets new.outlets) old_reader
+      (subst (λ (n : CallNo). SendsCall places old.node (shard_of key) n key op before r old.outlets new.outlets) number
+      (subst (λ k. SendsCall places old.node k call key op before r old.outlets new.outlets) (of_shard.1 ∙ is)
+      (subst (λ (n : NodeId). SendsCall places n before.number call key op before r old.outlets new.outlets) of_shard.0 s))))
+
+  at_reply : {E : Type 0} (new : PostState) (result : Result DeskReply E) → new.readers ≡ slice_set old.readers i r → IfOk result (λ reply. Tells call key op before r reply)
+      → SendsOrFails places before.node before.number call key op before r old.outlets new.outlets result → Sends places key op old new result
+  at_reply new (Ok (Told answer)) made t s = next new made s
+  at_reply new (Ok (Unknown turns)) made t s = next new made s
+  at_reply new (Ok (Spent asks)) made t s = absurd t
+  at_reply new (Err e) made t (inl s) = inl (next new made s)
+  at_reply new (Err e) made t (inr same) = inr same
+
+  pub sends_at_post : {E : Type 0} (now new : PostState) (result : Result DeskReply E) → old ≡ now → new.readers ≡ slice_set old.readers i r → IfOk result (λ reply. Tells call key op before r reply)
+      → SendsOrFails places before.node before.number call key op before r old.outlets new.outlets result → Sends places key op now new result
+  sends_at_post now new result same made tells sends = subst (λ (p : PostState). Sends places key op p new result) same (at_reply new result made tells sends)
 
 -- ---- by a clock
 module _ (places : List NodeNames) (key : List ℕ) (op : Op) (old mid new : PostState) (l : HasLooked key old mid) where
+  from_first : (shard : ℕ) (call : CallNo) → SendsCall places old.node shard call key op (reader_of key mid) (reader_of key new) old.outlets new.outlets
+      → SendsCall places old.node shard call key op (reader_of key old) (reader_of key new) old.outlets new.outlets
+  from_first shard call s = record {
+    letters = s.letters;
+    mid = s.mid;
+    called = called_earlier places old.node shard call key op s.letters (reader_of key old) (reader_of key mid) s.mid l.grown s.called;
+    later = s.later;
+    sent = s.sent;
+  }
+
   earlier : SendsNextCall places key op mid new → SendsNextCall places key op old new
-  earlier s = subst (λ (o : List (Actor × LinkEnd)). SendsCall places old.node (shard_of key) (call_number old.number (old.asks + 1)) key op o new.outlets) l.outlets
-      (subst (λ (n : CallNo). SendsCall places old.node (shard_of key) n key op mid.outlets new.outlets) (number_earlier key old mid l)
-      (subst (λ (n : NodeId). SendsCall places n (shard_of key) (call_number mid.number (mid.asks + 1)) key op mid.outlets new.outlets) l.node s))
+  earlier s = from_first (shard_of key) (call_number old.number (old.asks + 1))
+      (subst (λ (o : List (Actor × LinkEnd)). SendsCall places old.node (shard_of key) (call_number old.number (old.asks + 1)) key op (reader_of key mid) (reader_of key new) o new.outlets) l.outlets
+      (subst (λ (n : CallNo). SendsCall places old.node (shard_of key) n key op (reader_of key mid) (reader_of key new) mid.outlets new.outlets) (number_earlier key old mid l)
+      (subst (λ (n : NodeId). SendsCall places n (shard_of key) (call_number mid.number (mid.asks + 1)) key op (reader_of key mid) (reader_of key new) mid.outlets new.outlets) l.node s)))
 
   pub sends_by_clock : {E : Type 0} (result : Result DeskReply E) → Sends places key op mid new result → SendsByClock places key op old new result
   sends_by_clock (Ok (Told answer)) s = inl (earlier s)

@@ -1,5 +1,6 @@
 pub mod Asking
 pub mod Founding
+pub mod Moments
 pub mod Reading
 pub mod Sending
 pub mod Turns

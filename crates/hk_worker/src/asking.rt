@@ -3,10 +3,10 @@
 ghost use Rattle.std.specs.Prelude.{◌≡◌, ◌<◌, ℕ, None, IfOk, OnErr};
 ghost use Rattle.std.specs.List.{AllByRecursion};
 ghost use Rattle.hk_base.specs.Range.{IsLetter};
-ghost use Rattle.hk_node.specs.declared.event.NodeEvent.TheVariants.{Call};
 ghost use Rattle.hk_outside.specs.Desk.{Suits};
-ghost use Rattle.hk_locked.specs.Moments.{WasApplied};
+ghost use Rattle.hk_locked.specs.Makes.{CallsAt};
 ghost use Rattle.hk_locked.specs.Steps.{IsGrown, IsLeft, StartsAt, LooksFor};
+ghost use Rattle.hk_worker.specs.Moments.{WasCalled};
 ghost use Rattle.hk_worker.specs.Asking.{LooksOften, Tells};
 ghost use Rattle.hk_worker.specs.Sending.{SendsOrFails};
 
@@ -119,7 +119,7 @@ fn start<F: Completion + Copy + Drop, P: Places, R: Wait>(
 ) -> Result<Started, Memory>
     requires { held.old.shard.last < ticket }
     ensures starts { IfOk result (λ started. StartsAt reader.old reader.new call key.now started.ticket op.now started.answer) }
-    ensures applied { IfOk result (λ started. WasApplied P.places reader.old.node reader.old.number (Call call key.now op.now) started.letters) }
+    ensures made { IfOk result (λ started. CallsAt P.places held.old held.new reader.old reader.new started.ticket call key.now op.now started.letters started.answer) }
     ensures letters { IfOk result (λ started. AllByRecursion IsLetter started.letters) }
     ensures grown { IsGrown key.now reader.old reader.new }
     ensures left { OnErr result (IsLeft call held.new) }
@@ -132,8 +132,7 @@ fn start<F: Completion + Copy + Drop, P: Places, R: Wait>(
 }
 
 // One look at the ask. Where no memory was found, nobody waits for what it is told.
-fn look<F: Completion + Copy + Drop, P: Places, R: Wait>(
-    rt: &R,
+fn look<F: Completion + Copy + Drop, P: Places>(
     held: &mut LockedShard<F, P>,
     reader: &mut ShardReader<P>,
     key: &Key,
@@ -144,7 +143,7 @@ fn look<F: Completion + Copy + Drop, P: Places, R: Wait>(
     ensures grown { IsGrown key.now reader.old reader.new }
     ensures left { OnErr result (IsLeft call held.new) }
 {
-    let Ok(look) = held.look(rt, reader, key, call, ticket) else {
+    let Ok(look) = held.look(reader, key, call, ticket) else {
         held.give_up(call);
         return Err(Memory);
     };
@@ -163,7 +162,7 @@ fn begin<F: Completion + Copy + Drop, P: Places, R: Wait>(
     tell: F,
 ) -> Result<Started, Memory>
     ensures starts { IfOk result (λ started. StartsAt reader.old reader.new call key.now started.ticket op.now started.answer) }
-    ensures applied { IfOk result (λ started. WasApplied P.places reader.old.node reader.old.number (Call call key.now op.now) started.letters) }
+    ensures called { IfOk result (λ started. WasCalled P.places reader.old.node reader.old.number call key.now op.now started.letters reader.old reader.new) }
     ensures letters { IfOk result (λ started. AllByRecursion IsLetter started.letters) }
     ensures grown { IsGrown key.now reader.old reader.new }
 {
@@ -185,7 +184,7 @@ fn turn<F: Completion + Copy + Drop, P: Places, R: Wait>(
     ensures grown { IsGrown key.now reader.old reader.new }
 {
     let mut held = shards.lock_of(reader.number()).lock(rt);
-    look(rt, &mut *held, reader, key, call, ticket)
+    look(&mut *held, reader, key, call, ticket)
 }
 
 // Looks until the ask of the call was told something, 100,000 times at most.
@@ -238,7 +237,7 @@ pub(crate) fn ask<F: Completion + Copy + Drop, P: Places, R: Wait>(
     requires { reader.old.number < 8 }
     ensures tells { IfOk result (λ reply. Tells call key.now op.now reader.old reader.new reply) }
     ensures suits { Suits op.now result }
-    ensures sent { SendsOrFails P.places reader.old.node reader.old.number call key.now op.now outlets.old.items outlets.new.items result }
+    ensures sent { SendsOrFails P.places reader.old.node reader.old.number call key.now op.now reader.old reader.new outlets.old.items outlets.new.items result }
     ensures grown { IsGrown key.now reader.old reader.new }
 {
     let shard = reader.number();

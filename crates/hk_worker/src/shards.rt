@@ -12,9 +12,9 @@ ghost use Rattle.hk_node.specs.Laws.{IsNoCall};
 ghost use Rattle.hk_node.specs.Made.{founder};
 ghost use Rattle.hk_shard.specs.Shard.{IsNew};
 ghost use Rattle.hk_locked.specs.Places.{node_names};
-ghost use Rattle.hk_locked.specs.Moments.{WasApplied, WasDue, WasJournal, WasQuiet};
 ghost use Rattle.hk_locked.specs.Steps.{Ticks, is_short};
 ghost use Rattle.hk_worker.specs.Founding.{IsFoundedShard, IsShardNamed, names_of};
+ghost use Rattle.hk_worker.specs.Moments.{WasApplied, WasDue, WasJournal, WasQuiet};
 ghost use Rattle.hk_worker.specs.Working.{WereQuietBelow};
 
 use crate::eight::Eight;
@@ -265,7 +265,8 @@ impl<F: Completion + Copy + Drop, P: Places> Shards<F, P> {
         requires { shard < 8 }
         ensures { result ≡ false → WasQuiet P.places self.now.node shard }
     {
-        let held = self.lock_of(shard).lock(rt);
+        let guard = self.lock_of(shard).lock(rt);
+        let held = &*guard;
         if !held.is_of(self.node, shard) {
             return true;
         }

@@ -1,9 +1,9 @@
 use Rattle.std.proofs.Common.{ℕ, ◌∙◌, sym, subst}
-use Rattle.hk_node.specs.declared.event.NodeEvent.TheVariants.{Call}
 use Rattle.hk_locked.specs.Locked.{LockedState}
 use Rattle.hk_locked.specs.Steps.{MeetsLease, Begins, StartsAt}
+use Rattle.hk_locked.specs.Makes.{Stands, MakesCall, CallsAt}
 use Rattle.hk_locked.proofs.Reading.{started, grown_met, grown_lease, grown_on}
-use Rattle.hk_locked.proofs.Moments.{applied_there}
+use Rattle.hk_locked.proofs.Making.{calls_at}
 use Rattle.hk_locked.proofs.locked.LockedShard.start.Goals as goal
 
 pub returns-clause-starts : goal.returns-clause-starts
@@ -23,7 +23,17 @@ returns-clause-grown g c =
     (grown_lease c.meet.new.self c.args.key.now c.meet.new.reader c.meet_lease.new.reader c.in_ok-meet_lease.ensures.met))
     (grown_met c.begin.new.self c.args.key.now c.meet_lease.new.reader c.meet-2.new.reader c.in_ok-meet-2.ensures.met)
 
-pub returns-clause-applied : goal.returns-clause-applied
-returns-clause-applied g c =
-    applied_there g.P.Places.places c.meet_lease.new.self c.args.self.now c.args.reader.now.node c.args.reader.now.number (Call c.args.call c.args.key.now c.args.op.now) c.in_ok-started.started.letters
-    (c.meet_lease.ensures.same ∙ c.meet.ensures.same) c.in_ok-meet.ensures.met.node c.in_ok-meet.ensures.met.number c.in_ok-started.ensures.applied
+pub returns-clause-made : goal.returns-clause-made
+returns-clause-made g c =
+    let same = c.meet_lease.ensures.same ∙ c.meet.ensures.same in
+    subst (λ (n : ℕ). CallsAt g.P.Places.places c.args.self.now c.meet-2.new.self c.args.reader.now c.meet-2.new.reader n c.args.call c.args.key.now c.args.op.now c.in_ok-started.started.letters c.in_ok-started.started.answer)
+    (sym c.in_ok-started.ensures.ticket)
+    (subst (λ (t : LockedState). CallsAt g.P.Places.places c.args.self.now t c.args.reader.now c.meet-2.new.reader c.args.ticket c.args.call c.args.key.now c.args.op.now c.in_ok-started.started.letters c.in_ok-started.started.answer)
+    (sym c.meet-2.ensures.same)
+    (calls_at g.P.Places.places c.args.self.now c.begin.new.self c.args.reader.now c.meet.new.reader c.meet_lease.new.reader c.meet-2.new.reader c.args.ticket c.args.call c.args.key.now c.args.op.now
+    c.in_ok-started.started.letters c.in_ok-started.started.answer
+    (subst (Stands g.P.Places.places) same c.in_ok-started.ensures.stood) c.in_ok-started.ensures.stands
+    (subst (λ (s : LockedState). MakesCall c.args.ticket c.args.call c.args.key.now c.args.op.now c.in_ok-started.started.letters c.in_ok-started.started.answer s c.begin.new.self) same c.in_ok-started.ensures.made)
+    c.in_ok-meet.ensures.met
+    (subst (λ (s : LockedState). MeetsLease s c.meet.new.reader c.meet_lease.new.reader) c.meet.ensures.same c.in_ok-meet_lease.ensures.met)
+    c.in_ok-meet-2.ensures.met))

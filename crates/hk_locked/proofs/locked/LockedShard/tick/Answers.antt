@@ -1,7 +1,7 @@
 use Rattle.std.proofs.Common.{ap, sym, ◌∙◌}
 use Rattle.hk_locked.specs.Locked.{ReaderState}
 use Rattle.hk_locked.specs.Steps.{is_short}
-use Rattle.hk_locked.proofs.Moments.{short_met}
+use Rattle.hk_locked.proofs.Making.{short_met}
 use Rattle.hk_locked.proofs.locked.LockedShard.tick.Goals as goal
 
 pub returns-clause-short : goal.returns-clause-short

@@ -9,7 +9,7 @@ pub invariant_of-self : goal.invariant_of-self
 invariant_of-self g c =
     let loads = c.read_local.ensures.row in (
       record {
-        cells = met_names c.self.inside.cells c.read_local.new.reader (cell_of c.args.key.now) loads.0 loads.2 ∙ c.self.invariant.0.cells;
+        cells = met_names c.self.inside.cells c.read_local.new.reader (cell_of c.args.key.now) loads.0 (ap (λ (r : Reader). r.ends) loads.2) ∙ c.self.invariant.0.cells;
         long = ap (λ (r : Reader). length r.ends) loads.2 ∙ (length-set c.self.inside.cells.ends (cell_of c.args.key.now) _ ∙ c.self.invariant.0.long);
         lease = c.read_local.ensures.lease.name ∙ c.self.invariant.0.lease;
         skew = c.self.invariant.0.skew;
