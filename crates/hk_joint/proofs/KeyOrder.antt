@@ -23,7 +23,7 @@ use Rattle.hk_safety.proofs.Places.{no_later}
 use Rattle.hk_joint.proofs.Lists.{of_map, of_filter, flat_same, filter_flat, filter_all, filter_none, Rising, gathered}
 use Rattle.hk_joint.proofs.Earlier.{look_of, look_replies, reached_with, change_change, change_look, look_change, look_look}
 use Rattle.hk_joint.proofs.Chain.{Views, kept_parts, IsMomentOf, moments_of_run}
-use Rattle.hk_joint.proofs.Firsts.{first_within}
+use Rattle.hk_safety.proofs.Firsts.{first_within}
 use Rattle.hk_joint.proofs.Keys.{only, only_none, only_once, named_in_order, in_or_not, unnamed_nothing}
 
 below_stamp : (a b : Slot) → Below a b → a.stamp ≤ b.stamp

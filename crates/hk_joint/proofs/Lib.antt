@@ -2,7 +2,6 @@ pub mod Lists
 pub mod Served
 pub mod Earlier
 pub mod Chain
-pub mod Firsts
 pub mod Keys
 pub mod KeyOrder
 pub mod AllKeys

@@ -28,7 +28,8 @@ use Rattle.hk_joint.specs.Joint.{Standing, slots, event_of, standing, standings,
 use Rattle.hk_joint.specs.Legal.{joint_history}
 use Rattle.hk_joint.proofs.AllKeys.{call_no, is_on, IsOn, on_line, history_on, same_answer}
 use Rattle.hk_joint.proofs.Chain.{Views, kept_parts, IsMomentOf, moments_of_run}
-use Rattle.hk_joint.proofs.Firsts.{at_moment, traces_len}
+use Rattle.hk_safety.proofs.Events.{traces_len}
+use Rattle.hk_safety.proofs.Firsts.{at_moment}
 use Rattle.hk_joint.proofs.Fitting.{stands_on}
 use Rattle.hk_joint.proofs.KeyOrder.{is_change, is_other}
 use Rattle.hk_joint.proofs.Lists.{in_filter, of_filter, of_flat, of_map, Rising, rising_parts, stands_first}

@@ -1,4 +1,4 @@
-//! The tests of what a group is made of: keys and letters, rows, batches, clocks, nodes, worlds and their scripts.
+//! The tests of what a group is made of: keys and letters, rows, batches, clocks, nodes, worlds, their runs and scripts.
 #![tactic(auto)]
 
 #[cfg(test)]
@@ -11,6 +11,8 @@ mod copy;
 mod key;
 #[cfg(test)]
 mod node;
+#[cfg(test)]
+mod run;
 #[cfg(test)]
 mod script;
 #[cfg(test)]

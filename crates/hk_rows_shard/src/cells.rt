@@ -4,6 +4,7 @@ ghost use Rattle.std.specs.Prelude.{◌≡◌, [], ◌∷◌, None};
 ghost use Rattle.hk_node.specs.Sound.{IsEvent};
 
 use hk_base::{CallNo, Content, Data, Key, Members, NodeId, Op, Stamp, State, View, Why};
+use hk_joint_reads::{Joint, read_joint};
 use hk_node::{Node, NodeEvent};
 use hk_outside::{Clock, HandClock};
 use hk_shard::{Shard, shard_of};
@@ -324,4 +325,54 @@ fn the_lease_is_loaded_before_the_clock_is_read(rt: HostRuntime) {
     let (first, second) = read_twice(rt, alloc, &mut opened.reader, &k);
     assert!(rt; is_busy(&first, 100, 200));
     assert!(rt; is_found(&second, 7, b"hello", 131_072, 1));
+}
+
+// The keys `k` and `s`, each written once.
+fn two_keys<R: Wait + Abort>(rt: &R, alloc: Global, shard: &mut Shard) -> Vec<Key> {
+    let mut keys = Vec::new(alloc);
+    keys.push(key(rt, alloc, b"k")).expect(rt, "memory");
+    keys.push(key(rt, alloc, b"s")).expect(rt, "memory");
+    write(rt, alloc, shard, 1, &keys[0], 7, b"hello");
+    write(rt, alloc, shard, 2, &keys[1], 0, b"x");
+    keys
+}
+
+// What is told of the keys together, as `read_twice` has it of one.
+fn read_both_twice<R: Wait + Copy + Abort>(
+    rt: R,
+    alloc: Global,
+    reader: &mut SnapReader,
+    keys: &[Key],
+) -> (Joint, Joint) {
+    let (keeper, mut lease) = lease_cell(&rt, alloc, 100, 1).expect(&rt, "memory");
+    let clock = RaisingClock {
+        rt,
+        keeper: Mutex::new(keeper),
+    };
+    let first = read_joint(&rt, alloc, reader, &mut lease, &clock, 0, keys).expect(&rt, "memory");
+    let second = read_joint(&rt, alloc, reader, &mut lease, &clock, 0, keys).expect(&rt, "memory");
+    (first, second)
+}
+
+// Whether the lease that ended at 100 is over at 200.
+fn is_lease_past(joint: &Joint) -> bool {
+    matches!(joint, Joint::Busy(Why::Lease { end: 100, now: 200 }))
+}
+
+// Whether this many keys are found together.
+fn are_found(joint: &Joint, count: usize) -> bool {
+    match joint {
+        Joint::Found(snapshots) => snapshots.len() == count,
+        _ => false,
+    }
+}
+
+#[test]
+fn the_lease_is_loaded_before_the_clock_is_read_for_several_keys(rt: HostRuntime) {
+    let alloc = rt.alloc();
+    let mut opened = open(&rt, alloc);
+    let keys = two_keys(&rt, alloc, &mut opened.shard);
+    let (first, second) = read_both_twice(rt, alloc, &mut opened.reader, keys.as_slice());
+    assert!(rt; is_lease_past(&first));
+    assert!(rt; are_found(&second, 2));
 }

@@ -1,5 +1,5 @@
 -- What is asked of a run is what is kept of the key.
-use Rattle.std.proofs.Common.{◌≡◌, ℕ, ◌+◌, length, List, [], ◌∷◌, ◌++◌, map, ◌∙◌, sym, ap, subst, Option, Some, None, unwrap_or, Result, Ok, Err, IfOk}
+use Rattle.std.proofs.Common.{◌≡◌, ℕ, Bool, true, false, cond, eqb, ◌+◌, ◌^◌, ◌≤◌, refl, length, List, [], ◌∷◌, ◌++◌, map, ◌∙◌, sym, ap, subst, Option, Some, None, unwrap_or, Result, Ok, Err, IfOk, IfSome}
 use Rattle.std.specs.List.Sorted.{IsStrictlySortedBy}
 use Rattle.std.specs.Ordering.{nat_cmp}
 use Rattle.std.specs.Map.{keys_of}
@@ -11,8 +11,10 @@ use Rattle.hk_world.proofs.Viewed.{sorted_nil}
 use Rattle.hk_effects.specs.Runs.{RunsKeepParts}
 use Rattle.hk_safety.specs.Run.{RunState, IsRun, trace_of, history, printed}
 use Rattle.hk_safety.specs.Kept.{KeyState, KeptState, IsKeyOf, IsKeptOf, HasEvents, first_key, find_key, kept_order}
-use Rattle.hk_safety.specs.Placed.{entry_placed, placed, kept_placed, at_moments}
+use Rattle.hk_safety.specs.Moment.{moment_of}
+use Rattle.hk_safety.specs.Placed.{entry_placed, placed, kept_placed, at_moments, kept_moment}
 use Rattle.hk_safety.proofs.Moments.{placed_whole}
+use Rattle.hk_safety.proofs.Stamped.{told_past, told_kept}
 use Rattle.hk_safety.specs.declared.kept.Unmade.{Unmade}
 use Rattle.hk_safety.specs.Noted.{IsMadeBy}
 use Rattle.hk_safety.proofs.Pushed.{made_pushed}
@@ -56,6 +58,26 @@ module _ (k : KeptState) (run : RunState) (kept : IsKeptOf k run) (key : List �
 
   pub placed_unfound : find_key key k.keys ≡ None → [] ≡ placed run key
   placed_unfound none = ap (map (entry_placed run key)) (order_unfound k run kept key runs ok none)
+
+module _ (k : KeptState) (run : RunState) (kept : IsKeptOf k run) (key : List ℕ) (runs : RunsKeepParts) (ok : IsRun run) (s : ℕ) where
+  -- the moment of a stamp
+  pub moment_found : (state : KeyState) → find_key key k.keys ≡ Some state → (told : Option ℕ) → told ≡ kept_moment s state → IfSome told (λ event. IsStrictlySortedBy nat_cmp (keys_of state.stamps)) →
+      told ≡ moment_of run key s
+  moment_found state found told same ordered =
+      let had : HasEvents run key state = subst (λ (o : Option KeyState). HasEvents run key (unwrap_or o first_key)) found (kept.events key) in
+      told_kept run key (run_kept runs key run ok) state (found_is k run kept key state found) had s told same ordered
+
+  pub moment_unfound : find_key key k.keys ≡ None → None ≡ moment_of run key s
+  moment_unfound none =
+      let had : HasEvents run key first_key = subst (λ (o : Option KeyState). HasEvents run key (unwrap_or o first_key)) none (kept.events key) in
+      told_kept run key (run_kept runs key run ok) first_key (unfound_is k run kept key none) had s None (nothing (eqb s 0)) tt
+    where
+      nothing : (b : Bool) → ◌≡◌ {A = Option ℕ} None (cond b None None)
+      nothing true = refl
+      nothing false = refl
+
+  pub moment_past : 2 ^ 64 ≤ s → None ≡ moment_of run key s
+  moment_past l = told_past run key (run_kept runs key run ok) s l
 
 -- ---- an event that is made
 pub made_then : RunsKeepParts → (n : ℕ) (old new : KeptState) (h : Header) (es es' : List Event) (event : Event) (r : Result Shown Unmade) (shown : Shown) → r ≡ Ok shown → n ≡ length es + 1 →

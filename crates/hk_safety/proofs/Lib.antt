@@ -14,6 +14,8 @@ pub mod Replied
 pub mod Events
 pub mod Moments
 pub mod Forward
+pub mod Firsts
+pub mod Stamped
 pub mod Pushed
 pub mod Asked
 pub mod Puts

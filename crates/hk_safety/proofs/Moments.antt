@@ -1,14 +1,13 @@
 -- What is kept of a key gives the events at which the entries of its printed order stand.
 use Rattle.std.proofs.Common.{◌≡◌, ◌⊎◌, ℕ, zero, suc, Bool, true, false, cond, ◌+◌, ◌≤◌, ◌<◌, ◌&&◌, List, [], ◌∷◌, ◌++◌, append_assoc, map, length, flat_map, ◌∙◌, sym, refl, ap, ap₂, subst, inl, inr, ⊎_elim, arith, eqb, Option, Some, None, is_some, unwrap_or, ◌-◌}
 use Rattle.std.specs.Prelude.{nat_le, min}
-use Rattle.std.specs.List.{find, list_any, position_or_len}
+use Rattle.std.specs.List.{find, position_or_len}
 use Rattle.std.specs.Option.{option_map}
-use Rattle.std.proofs.lemmas.Bool.{false≢true, eqb-true, eq-eqb, leb-true, and_parts, and_from, false_from_ne_true}
+use Rattle.std.proofs.lemmas.Bool.{false≢true, eq-eqb, leb-true, leb-false, le-leb, and_parts, and_from, false_from_ne_true}
 use Rattle.std.proofs.lemmas.List.{map-append}
 use Rattle.hk_base.specs.declared.call.CallNo.{CallNo}
 use Rattle.hk_history.specs.declared.event.Entry.{Entry}
-use Rattle.hk_register.specs.Machine.{In, Update, State}
-use Rattle.hk_register.specs.Facts.{Complete}
+use Rattle.hk_register.specs.Machine.{In, Update}
 use Rattle.hk_register.specs.Parts.{Parts}
 use Rattle.hk_register.specs.Printed.{is_complete}
 use Rattle.hk_register.proofs.Orders.{the_update}
@@ -27,7 +26,7 @@ use Rattle.hk_safety.specs.Run.{RunState, trace_of}
 use Rattle.hk_safety.specs.Moment.{traces, is_reached, moment, is_completed, completed_at, replied_at}
 use Rattle.hk_safety.specs.Kept.{KeyState, IsKnown, IsKeyOf, HasEvents, IsSince, no_stamp, at_stamp, call_of, update_at, update_entry, look_entry, entries_at, kept_order}
 use Rattle.hk_safety.specs.Kept.{is_complete as is_done}
-use Rattle.hk_safety.specs.Placed.{entry_placed, change_placed, look_placed, placed_at, kept_placed, least_of, at_moments}
+use Rattle.hk_safety.specs.Placed.{entry_placed, change_placed, look_placed, placed_at, kept_placed, least_of, at_moments, earlier, earliest, stamps_from}
 use Rattle.hk_safety.proofs.Completions.{moments_follow}
 use Rattle.hk_safety.proofs.Events.{moments_are}
 use Rattle.hk_safety.proofs.KeptOrder.{Kept, Ordered, above_head, ordered_rest, found_at, stands_or_nothing, some_stamp}
@@ -274,10 +273,71 @@ module _ (run : RunState) (key : List ℕ) (k : KeyState) (trace : IsKept key (t
       ap (at_moments end) (row_unchanged p rows u) ∙ rest ∙ sym (ap (map (entry_placed run key)) entries))
       (row_is p here)
 
-  pub placed_whole : at_moments end (kept_placed k) ≡ map (entry_placed run key) (kept_order k)
-  placed_whole = placed_from 0 k.stamps (record {
+  all_rows : AreFrom 0 k.stamps
+  all_rows = record {
     rising = ordered;
     not_below = λ p h. omega arith;
     kept = λ p h. ap (λ (o : Option AtStamp). unwrap_or o no_stamp) (found_at k.stamps ordered p h);
     others = λ s l. stands_or_nothing k s;
-  })
+  }
+
+  pub placed_whole : at_moments end (kept_placed k) ≡ map (entry_placed run key) (kept_order k)
+  placed_whole = placed_from 0 k.stamps all_rows
+
+  -- ---- one stamp
+  -- the earliest completion from a stamp on is the moment of that stamp, where it comes before the event
+  earliest_is : (b : ℕ) (rows : List Kept) → AreFrom b rows → 1 ≤ b → (m : ℕ) → m ≤ end → earliest m rows ≡ min m (moment run key b)
+  earliest_is b [] from some m l =
+      let never : moment run key b ≡ end + 1 = none_behind b some (λ s up. ⊎_elim (λ (none : In {X = Kept} [] (s, at_stamp s k)). absurd none) (λ (e : at_stamp s k ≡ no_stamp). e) (from.others s up)) in
+      omega (arith, l, never)
+  earliest_is b (p ∷ rows) from some m l =
+      let low = from.not_below p (inl refl) in
+      by_evidence p.1.evidence (subst (λ (a : AtStamp). IsSince run key p.0 a.evidence) (from.kept p (inl refl)) (had.since p.0 (omega (arith, some, low))))
+      (earliest_is (p.0 + 1) rows (rest_from b p rows from) (omega arith))
+    where
+      by_evidence : (ev : Evidence) → IsSince run key p.0 ev → ((n : ℕ) → n ≤ end → earliest n rows ≡ min n (moment run key (p.0 + 1))) →
+          earliest (earlier m ev) rows ≡ min m (moment run key b)
+      by_evidence (E.Complete event) since rest =
+          let at = gap b p rows from some in
+          let follows = moments_follow run key p.0 in
+          let more = rest (min m event) (omega (arith, l)) in
+          let done = since.0 in
+          omega (arith, more, at, follows, done)
+      by_evidence (Covers groups) since rest =
+          let at = gap b p rows from some in
+          let follows = moments_follow run key p.0 in
+          let more = rest m l in
+          let within = moment_within (p.0 + 1) in
+          omega (arith, more, at, follows, since, within)
+
+  none_below : (s : ℕ) (rows : List Kept) → ((p : Kept) → In rows p → s ≤ p.0) → stamps_from s rows ≡ rows
+  none_below s [] up = refl
+  none_below s (p ∷ rows) up = rw (le-leb s p.0 (up p (inl refl))) (ap (λ (rows : List Kept). p ∷ rows) (none_below s rows (λ q h. up q (inr h))))
+
+  from_stamp : (b : ℕ) (rows : List Kept) → AreFrom b rows → (s : ℕ) → b ≤ s → AreFrom s (stamps_from s rows)
+  from_stamp b [] from s l = record {
+    rising = from.rising;
+    not_below = λ p h. absurd h;
+    kept = λ p h. absurd h;
+    others = λ r up. from.others r (omega (arith, l, up));
+  }
+  from_stamp b (p ∷ rows) from s l = by_test (nat_le s p.0) refl (from_stamp (p.0 + 1) rows (rest_from b p rows from) s)
+    where
+      by_test : (t : Bool) → nat_le s p.0 ≡ t → (p.0 + 1 ≤ s → AreFrom s (stamps_from s rows)) → AreFrom s (cond t (p ∷ stamps_from s rows) (stamps_from s rows))
+      by_test false e more = let less = leb-false s p.0 e in more (omega (arith, less))
+      by_test true e more =
+          let here = leb-true s p.0 e in
+          let above = above_head p rows from.rising in
+          let up : (q : Kept) → In rows q → s ≤ q.0 = λ q h. let less = above q h in omega (arith, here, less) in
+          subst (λ (rest : List Kept). AreFrom s (p ∷ rest)) (sym (none_below s rows up)) (record {
+            rising = from.rising;
+            not_below = λ q h. ⊎_elim (λ (is : q ≡ p). let same = ap (λ (q : Kept). q.0) is in omega (arith, here, same)) (up q) h;
+            kept = from.kept;
+            others = λ r k. from.others r (omega (arith, l, k));
+          })
+
+  pub earliest_whole : (s : ℕ) → 1 ≤ s → (event : ℕ) → completed_at run key s ≡ event → event ≤ end → earliest event (stamps_from s k.stamps) ≡ moment run key s
+  earliest_whole s some event at within =
+      let is = earliest_is s (stamps_from s k.stamps) (from_stamp 0 k.stamps all_rows s (omega arith)) some event within in
+      let follows = moments_follow run key s in
+      omega (arith, is, follows, at)

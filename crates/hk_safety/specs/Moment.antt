@@ -1,5 +1,5 @@
 -- The moments of a run, and which of them is that of a stamp.
-use Rattle.std.specs.Prelude.{◌≡◌, ℕ, ◌≤◌, ◌<◌, List, [], ◌∷◌, ◌&&◌, Bool, take, length, nat_le, ◌+◌, ◌==◌, min}
+use Rattle.std.specs.Prelude.{◌≡◌, ℕ, ◌≤◌, ◌<◌, List, [], ◌∷◌, ◌&&◌, Bool, take, length, nat_le, ◌+◌, ◌==◌, min, Option, None, Some, if◌then◌else◌}
 use Rattle.std.specs.List.{list_any, position_or_len}
 use Rattle.hk_history.specs.History.{is_reply}
 use Rattle.hk_register.specs.Machine.{In, Update}
@@ -68,3 +68,17 @@ completed_at run key s = position_or_len (is_completed key s) (traces run key)
 -- A stamp's moment is that of the next stamp, unless its own update is complete before.
 abbrev pub MomentsFollowCompletions : Type 0
 MomentsFollowCompletions = (run : RunState) (key : List ℕ) (s : ℕ) → moment run key s ≡ min (completed_at run key s) (moment run key (s + 1))
+
+-- ---- what is told of a stamp
+-- Its moment where the update of this very stamp is complete; else none.
+abbrev pub moment_of : RunState → List ℕ → ℕ → Option ℕ
+moment_of run key s = if is_completed key s (trace_of key run) then Some (moment run key s) else None
+
+-- an update of just this stamp is complete
+abbrev pub IsCompleted : List ℕ → ℕ → Trace → Type 0
+IsCompleted key s t = (u : Update) × (u.stamp ≡ s) × IsComplete key t u
+
+-- None exactly where the update of the stamp is not complete; any number is the stamp's moment.
+abbrev pub IsToldOf : RunState → List ℕ → ℕ → Option ℕ → Type 0
+IsToldOf run key s None = IsCompleted key s (trace_of key run) → ⊥
+IsToldOf run key s (Some n) = IsCompleted key s (trace_of key run) × IsMoment run key s n

@@ -1,6 +1,7 @@
 -- The order of a key with the events at which its entries stand.
-use Rattle.std.specs.Prelude.{◌≡◌, ℕ, List, [], ◌∷◌, ◌++◌, map, min, Option, None, Some, is_some, if◌then◌else◌}
-use Rattle.std.specs.List.{flat_map}
+use Rattle.std.specs.Prelude.{ℕ, List, [], ◌∷◌, ◌++◌, map, min, Option, None, Some, is_some, nat_le, ◌==◌, if◌then◌else◌}
+use Rattle.std.specs.List.{filter, flat_map}
+use Rattle.std.specs.Option.{option_map}
 use Rattle.hk_base.specs.declared.call.CallNo.{CallNo}
 use Rattle.hk_history.specs.declared.event.Entry.{Entry}
 use Rattle.hk_safety.specs.declared.evidence.Evidence.{Evidence}
@@ -11,7 +12,7 @@ use Rattle.hk_safety.specs.declared.key_run.Look.{Look}
 use Rattle.hk_safety.specs.declared.placed.Placed.{Placed}
 use Rattle.hk_safety.specs.Run.{RunState, printed}
 use Rattle.hk_safety.specs.Moment.{moment, replied_at}
-use Rattle.hk_safety.specs.Kept.{KeyState, look_entry}
+use Rattle.hk_safety.specs.Kept.{KeyState, at_stamp, look_entry}
 
 -- a change stands at the moment of its stamp, any other call at the event of its reply
 abbrev pub event_by : RunState → List ℕ → CallNo → Option ℕ → ℕ
@@ -50,3 +51,25 @@ least_of last (p ∷ placed) = if is_some p.entry.tag then min p.event (least_of
 abbrev pub at_moments : ℕ → List Placed → List Placed
 at_moments last [] = []
 at_moments last (p ∷ placed) = (if is_some p.entry.tag then record { event = min p.event (least_of last placed); entry = p.entry } else p) ∷ at_moments last placed
+
+-- ---- one stamp, by what is kept
+-- the event that completed the update
+abbrev pub completion : Evidence → Option ℕ
+completion (E.Complete event) = Some event
+completion (Covers groups) = None
+
+abbrev pub earlier : ℕ → Evidence → ℕ
+earlier event (E.Complete other) = min event other
+earlier event (Covers groups) = event
+
+-- the earliest of an event and of those that completed the updates of these stamps
+abbrev pub earliest : ℕ → List (ℕ × AtStamp) → ℕ
+earliest event [] = event
+earliest event (p ∷ stamps) = earliest (earlier event p.1.evidence) stamps
+
+abbrev pub stamps_from : ℕ → List (ℕ × AtStamp) → List (ℕ × AtStamp)
+stamps_from s stamps = filter (λ p. nat_le s p.0) stamps
+
+-- None for a stamp whose update is not complete, and for that of no update.
+abbrev pub kept_moment : ℕ → KeyState → Option ℕ
+kept_moment s k = if s == 0 then None else option_map (λ event. earliest event (stamps_from s k.stamps)) (completion (at_stamp s k).evidence)

@@ -9,7 +9,7 @@ use crate::laws::runs_are_legal;
 use crate::marked::Mark;
 use crate::past::Past;
 use crate::placed::PlacedEntries;
-use hk_base::{Key, Memory, Sequence};
+use hk_base::{Key, MAX_VERSION, Memory, Sequence, Stamp};
 use hk_effects::runs_keep_parts;
 use hk_history::Entries;
 use hk_world::{Event, Header, Shown, World, WorldFault};
@@ -62,7 +62,9 @@ impl LiveRun {
     ghost use Rattle.hk_world.specs.Sound.{IsHeader, IsEvent};
     ghost use Rattle.hk_safety.specs.Run.{IsRun, world_of, history, printed, named};
     ghost use Rattle.hk_safety.specs.Push.{IsPushed};
+    ghost use Rattle.hk_base.specs.Stamp.{tag_of};
     ghost use Rattle.hk_safety.specs.Placed.{placed};
+    ghost use Rattle.hk_safety.specs.Moment.{moment_of, IsToldOf};
 
     /// The run of no event.
     pub fn new(alloc: Global, header: Header) -> Result<LiveRun, Memory>
@@ -226,6 +228,24 @@ impl LiveRun {
         match kept.keys.get(key) {
             Some(key_run) => key_run.placed(alloc, last),
             None => Ok(PlacedEntries::new(alloc)),
+        }
+    }
+
+    /// The moment of a stamp of the key: the number of the first event after which an update of the key with a stamp of at least this one is complete. None
+    /// exactly where the update of this very stamp is not complete. It takes no memory.
+    pub fn moment(&self, key: &Key, stamp: Stamp) -> Result<Option<u64>, Memory>
+        ensures exact { IfOk result (λ told. told ≡ moment_of self.now key.now (tag_of stamp)) }
+        ensures meant { IfOk result (λ told. IsToldOf self.now key.now (tag_of stamp) told) }
+    {
+        runs_keep_parts();
+        let kept = self.kept()?;
+        // No update has a version past the last one.
+        if stamp.version > MAX_VERSION {
+            return Ok(None);
+        }
+        match kept.keys.get(key) {
+            Some(key_run) => Ok(key_run.moment(stamp.tag())),
+            None => Ok(None),
         }
     }
 }

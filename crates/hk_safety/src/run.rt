@@ -6,7 +6,7 @@ ghost use Rattle.std.specs.Option.{option_copied};
 use crate::again::again;
 use crate::laws::histories_are_histories;
 use crate::live::{Keys, LiveRun};
-use hk_base::{Key, Memory};
+use hk_base::{Key, Memory, Stamp};
 use hk_history::Items;
 use hk_world::{Event, Header, Shown, World, WorldFault};
 use std::alloc::Global;
@@ -36,6 +36,8 @@ impl Run {
     ghost use Rattle.hk_world.specs.Sound.{IsHeader, IsEvent};
     ghost use Rattle.hk_safety.specs.Run.{RunState, IsRun, world_of, history, named};
     ghost use Rattle.hk_safety.specs.Push.{IsPushed};
+    ghost use Rattle.hk_base.specs.Stamp.{tag_of};
+    ghost use Rattle.hk_safety.specs.Moment.{moment_of, IsToldOf};
 
     /// The run of no event.
     pub fn new(alloc: Global, header: Header) -> Result<Run, Memory>
@@ -118,5 +120,14 @@ impl Run {
         histories_are_histories();
         self.live.sound();
         again(alloc, *self.live.header(), self.events.as_slice(), key)
+    }
+
+    /// The moment of a stamp of the key: the number of the first event after which an update of the key with a stamp of at least this one is complete. None
+    /// exactly where the update of this very stamp is not complete. It takes no memory.
+    pub fn moment(&self, key: &Key, stamp: Stamp) -> Result<Option<u64>, Memory>
+        ensures exact { IfOk result (λ told. told ≡ moment_of self.now key.now (tag_of stamp)) }
+        ensures meant { IfOk result (λ told. IsToldOf self.now key.now (tag_of stamp) told) }
+    {
+        self.live.moment(key, stamp)
     }
 }
