@@ -3,6 +3,8 @@
 use bytes_told::{put, put_number};
 use hk_base::Memory;
 use hk_cli::{Command, read_command};
+use hk_group::Group;
+use hk_storm::StormOpts;
 use std::alloc::Global;
 
 // The words; none where they are no text, as the program has none then.
@@ -29,6 +31,29 @@ fn put_numbers(out: &mut Vec<u8>, name: &[u8], numbers: &[u64]) -> Result<(), Me
     Ok(())
 }
 
+fn put_storm(out: &mut Vec<u8>, opts: &StormOpts) -> Result<(), Memory> {
+    let numbers = [
+        opts.start,
+        u64::from(opts.calls),
+        u64::from(opts.nodes),
+        u64::from(opts.workers),
+    ];
+    put_numbers(out, b"storm", &numbers)
+}
+
+fn put_group(out: &mut Vec<u8>, group: &Group) -> Result<(), Memory> {
+    let numbers = [
+        u64::from(group.nodes),
+        u64::from(group.workers),
+        u64::from(group.managers),
+        group.lease,
+        group.skew,
+        u64::from(group.port),
+        u64::from(group.conns),
+    ];
+    put_numbers(out, b"serve", &numbers)
+}
+
 /// Tells which command the words are.
 pub fn tell(alloc: Global, bytes: &[u8], out: &mut Vec<u8>) -> Result<(), Memory> {
     match read_command(words(alloc, bytes)?.as_slice()) {
@@ -40,40 +65,13 @@ pub fn tell(alloc: Global, bytes: &[u8], out: &mut Vec<u8>) -> Result<(), Memory
                 count,
                 nodes,
             },
-        ) => {
-            put_numbers(
-                out,
-                b"generate",
-                &[start, u64::from(count), u64::from(nodes)],
-            )
-        }
-        Some(Command::Storm(opts)) => {
-            put_numbers(
-                out,
-                b"storm",
-                &[
-                    opts.start,
-                    u64::from(opts.calls),
-                    u64::from(opts.nodes),
-                    u64::from(opts.workers),
-                ],
-            )
-        }
-        Some(Command::Serve(group)) => {
-            put_numbers(
-                out,
-                b"serve",
-                &[
-                    u64::from(group.nodes),
-                    u64::from(group.workers),
-                    u64::from(group.managers),
-                    group.lease,
-                    group.skew,
-                    u64::from(group.port),
-                    u64::from(group.conns),
-                ],
-            )
-        }
+        ) => put_numbers(
+            out,
+            b"generate",
+            &[start, u64::from(count), u64::from(nodes)],
+        ),
+        Some(Command::Storm(opts)) => put_storm(out, &opts),
+        Some(Command::Serve(group)) => put_group(out, &group),
         Some(Command::JointStorm { workers, reads }) => {
             put_numbers(out, b"joint-storm", &[u64::from(workers), u64::from(reads)])
         }

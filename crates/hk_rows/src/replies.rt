@@ -3,7 +3,6 @@
 use hk_base::{Data, Key};
 use hk_reply::{Item, Reply, ReplyFault, ValueItems, print_reply, read_reply};
 use std::alloc::Global;
-use std::process::Abort;
 
 // Tells whether the bytes are read as less than a reply.
 fn needs(alloc: Global, bytes: &[u8]) -> bool {

@@ -1,9 +1,7 @@
 //! Request lines, and what they are refused for.
 
-use hk_base::Op;
 use hk_request::{BlockFault, Head, Request, RequestCause, Verb, finish, read_request};
 use std::alloc::{AllocError, Global};
-use std::process::Abort;
 
 // Tells whether the line is refused for this cause, with this much to skip.
 fn refuses(alloc: Global, line: &[u8], cause: RequestCause, skip: u64) -> bool {
@@ -13,54 +11,56 @@ fn refuses(alloc: Global, line: &[u8], cause: RequestCause, skip: u64) -> bool {
     }
 }
 
+// Lines that are refused: the first fault, and how many bytes are passed over.
+const FAULTS: [(&[u8], RequestCause, u64); 26] = [
+    (
+        b"set k 0 0 1048577",
+        RequestCause::TooLarge { bytes: 1_048_577 },
+        1_048_579,
+    ),
+    (
+        b"set k 4294967296 0 1",
+        RequestCause::BadNumber { word: 3 },
+        3,
+    ),
+    (b"set k 0 -1 1", RequestCause::Expiry, 3),
+    (b"set k 0 -0 1", RequestCause::Expiry, 3),
+    (b"set k 0 -0 x", RequestCause::Expiry, 0),
+    (b"set k 0 - 1", RequestCause::BadNumber { word: 4 }, 3),
+    (b"set k 0 --1 1", RequestCause::BadNumber { word: 4 }, 3),
+    (b"set k 0 +0 1", RequestCause::BadNumber { word: 4 }, 3),
+    (b"set k 0 0 +1", RequestCause::BadNumber { word: 5 }, 0),
+    (b"set k 0 0", RequestCause::WrongCount, 0),
+    (b"set k 0 0 4 5", RequestCause::WrongCount, 6),
+    (b"set k 0 0 4 noreply noreply", RequestCause::WrongCount, 6),
+    (b"cas k 0 0 4 x", RequestCause::BadNumber { word: 6 }, 6),
+    (b"append k 0 0 3", RequestCause::Unknown, 5),
+    (b"GET k", RequestCause::Unknown, 0),
+    (b"", RequestCause::Unknown, 0),
+    (b"  ", RequestCause::Unknown, 0),
+    (b"get", RequestCause::WrongCount, 0),
+    (b"get good b\rd", RequestCause::BadKey, 0),
+    (b"incr k +5", RequestCause::BadNumber { word: 3 }, 0),
+    (b"incr k noreply", RequestCause::BadNumber { word: 3 }, 0),
+    (
+        b"incr k 000000000000000000001",
+        RequestCause::BadNumber { word: 3 },
+        0,
+    ),
+    (
+        b"incr k 18446744073709551616",
+        RequestCause::BadNumber { word: 3 },
+        0,
+    ),
+    (b"add k 0 60 3", RequestCause::Expiry, 5),
+    (b"delete k 0", RequestCause::WrongCount, 0),
+    (b"quit now", RequestCause::WrongCount, 0),
+];
+
 #[test]
 fn the_first_fault_is_told_with_its_skip(rt: HostRuntime) {
     let alloc = rt.alloc();
-    let rows: [(&[u8], RequestCause, u64); 26] = [
-        (
-            b"set k 0 0 1048577",
-            RequestCause::TooLarge { bytes: 1_048_577 },
-            1_048_579,
-        ),
-        (
-            b"set k 4294967296 0 1",
-            RequestCause::BadNumber { word: 3 },
-            3,
-        ),
-        (b"set k 0 -1 1", RequestCause::Expiry, 3),
-        (b"set k 0 -0 1", RequestCause::Expiry, 3),
-        (b"set k 0 -0 x", RequestCause::Expiry, 0),
-        (b"set k 0 - 1", RequestCause::BadNumber { word: 4 }, 3),
-        (b"set k 0 --1 1", RequestCause::BadNumber { word: 4 }, 3),
-        (b"set k 0 +0 1", RequestCause::BadNumber { word: 4 }, 3),
-        (b"set k 0 0 +1", RequestCause::BadNumber { word: 5 }, 0),
-        (b"set k 0 0", RequestCause::WrongCount, 0),
-        (b"set k 0 0 4 5", RequestCause::WrongCount, 6),
-        (b"set k 0 0 4 noreply noreply", RequestCause::WrongCount, 6),
-        (b"cas k 0 0 4 x", RequestCause::BadNumber { word: 6 }, 6),
-        (b"append k 0 0 3", RequestCause::Unknown, 5),
-        (b"GET k", RequestCause::Unknown, 0),
-        (b"", RequestCause::Unknown, 0),
-        (b"  ", RequestCause::Unknown, 0),
-        (b"get", RequestCause::WrongCount, 0),
-        (b"get good b\rd", RequestCause::BadKey, 0),
-        (b"incr k +5", RequestCause::BadNumber { word: 3 }, 0),
-        (b"incr k noreply", RequestCause::BadNumber { word: 3 }, 0),
-        (
-            b"incr k 000000000000000000001",
-            RequestCause::BadNumber { word: 3 },
-            0,
-        ),
-        (
-            b"incr k 18446744073709551616",
-            RequestCause::BadNumber { word: 3 },
-            0,
-        ),
-        (b"add k 0 60 3", RequestCause::Expiry, 5),
-        (b"delete k 0", RequestCause::WrongCount, 0),
-        (b"quit now", RequestCause::WrongCount, 0),
-    ];
-    for (line, cause, skip) in &rows {
+    for (line, cause, skip) in &FAULTS {
         assert!(rt; refuses(alloc, line, *cause, *skip));
     }
 }

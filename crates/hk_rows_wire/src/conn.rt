@@ -199,108 +199,63 @@ fn refused_blocks_are_no_commands(rt: HostRuntime) {
     );
 }
 
+// What a desk may tell beside an answer, and what a client is told then. The desk is asked three times.
+const UNTOLD: [Exchange; 6] = [
+    Exchange {
+        name: "a desk that is busy",
+        sent: b"get k\r\n",
+        tells: &[],
+        end: ConnEnd::End,
+        written: b"SERVER_ERROR busy\r\n",
+        asks: 3,
+    },
+    Exchange {
+        name: "a desk that is busy at the second key",
+        sent: b"get a b\r\n",
+        tells: &[Tell::Found(b"1")],
+        end: ConnEnd::End,
+        written: b"SERVER_ERROR busy\r\n",
+        asks: 4,
+    },
+    Exchange {
+        name: "an aborted increment",
+        sent: b"incr k 1\r\n",
+        tells: &[Tell::Aborted],
+        end: ConnEnd::End,
+        written: b"SERVER_ERROR aborted\r\n",
+        asks: 1,
+    },
+    Exchange {
+        name: "an increment whose outcome is unknown",
+        sent: b"incr k 1\r\n",
+        tells: &[Tell::Unknown],
+        end: ConnEnd::End,
+        written: b"SERVER_ERROR outcome unknown\r\n",
+        asks: 1,
+    },
+    Exchange {
+        name: "a desk that is spent",
+        sent: b"get k\r\n",
+        tells: &[Tell::Spent],
+        end: ConnEnd::End,
+        written: b"SERVER_ERROR calls spent\r\n",
+        asks: 1,
+    },
+    Exchange {
+        name: "an increment with no reply",
+        sent: b"incr k 1 noreply\r\n",
+        tells: &[],
+        end: ConnEnd::End,
+        written: b"",
+        asks: 3,
+    },
+];
+
 #[test]
 fn what_a_desk_does_not_tell_is_told(rt: HostRuntime) {
     let alloc = rt.alloc();
-    check(
-        &rt,
-        alloc,
-        &Exchange {
-            name: "a desk that is busy",
-            sent: b"get k\r\n",
-            tells: &[],
-            end: ConnEnd::End,
-            written: b"SERVER_ERROR busy\r\n",
-            asks: 3,
-        },
-    );
-    check(
-        &rt,
-        alloc,
-        &Exchange {
-            name: "a desk that is busy at the second key",
-            sent: b"get a b\r\n",
-            tells: &[Tell::Found(b"1")],
-            end: ConnEnd::End,
-            written: b"SERVER_ERROR busy\r\n",
-            asks: 4,
-        },
-    );
-    check(
-        &rt,
-        alloc,
-        &Exchange {
-            name: "an aborted increment",
-            sent: b"incr k 1\r\n",
-            tells: &[Tell::Aborted],
-            end: ConnEnd::End,
-            written: b"SERVER_ERROR aborted\r\n",
-            asks: 1,
-        },
-    );
-    check(
-        &rt,
-        alloc,
-        &Exchange {
-            name: "an increment whose outcome is unknown",
-            sent: b"incr k 1\r\n",
-            tells: &[Tell::Unknown],
-            end: ConnEnd::End,
-            written: b"SERVER_ERROR outcome unknown\r\n",
-            asks: 1,
-        },
-    );
-    check(
-        &rt,
-        alloc,
-        &Exchange {
-            name: "a desk that is spent",
-            sent: b"get k\r\n",
-            tells: &[Tell::Spent],
-            end: ConnEnd::End,
-            written: b"SERVER_ERROR calls spent\r\n",
-            asks: 1,
-        },
-    );
-    check(
-        &rt,
-        alloc,
-        &Exchange {
-            name: "an increment with no reply",
-            sent: b"incr k 1 noreply\r\n",
-            tells: &[],
-            end: ConnEnd::End,
-            written: b"",
-            asks: 3,
-        },
-    );
-}
-
-#[test]
-fn a_connection_ends_where_a_read_fails_or_gives_nothing(rt: HostRuntime) {
-    let alloc = rt.alloc();
-    let sent = b"set k 7 0 5\r\nhe".as_slice();
-    // The sizes of pieces, and the read that comes behind all that is sent.
-    let rows = [
-        (1, 15),
-        (2, 8),
-        (3, 5),
-        (4, 4),
-        (5, 3),
-        (6, 3),
-        (7, 3),
-        (8, 2),
-        (16_384, 1),
-    ];
-    for (most, last) in rows {
-        let conn = in_pieces(&rt, alloc, sent, most, &[last], &[]);
-        let served = serve(&rt, alloc, conn, &[]);
-        assert_eq!(rt; served.end, ConnEnd::ReadFault, "{most} bytes at a time");
-        assert_eq!(rt; served.conn.written(), b"".as_slice());
-        let conn = in_pieces(&rt, alloc, sent, most, &[], &[]);
-        let served = serve(&rt, alloc, conn, &[]);
-        assert_eq!(rt; served.end, ConnEnd::End, "{most} bytes at a time");
-        assert_eq!(rt; served.conn.written(), b"".as_slice());
+    for row in &UNTOLD {
+        check(&rt, alloc, row);
     }
 }
 
@@ -338,31 +293,4 @@ fn replies_are_written_before_more_is_read(rt: HostRuntime) {
     assert_eq!(rt; end, ConnEnd::End);
     assert_eq!(rt; conn.reads, 4);
     assert!(rt; !conn.is_late);
-}
-
-fn line_of(rt: &impl Abort, alloc: Global, length: usize, end: &[u8]) -> Vec<u8> {
-    let mut line = Vec::new(alloc);
-    line.resize(length, b'a').expect(rt, "room");
-    line.extend_from_slice(end).expect(rt, "room");
-    line
-}
-
-#[test]
-fn a_line_has_65536_bytes_at_most(rt: HostRuntime) {
-    let alloc = rt.alloc();
-    let long = line_of(&rt, alloc, 65_538, b"");
-    let fits = line_of(&rt, alloc, 65_536, b"\r\n");
-    for most in [8, 1_000, 16_384] {
-        let conn = in_pieces(&rt, alloc, long.as_slice(), most, &[], &[]);
-        let served = serve(&rt, alloc, conn, &[]);
-        assert_eq!(rt; served.end, ConnEnd::TooLong, "{most} bytes at a time");
-        assert_eq!(rt;
-            served.conn.written(),
-            b"CLIENT_ERROR line too long\r\n".as_slice()
-        );
-        let conn = in_pieces(&rt, alloc, fits.as_slice(), most, &[], &[]);
-        let served = serve(&rt, alloc, conn, &[]);
-        assert_eq!(rt; served.end, ConnEnd::End, "{most} bytes at a time");
-        assert_eq!(rt; served.conn.written(), b"ERROR\r\n".as_slice());
-    }
 }

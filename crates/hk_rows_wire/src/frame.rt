@@ -148,133 +148,109 @@ fn fields_are_told(rt: HostRuntime) {
     }
 }
 
-#[test]
-fn a_front_of_a_frame_is_short(rt: HostRuntime) {
-    let alloc = rt.alloc();
-    let bytes = bytes_of(alloc, ACK).expect(&rt, "memory");
-    for (len, _) in bytes.iter().enumerate() {
-        let wanted = if len < 4 { 4 } else { 42 };
-        let fault = read_letter(alloc, &bytes[..len]).err();
-        assert_eq!(rt; fault, Some(FrameFault::Short { wanted }), "{len} bytes");
-    }
-}
+// Bytes that are no frame, and the first fault of each.
+const FAULTS: [(&str, &str, FrameFault); 19] = [
+    (
+        "a length of 2,200,000 and no more",
+        "002191c0",
+        FrameFault::Short { wanted: 2_200_004 },
+    ),
+    (
+        "kind 14",
+        "00000026 0e 03 0000000000000001 000001 000000 016b 0000000000000002 0000 0000000000000002 0001",
+        FrameFault::BadKind { kind: 14 },
+    ),
+    (
+        "kind 0 and shard 8",
+        "00000010 00 08 0000000000000001 000001 000000",
+        FrameFault::BadKind { kind: 0 },
+    ),
+    (
+        "shard 8",
+        "00000026 02 08 0000000000000001 000001 000000 016b 0000000000000002 0000 0000000000000002 0001",
+        FrameFault::BadField { at: 5 },
+    ),
+    (
+        "one byte more",
+        "00000027 02 03 0000000000000001 000001 000000 016b 0000000000000002 0000 0000000000000002 0001 00",
+        FrameFault::BadLength { length: 39 },
+    ),
+    (
+        "a lease ask without its time",
+        "00000010 06 00 0000000000000002 000001 010000",
+        FrameFault::BadLength { length: 16 },
+    ),
+    (
+        "a lease ask beyond the clock limit",
+        "00000018 06 00 0000000000000002 000001 010000 000000e8d4a51001",
+        FrameFault::BadField { at: 20 },
+    ),
+    (
+        "class 2",
+        "00000018 06 00 0000000000000002 020001 010000 0000000000000065",
+        FrameFault::BadField { at: 14 },
+    ),
+    (
+        "manager 9",
+        "00000018 06 00 0000000000000002 000001 010009 0000000000000065",
+        FrameFault::BadField { at: 18 },
+    ),
+    (
+        "a key of no bytes",
+        "0000001b 03 00 0000000000000001 000000 000001 00 0000000000000003 0000",
+        FrameFault::BadField { at: 20 },
+    ),
+    (
+        "a key with a space",
+        "0000001d 03 00 0000000000000001 000000 000001 026b20 0000000000000003 0000",
+        FrameFault::BadField { at: 22 },
+    ),
+    (
+        "a key that passes the end",
+        "00000012 03 00 0000000000000001 000000 000001 0220",
+        FrameFault::BadLength { length: 18 },
+    ),
+    (
+        "version 2^48",
+        "0000001c 03 00 0000000000000001 000000 000001 016b 0001000000000000 0000",
+        FrameFault::BadField { at: 22 },
+    ),
+    (
+        "a version that passes the end",
+        "00000019 03 00 0000000000000001 000000 000001 016b 00010000000000",
+        FrameFault::BadLength { length: 25 },
+    ),
+    (
+        "an update of kind 3",
+        "0000001d 01 00 0000000000000001 000000 000001 016b 0000000000000003 0000 03",
+        FrameFault::BadField { at: 32 },
+    ),
+    (
+        "an update of kind 2 with a content behind it",
+        "00000027 01 00 0000000000000001 000000 000001 016b 0000000000000003 0000 02 00000007 00000002 6869",
+        FrameFault::BadLength { length: 39 },
+    ),
+    (
+        "data of 1,048,577 bytes",
+        "00000025 01 00 0000000000000001 000000 000001 016b 0000000000000003 0000 00 00000007 00100001",
+        FrameFault::BadField { at: 37 },
+    ),
+    (
+        "room for 65 rows",
+        "00000012 04 00 0000000000000001 000000 000001 00 41",
+        FrameFault::BadField { at: 21 },
+    ),
+    (
+        "a member that is the next number",
+        "0000001f 0c 00 0000000000000002 010000 000001 0000000000000002 00000002 01 0002",
+        FrameFault::BadField { at: 33 },
+    ),
+];
 
 #[test]
 fn the_first_fault_is_told(rt: HostRuntime) {
     let alloc = rt.alloc();
-    let rows: [(&str, &str, FrameFault); 22] = [
-        (
-            "a length of 15",
-            "0000000f",
-            FrameFault::BadLength { length: 15 },
-        ),
-        (
-            "a length of 2,200,001",
-            "002191c1",
-            FrameFault::BadLength { length: 2_200_001 },
-        ),
-        (
-            "a length of 2,200,000 and no more",
-            "002191c0",
-            FrameFault::Short { wanted: 2_200_004 },
-        ),
-        (
-            "kind 14",
-            "00000026 0e 03 0000000000000001 000001 000000 016b 0000000000000002 0000 0000000000000002 0001",
-            FrameFault::BadKind { kind: 14 },
-        ),
-        (
-            "kind 0 and shard 8",
-            "00000010 00 08 0000000000000001 000001 000000",
-            FrameFault::BadKind { kind: 0 },
-        ),
-        (
-            "shard 8",
-            "00000026 02 08 0000000000000001 000001 000000 016b 0000000000000002 0000 0000000000000002 0001",
-            FrameFault::BadField { at: 5 },
-        ),
-        (
-            "one byte more",
-            "00000027 02 03 0000000000000001 000001 000000 016b 0000000000000002 0000 0000000000000002 0001 00",
-            FrameFault::BadLength { length: 39 },
-        ),
-        (
-            "a lease ask without its time",
-            "00000010 06 00 0000000000000002 000001 010000",
-            FrameFault::BadLength { length: 16 },
-        ),
-        (
-            "a lease ask beyond the clock limit",
-            "00000018 06 00 0000000000000002 000001 010000 000000e8d4a51001",
-            FrameFault::BadField { at: 20 },
-        ),
-        (
-            "class 2",
-            "00000018 06 00 0000000000000002 020001 010000 0000000000000065",
-            FrameFault::BadField { at: 14 },
-        ),
-        (
-            "manager 9",
-            "00000018 06 00 0000000000000002 000001 010009 0000000000000065",
-            FrameFault::BadField { at: 18 },
-        ),
-        (
-            "a key of no bytes",
-            "0000001b 03 00 0000000000000001 000000 000001 00 0000000000000003 0000",
-            FrameFault::BadField { at: 20 },
-        ),
-        (
-            "a key with a space",
-            "0000001d 03 00 0000000000000001 000000 000001 026b20 0000000000000003 0000",
-            FrameFault::BadField { at: 22 },
-        ),
-        (
-            "a key that passes the end",
-            "00000012 03 00 0000000000000001 000000 000001 0220",
-            FrameFault::BadLength { length: 18 },
-        ),
-        (
-            "version 2^48",
-            "0000001c 03 00 0000000000000001 000000 000001 016b 0001000000000000 0000",
-            FrameFault::BadField { at: 22 },
-        ),
-        (
-            "a version that passes the end",
-            "00000019 03 00 0000000000000001 000000 000001 016b 00010000000000",
-            FrameFault::BadLength { length: 25 },
-        ),
-        (
-            "an update of kind 3",
-            "0000001d 01 00 0000000000000001 000000 000001 016b 0000000000000003 0000 03",
-            FrameFault::BadField { at: 32 },
-        ),
-        (
-            "an update of kind 2 with a content behind it",
-            "00000027 01 00 0000000000000001 000000 000001 016b 0000000000000003 0000 02 00000007 00000002 6869",
-            FrameFault::BadLength { length: 39 },
-        ),
-        (
-            "data of 1,048,577 bytes",
-            "00000025 01 00 0000000000000001 000000 000001 016b 0000000000000003 0000 00 00000007 00100001",
-            FrameFault::BadField { at: 37 },
-        ),
-        (
-            "room for 65 rows",
-            "00000012 04 00 0000000000000001 000000 000001 00 41",
-            FrameFault::BadField { at: 21 },
-        ),
-        (
-            "members that fall",
-            "00000021 0c 00 0000000000000002 010000 000001 0000000000000002 00000002 02 0001 0000",
-            FrameFault::BadField { at: 35 },
-        ),
-        (
-            "a member that is the next number",
-            "0000001f 0c 00 0000000000000002 010000 000001 0000000000000002 00000002 01 0002",
-            FrameFault::BadField { at: 33 },
-        ),
-    ];
-    for (name, text, fault) in rows {
+    for (name, text, fault) in FAULTS {
         let bytes = bytes_of(alloc, text).expect(&rt, "memory");
         assert_eq!(rt; read_letter(alloc, &bytes).err(), Some(fault), "{name}");
     }

@@ -26,56 +26,58 @@ fn reading_of(alloc: Global, line: &[u8]) -> Reads {
     }
 }
 
+// Lines, and what is read of each.
+const EDGES: [(&str, &[u8], Reads); 6] = [
+    (
+        "the longest data",
+        b"set k 0 0 1048576",
+        Reads::Store { bytes: 1_048_576 },
+    ),
+    (
+        "one byte more",
+        b"set k 0 0 1048577",
+        Reads::Refused {
+            cause: RequestCause::TooLarge { bytes: 1_048_577 },
+            skip: 1_048_579,
+        },
+    ),
+    (
+        "flags of 33 bits",
+        b"set k 4294967296 0 1",
+        Reads::Refused {
+            cause: RequestCause::BadNumber { word: 3 },
+            skip: 3,
+        },
+    ),
+    (
+        "a time in the past",
+        b"set k 0 -1 1",
+        Reads::Refused {
+            cause: RequestCause::Expiry,
+            skip: 3,
+        },
+    ),
+    (
+        "a word too few",
+        b"set k 0 0",
+        Reads::Refused {
+            cause: RequestCause::WrongCount,
+            skip: 0,
+        },
+    ),
+    (
+        "a command in capitals",
+        b"GET k",
+        Reads::Refused {
+            cause: RequestCause::Unknown,
+            skip: 0,
+        },
+    ),
+];
+
 #[test]
 fn lines_at_the_edges_of_the_grammar(rt: HostRuntime) {
-    let rows: [(&str, &[u8], Reads); 6] = [
-        (
-            "the longest data",
-            b"set k 0 0 1048576",
-            Reads::Store { bytes: 1_048_576 },
-        ),
-        (
-            "one byte more",
-            b"set k 0 0 1048577",
-            Reads::Refused {
-                cause: RequestCause::TooLarge { bytes: 1_048_577 },
-                skip: 1_048_579,
-            },
-        ),
-        (
-            "flags of 33 bits",
-            b"set k 4294967296 0 1",
-            Reads::Refused {
-                cause: RequestCause::BadNumber { word: 3 },
-                skip: 3,
-            },
-        ),
-        (
-            "a time in the past",
-            b"set k 0 -1 1",
-            Reads::Refused {
-                cause: RequestCause::Expiry,
-                skip: 3,
-            },
-        ),
-        (
-            "a word too few",
-            b"set k 0 0",
-            Reads::Refused {
-                cause: RequestCause::WrongCount,
-                skip: 0,
-            },
-        ),
-        (
-            "a command in capitals",
-            b"GET k",
-            Reads::Refused {
-                cause: RequestCause::Unknown,
-                skip: 0,
-            },
-        ),
-    ];
-    for (name, line, wanted) in &rows {
+    for (name, line, wanted) in &EDGES {
         assert_eq!(rt; reading_of(rt.alloc(), line), *wanted, "{name}");
     }
 }

@@ -44,6 +44,12 @@ fn reads_are_told_from_what_a_shard_shows(rt: HostRuntime) {
     local_reads::<HostRuntime, Brand>(rt, alloc, founded);
 }
 
+// Whether the desk tells that the lease, which ends at 10, may be over at 11.
+fn is_over<R: Abort, D: Desk>(rt: &R, desk: &mut D, key: &Key, op: Op) -> bool {
+    let over = DeskReply::Told(Answer::Busy(Why::Lease { end: 10, now: 11 }));
+    asked(rt, desk, key, op) == over
+}
+
 // Once the lease may be over, reads and updates are told so, with its end and the clock.
 fn leases_end<R: Wait + Abort + Copy + Drop, P: Places>(rt: R, alloc: Global, founded: Founded)
     requires { node_names P.places founded.node ≡ names_of founded }
@@ -53,10 +59,8 @@ fn leases_end<R: Wait + Abort + Copy + Drop, P: Places>(rt: R, alloc: Global, fo
     let mut late = clock_desk(rt, alloc, &shards, 2, 11);
     let k = key(&rt, alloc);
     assert!(rt; is_stored(&rt, &mut early, &k, Op::Write(content(&rt, alloc, b"1"))));
-    for op in [Op::Read, Op::Delete] {
-        let told = asked(&rt, &mut late, &k, op);
-        assert!(rt; told == DeskReply::Told(Answer::Busy(Why::Lease { end: 10, now: 11 })));
-    }
+    assert!(rt; is_over(&rt, &mut late, &k, Op::Read));
+    assert!(rt; is_over(&rt, &mut late, &k, Op::Delete));
     assert!(rt; finds(&rt, &mut early, &k, b"1", 131_072));
 }
 
