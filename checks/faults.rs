@@ -1,5 +1,5 @@
 // Makes one call of the C library fail, in a program that is started with this library before it: the environment names a kind of
-// call, `ALLOCATE`, `READ` or `WRITE`, and the number of the call that fails, counted from 1. With `SHORT` 1 each write takes one byte,
+// call, `ALLOCATE`, `READ`, `WRITE` or `THREAD`, and the number of the call that fails, counted from 1. With `SHORT` 1 each write takes one byte,
 // with 2 each read gives one, with 3 both. Reads and writes are those of standard input, standard output and sockets.
 // At the end it tells on standard error how many calls of each kind were made.
 use std::ffi::{c_char, c_int, c_void};
@@ -15,6 +15,7 @@ unsafe extern "C" {
     fn recvfrom(socket: c_int, room: *mut c_void, size: usize, flags: c_int, from: *mut c_void, from_size: *mut u32) -> isize;
     fn sendto(socket: c_int, bytes: *const c_void, size: usize, flags: c_int, to: *const c_void, to_size: u32) -> isize;
     fn __errno_location() -> *mut c_int;
+    fn dlsym(library: *const c_void, name: *const c_char) -> *const c_void;
     fn getenv(name: *const c_char) -> *const c_char;
     fn atol(text: *const c_char) -> i64;
     fn dprintf(file: c_int, format: *const c_char, ...) -> c_int;
@@ -22,7 +23,10 @@ unsafe extern "C" {
 }
 
 const EIO: c_int = 5;
+const EAGAIN: c_int = 11;
 const ENOMEM: c_int = 12;
+/// Looks for a name behind this library.
+const NEXT: *const c_void = -1isize as *const c_void;
 
 /// Calls of one kind: how many were made, and which of them fails; 0 where none does.
 struct Calls {
@@ -53,6 +57,7 @@ impl Calls {
 static ALLOCATIONS: Calls = Calls::new();
 static READS: Calls = Calls::new();
 static WRITES: Calls = Calls::new();
+static THREADS: Calls = Calls::new();
 static SHORT: AtomicU64 = AtomicU64::new(0);
 
 /// A request for memory that is refused. The C library itself looks at the number of the error where it makes a thread.
@@ -133,6 +138,18 @@ pub unsafe extern "C" fn send(socket: c_int, bytes: *const c_void, size: usize, 
     unsafe { sendto(socket, bytes, moved(size, 1), flags, std::ptr::null(), 0) }
 }
 
+type Begin = extern "C" fn(*mut c_void) -> *mut c_void;
+type Create = unsafe extern "C" fn(*mut c_void, *const c_void, Begin, *mut c_void) -> c_int;
+
+#[unsafe(no_mangle)]
+pub unsafe extern "C" fn pthread_create(thread: *mut c_void, kind: *const c_void, begin: Begin, given: *mut c_void) -> c_int {
+    if THREADS.fail() {
+        return EAGAIN;
+    }
+    let create: Create = unsafe { std::mem::transmute(dlsym(NEXT, c"pthread_create".as_ptr())) };
+    unsafe { create(thread, kind, begin, given) }
+}
+
 unsafe fn asked(name: &std::ffi::CStr) -> u64 {
     unsafe {
         let value = getenv(name.as_ptr());
@@ -145,13 +162,14 @@ extern "C" fn begin() {
     unsafe {
         READS.set(asked(c"READ"));
         WRITES.set(asked(c"WRITE"));
+        THREADS.set(asked(c"THREAD"));
         SHORT.store(asked(c"SHORT"), Ordering::Relaxed);
         ALLOCATIONS.set(asked(c"ALLOCATE"));
     }
 }
 
 extern "C" fn tell() {
-    unsafe { dprintf(2, c"calls %lu %lu %lu\n".as_ptr(), ALLOCATIONS.number(), READS.number(), WRITES.number()) };
+    unsafe { dprintf(2, c"calls %lu %lu %lu %lu\n".as_ptr(), ALLOCATIONS.number(), READS.number(), WRITES.number(), THREADS.number()) };
 }
 
 /// A program that can start threads ends by this, which would tell nothing.

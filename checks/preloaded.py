@@ -5,7 +5,7 @@ import subprocess
 import sys
 from pathlib import Path
 
-KINDS = ["ALLOCATE", "READ", "WRITE"]
+KINDS = ["ALLOCATE", "READ", "WRITE", "THREAD"]
 WRITES_SHORT, READS_SHORT = 1, 2
 
 

@@ -131,7 +131,7 @@ fn collect<P: Places, R: Wait>(
 // Runs the callers and workers of these nodes.
 fn storm_over<
     R: Threads + Wait + Copy + Send + Sync + Drop + 'static,
-    P: Places + Send + Sync,
+    P: Places + Send + Sync + 'static,
     C: Clock + Sync,
 >(
     rt: R,
@@ -144,14 +144,14 @@ fn storm_over<
     requires { IsStorm opts.now }
 {
     let crew = crew_of(rt, alloc, opts, nodes)?;
-    let called = run(&rt, alloc, opts.start, crew, clock, tickets)?;
+    let called = run(rt, alloc, opts.start, crew, clock, tickets)?;
     collect(&rt, alloc, nodes, called)
 }
 
 // Runs the callers and workers of nodes whose cells are named.
 fn storm_at<
     R: Threads + Wait + Copy + Send + Sync + Drop + 'static,
-    P: Places + Send + Sync,
+    P: Places + Send + Sync + 'static,
     C: Clock + Sync,
 >(
     rt: R,
@@ -182,8 +182,9 @@ fn groups_of<R: Threads + Wait + Copy + Send + Sync + Drop + 'static, C: Clock +
     storm_at::<R, Brand, C>(rt, alloc, opts, founded, &tickets, clock)
 }
 
-/// Runs a storm: `opts.nodes` nodes with `opts.workers` workers each, and as many callers as workers, each in a thread of its own. The callers make the drawn calls,
-/// and read without a lock where they can; workers lose about one parcel in sixteen. When all have ended, the journals and notes go to [`conclude`].
+/// Runs a storm: `opts.nodes` nodes with `opts.workers` workers each, and as many callers as workers, each in a thread of its own. Once all workers have their threads,
+/// the callers make the drawn calls, and read without a lock where they can; workers lose about one parcel in sixteen. When all have ended, the journals and notes go
+/// to [`conclude`].
 ///
 /// Done, Gap and WriteFault are told as by [`conclude`]. Memory: there was none; nothing was written.
 pub fn storm<R: Threads + Wait + Copy + Send + Sync + Drop + 'static, C: Clock + Sync, K: Sink>(
