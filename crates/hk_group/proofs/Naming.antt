@@ -4,8 +4,7 @@ use Rattle.std.specs.List.{AllByRecursion}
 use Rattle.std.proofs.lemmas.List.{get_or_append_left, get_or_push, length_push}
 use Rattle.hk_base.specs.declared.stamp.NodeId.{NodeId}
 use Rattle.hk_locked.specs.Places.{NodeNames, node_names, no_node}
-use Rattle.hk_worker.specs.Founding.{FoundedState, names_of}
-use Rattle.hk_group.specs.Founding.{AreNamed}
+use Rattle.hk_worker.specs.Founding.{FoundedState, names_of, AreNamed}
 
 -- among all of these each has its number, and its names stand there
 abbrev pub ArePlaced : List FoundedState → List FoundedState → Type 0

@@ -1,11 +1,8 @@
 -- What a group is, and its founders.
 use Rattle.std.specs.Prelude.{◌≡◌, ℕ, zero, suc, ◌+◌, ◌≤◌, List, [], ◌∷◌}
-use Rattle.std.specs.List.{AllByRecursion}
 use Rattle.hk_base.specs.declared.stamp.NodeId.{NodeId}
 use Rattle.hk_base.specs.declared.time.TheConstants.{MAX_TIME}
 use Rattle.hk_base.specs.declared.view.View.{View}
-use Rattle.hk_locked.specs.Places.{NodeNames, node_names}
-use Rattle.hk_worker.specs.Founding.{FoundedState, names_of}
 use Rattle.hk_group.specs.declared.group.Group.{Group}
 
 -- the limits of a group: 1 to 16 nodes, at most 9 managers, a lease and a skew within the limit of clocks
@@ -24,7 +21,3 @@ counted n (suc k) = record { 0 = n } ∷ counted (n + 1) k
 -- the first view has all founders as its members
 abbrev pub first_view : ℕ → View
 first_view nodes = record { epoch = 1; members = counted 0 nodes; next = nodes }
-
--- the list of names has those of each of these nodes
-abbrev pub AreNamed : List NodeNames → List FoundedState → Type 0
-AreNamed places founded = AllByRecursion (λ f. node_names places f.node ≡ names_of f) founded

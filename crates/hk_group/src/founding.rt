@@ -2,8 +2,8 @@
 
 ghost use Rattle.std.specs.Prelude.{◌≡◌, ◌≤◌, ◌<◌, length, map, IfOk};
 ghost use Rattle.hk_base.specs.declared.time.TheConstants.{MAX_TIME};
-ghost use Rattle.hk_worker.specs.Founding.{names_of};
-ghost use Rattle.hk_group.specs.Founding.{AreNamed, IsGroup, counted, first_view};
+ghost use Rattle.hk_worker.specs.Founding.{names_of, AreNamed};
+ghost use Rattle.hk_group.specs.Founding.{IsGroup, counted, first_view};
 
 use crate::completion::Unheard;
 use crate::group::Group;

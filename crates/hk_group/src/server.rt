@@ -4,7 +4,8 @@ ghost use Rattle.std.specs.Prelude.{◌≡◌, ◌+◌, length, OnOk};
 ghost use Rattle.hk_base.specs.View.{IsView};
 ghost use Rattle.hk_outside.specs.Causes.{Rose};
 ghost use Rattle.hk_accept.specs.Serving.{EndsServe, Taken};
-ghost use Rattle.hk_group.specs.Founding.{AreNamed, IsGroup};
+ghost use Rattle.hk_worker.specs.Founding.{AreNamed};
+ghost use Rattle.hk_group.specs.Founding.{IsGroup};
 ghost use Rattle.hk_group.specs.Jobs.{HasStarted, HasServedBeside, own_jobs};
 
 use crate::desks::GroupDesks;

@@ -26,7 +26,7 @@ use Rattle.hk_base.specs.declared.letter.Letter.{Letter}
 use Rattle.hk_base.specs.declared.letter.Body.{Body}
 use Rattle.hk_base.specs.declared.letter.Body.TheVariants.{Inv, Ack, Val, CopyAsk, CopyGive, LeaseAsk, LeaseGive, Prepare, Promise, Accept, Accepted, Chosen, Activate}
 use Rattle.hk_merge.specs.Merged.{answers_of}
-use Rattle.hk_merge.specs.Same.{same_bytes, same_stamp, same_kind, same_content, same_item, same_ballot, same_member, same_view, same_vote, same_actor, same_body, same_letter, same_state, same_why, same_answer, same_reply, SameIsEqual, SameListsAreEqual, SameAnswersAreEqual}
+use Rattle.hk_merge.specs.Same.{same_bytes, same_stamp, same_kind, same_content, same_item, same_ballot, same_member, same_view, same_vote, same_actor, same_council, same_copy, same_body, same_letter, same_state, same_why, same_answer, same_reply, SameIsEqual, SameListsAreEqual, SameAnswersAreEqual}
 
 -- a test that tells just equal values
 record Tells {X : Type 0} (test : X → X → Bool) : Type 0 where
@@ -226,7 +226,7 @@ actors = record { is = actor_is; itself = actor_itself }
 
 -- ---- letters
 body_is : (a b : Body) → same_body a b ≡ true → a ≡ b
-unfolding same_body
+unfolding same_body same_copy same_council
 body_is (Inv key s kind content) (Inv k t d c) e =
     let p = and_parts (same_bytes key k) (same_stamp s t && (same_kind kind d && option_eq same_content content c)) e in
     let q = and_parts (same_stamp s t) (same_kind kind d && option_eq same_content content c) p.1 in
@@ -256,7 +256,7 @@ body_is (Activate view) (Activate other) e = ap (λ (x : View). Activate x) (vie
 body_is a b e = absurd (false≢true e)
 
 body_itself : (a : Body) → same_body a a ≡ true
-unfolding same_body
+unfolding same_body same_copy same_council
 body_itself (Inv key s kind content) = both (same_bytes key key) (same_stamp s s && (same_kind kind kind && option_eq same_content content content)) (texts.itself key)
     (both (same_stamp s s) (same_kind kind kind && option_eq same_content content content) (stamps.itself s) (both (same_kind kind kind) (option_eq same_content content content) (kinds.itself kind) (lefts.itself content)))
 body_itself (Ack key s top) = both (same_bytes key key) (same_stamp s s && same_stamp top top) (texts.itself key) (both (same_stamp s s) (same_stamp top top) (stamps.itself s) (stamps.itself top))

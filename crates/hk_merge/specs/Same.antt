@@ -60,21 +60,30 @@ same_actor (Node a) (Node b) = a.0 == b.0
 same_actor (Manager a) (Manager b) = a == b
 same_actor a b = false
 
+-- bodies of letters about leases and views
+unfoldable pub same_council : Body → Body → Bool
+same_council (LeaseAsk a) (LeaseAsk b) = a == b
+same_council (LeaseGive a) (LeaseGive b) = a == b
+same_council (Prepare a) (Prepare b) = same_ballot a b
+same_council (Promise a vote) (Promise b other) = same_ballot a b && option_eq same_vote vote other
+same_council (Accept a view) (Accept b other) = same_ballot a b && same_view view other
+same_council (Accepted a) (Accepted b) = same_ballot a b
+same_council (Chosen view) (Chosen other) = same_view view other
+same_council (Activate view) (Activate other) = same_view view other
+same_council a b = false
+
+-- these, and bodies of letters that copy rows
+unfoldable pub same_copy : Body → Body → Bool
+same_copy (CopyAsk after room) (CopyAsk b r) = option_eq same_bytes after b && room == r
+same_copy (CopyGive after done items) (CopyGive b d more) = option_eq same_bytes after b && (beq done d && pointwise same_item items more)
+same_copy a b = same_council a b
+
+-- bodies of all letters
 unfoldable pub same_body : Body → Body → Bool
 same_body (Inv key s kind content) (Inv k t d c) = same_bytes key k && (same_stamp s t && (same_kind kind d && option_eq same_content content c))
 same_body (Ack key s top) (Ack k t u) = same_bytes key k && (same_stamp s t && same_stamp top u)
 same_body (Val key s) (Val k t) = same_bytes key k && same_stamp s t
-same_body (CopyAsk after room) (CopyAsk b r) = option_eq same_bytes after b && room == r
-same_body (CopyGive after done items) (CopyGive b d more) = option_eq same_bytes after b && (beq done d && pointwise same_item items more)
-same_body (LeaseAsk a) (LeaseAsk b) = a == b
-same_body (LeaseGive a) (LeaseGive b) = a == b
-same_body (Prepare a) (Prepare b) = same_ballot a b
-same_body (Promise a vote) (Promise b other) = same_ballot a b && option_eq same_vote vote other
-same_body (Accept a view) (Accept b other) = same_ballot a b && same_view view other
-same_body (Accepted a) (Accepted b) = same_ballot a b
-same_body (Chosen view) (Chosen other) = same_view view other
-same_body (Activate view) (Activate other) = same_view view other
-same_body a b = false
+same_body a b = same_copy a b
 
 abbrev pub same_letter : Letter → Letter → Bool
 same_letter a b = a.epoch == b.epoch && (same_actor a.from b.from && (same_actor a.to b.to && same_body a.body b.body))

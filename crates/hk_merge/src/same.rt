@@ -3,7 +3,7 @@
 ghost use Rattle.std.specs.Prelude.{◌≡◌};
 ghost use Rattle.std.specs.Option.{option_eq};
 ghost use Rattle.std.specs.Cmp.Lexicographic.{pointwise};
-ghost use Rattle.hk_merge.specs.Same.{same_bytes, same_stamp, same_kind, same_content, same_item, same_ballot, same_member, same_view, same_vote, same_actor, same_body, same_letter, same_answer, same_reply};
+ghost use Rattle.hk_merge.specs.Same.{same_bytes, same_stamp, same_kind, same_content, same_item, same_ballot, same_member, same_view, same_vote, same_actor, same_council, same_copy, same_body, same_letter, same_answer, same_reply};
 
 use hk_base::{
     Actor, Answer, Ballot, Body, Content, CopyItem, Key, Kind, Letter, NodeId, Reply, Stamp, View,
@@ -118,6 +118,56 @@ fn same_actor(a: Actor, b: Actor) -> bool
     a == b
 }
 
+// Bodies of letters about leases and views.
+#[tactic(auto, unfolding(crate::specs::Same::same_council))]
+fn same_council(a: &Body, b: &Body) -> bool
+    ensures { result ≡ same_council a.now b.now }
+{
+    match (a, b) {
+        (Body::LeaseAsk { asked }, Body::LeaseAsk { asked: b }) => *asked == *b,
+        (Body::LeaseGive { end }, Body::LeaseGive { end: b }) => *end == *b,
+        (Body::Prepare(a), Body::Prepare(b)) => same_ballot(*a, *b),
+        (
+            Body::Promise { ballot, accepted },
+            Body::Promise {
+                ballot: b,
+                accepted: v,
+            },
+        ) => same_ballot(*ballot, *b) && same_vote(accepted, v),
+        (Body::Accept { ballot, view }, Body::Accept { ballot: b, view: v }) => {
+            same_ballot(*ballot, *b) && same_view(view, v)
+        }
+        (Body::Accepted(a), Body::Accepted(b)) => same_ballot(*a, *b),
+        (Body::Chosen(a), Body::Chosen(b)) => same_view(a, b),
+        (Body::Activate(a), Body::Activate(b)) => same_view(a, b),
+        _ => false,
+    }
+}
+
+// These, and bodies of letters that copy rows.
+#[tactic(auto, unfolding(crate::specs::Same::same_copy))]
+fn same_copy(a: &Body, b: &Body) -> bool
+    ensures { result ≡ same_copy a.now b.now }
+{
+    match (a, b) {
+        (Body::CopyAsk { after, room }, Body::CopyAsk { after: b, room: r }) => {
+            same_after(after, b) && *room == *r
+        }
+        (
+            Body::CopyGive { after, done, items },
+            Body::CopyGive {
+                after: b,
+                done: d,
+                items: more,
+            },
+        ) => {
+            same_after(after, b) && (*done == *d && same_items(items.as_slice(), more.as_slice()))
+        }
+        _ => same_council(a, b),
+    }
+}
+
+// Bodies of all letters.
 #[tactic(auto, unfolding(crate::specs::Same::same_body))]
 fn same_body(a: &Body, b: &Body) -> bool
     ensures { result ≡ same_body a.now b.now }
@@ -151,36 +201,7 @@ fn same_body(a: &Body, b: &Body) -> bool
         (Body::Val { key, stamp }, Body::Val { key: k, stamp: s }) => {
             same_key(key, k) && same_stamp(*stamp, *s)
         }
-        (Body::CopyAsk { after, room }, Body::CopyAsk { after: b, room: r }) => {
-            same_after(after, b) && *room == *r
-        }
-        (
-            Body::CopyGive { after, done, items },
-            Body::CopyGive {
-                after: b,
-                done: d,
-                items: more,
-            },
-        ) => {
-            same_after(after, b) && (*done == *d && same_items(items.as_slice(), more.as_slice()))
-        }
-        (Body::LeaseAsk { asked }, Body::LeaseAsk { asked: b }) => *asked == *b,
-        (Body::LeaseGive { end }, Body::LeaseGive { end: b }) => *end == *b,
-        (Body::Prepare(a), Body::Prepare(b)) => same_ballot(*a, *b),
-        (
-            Body::Promise { ballot, accepted },
-            Body::Promise {
-                ballot: b,
-                accepted: v,
-            },
-        ) => same_ballot(*ballot, *b) && same_vote(accepted, v),
-        (Body::Accept { ballot, view }, Body::Accept { ballot: b, view: v }) => {
-            same_ballot(*ballot, *b) && same_view(view, v)
-        }
-        (Body::Accepted(a), Body::Accepted(b)) => same_ballot(*a, *b),
-        (Body::Chosen(a), Body::Chosen(b)) => same_view(a, b),
-        (Body::Activate(a), Body::Activate(b)) => same_view(a, b),
-        _ => false,
+        _ => same_copy(a, b),
     }
 }
 

@@ -1,9 +1,8 @@
 //! Watches of a key that the only node of a group writes.
 
-ghost use Rattle.std.specs.Prelude.{◌≡◌, ◌∷◌, [], IfOk};
-
-use hk_base::{CallNo, Content, Data, Key, Members, Memory, NodeId, Op, Stamp, View};
-use hk_node::{Node, NodeEvent};
+use hk_base::{CallNo, Content, Data, Key, Memory, Op, Stamp};
+use hk_lone::lone_shard;
+use hk_node::NodeEvent;
 use hk_shard::Shard;
 use hk_snap::SnapReader;
 use hk_watch::{Look, Notice, Notices, Seen, WatchCall, WatchCalls, WatchFault, Watcher, Watches};
@@ -48,24 +47,9 @@ impl Watcher for Wanting {
     }
 }
 
-// The view that has one member, node 0.
-fn first_view(alloc: Global) -> Result<View, Memory>
-    ensures { IfOk result (λ view. view ≡ record { epoch = 1; members = record { 0 = 0 } ∷ []; next = 1 }) }
-{
-    let mut members = Members::new(alloc);
-    members.push(NodeId(0))?;
-    Ok(View {
-        epoch: 1,
-        members,
-        next: 1,
-    })
-}
-
 // A shard of the only node of a group, and a reader of its cells.
-fn lone_shard<R: Wait>(rt: &R, alloc: Global) -> Result<(Shard, SnapReader), Memory> {
-    let view = first_view(alloc)?;
-    let node = Node::founder(alloc, NodeId(0), view, 1000, 10, 0)?;
-    let mut shard = Shard::new(rt, alloc, node)?;
+fn shown_shard<R: Wait>(rt: &R, alloc: Global) -> Result<(Shard, SnapReader), Memory> {
+    let mut shard = lone_shard(rt, alloc, 1000, 10)?;
     let (reader, _lease) = shard.reader(rt, alloc)?;
     Ok((shard, reader))
 }
@@ -101,7 +85,7 @@ struct Watched<F: Watcher + Drop> {
 }
 
 fn watched_by<F: Watcher + Drop, R: Wait + Abort>(rt: &R, alloc: Global, done: F) -> Watched<F> {
-    let (shard, reader) = lone_shard(rt, alloc).expect(rt, "memory");
+    let (shard, reader) = shown_shard(rt, alloc).expect(rt, "memory");
     let mut it = Watched {
         shard,
         reader,
@@ -135,7 +119,7 @@ impl<F: Watcher + Drop> Watched<F> {
 
 // The notices of the five calls, on a shard that wrote `k` once.
 fn run_five<R: Wait + Abort>(rt: &R, alloc: Global) -> Notices {
-    let (mut shard, mut reader) = lone_shard(rt, alloc).expect(rt, "memory");
+    let (mut shard, mut reader) = shown_shard(rt, alloc).expect(rt, "memory");
     write(rt, alloc, &mut shard, 1);
     run(rt, alloc, &mut reader, five_calls(rt, alloc))
 }

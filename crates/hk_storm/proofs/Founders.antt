@@ -3,8 +3,8 @@ use Rattle.std.proofs.Common.{◌≡◌, ℕ, ◌+◌, List, [], ◌∷◌, ◌+
 use Rattle.std.proofs.lemmas.List.{length-append}
 use Rattle.hk_base.specs.declared.stamp.NodeId.{NodeId}
 use Rattle.hk_locked.specs.Places.{NodeNames, node_names, no_node}
-use Rattle.hk_worker.specs.Founding.{FoundedState, names_of}
-use Rattle.hk_storm.specs.Founding.{AreFoundedFrom, AreFounded, AreNamed}
+use Rattle.hk_worker.specs.Founding.{FoundedState, names_of, AreNamed}
+use Rattle.hk_storm.specs.Founding.{AreFoundedFrom, AreFounded}
 
 id_of : ℕ → NodeId
 id_of n = record { 0 = n }

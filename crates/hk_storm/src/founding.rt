@@ -4,8 +4,8 @@ ghost use Rattle.std.specs.Prelude.{◌≡◌, ◌<◌, ◌≤◌, ◌+◌, leng
 ghost use Rattle.hk_drill.specs.Generated.{group_of};
 ghost use Rattle.hk_world.specs.Start.{founding_view, counted};
 ghost use Rattle.hk_locked.specs.Places.{node_names};
-ghost use Rattle.hk_worker.specs.Founding.{names_of};
-ghost use Rattle.hk_storm.specs.Founding.{AreFounded, AreNamed};
+ghost use Rattle.hk_worker.specs.Founding.{names_of, AreNamed};
+ghost use Rattle.hk_storm.specs.Founding.{AreFounded};
 
 use crate::quiet::Quiet;
 use hk_base::{MAX_TIME, Members, Memory, NodeId, View};

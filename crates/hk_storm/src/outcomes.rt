@@ -120,49 +120,23 @@ impl Outcomes {
     fn with(self, outcome: Option<Outcome>) -> Result<Outcomes, Memory>
         ensures { IfOk result (λ o. o ≡ with_outcome self outcome) }
     {
-        let Outcomes {
-            answered,
-            busy,
-            aborted,
-            unanswered,
-        } = self;
         match outcome {
-            None => {
-                let unanswered = one_more(unanswered)?;
-                Ok(Outcomes {
-                    answered,
-                    busy,
-                    aborted,
-                    unanswered,
-                })
-            }
-            Some(Outcome::Answered) => {
-                let answered = one_more(answered)?;
-                Ok(Outcomes {
-                    answered,
-                    busy,
-                    aborted,
-                    unanswered,
-                })
-            }
-            Some(Outcome::Busy) => {
-                let busy = one_more(busy)?;
-                Ok(Outcomes {
-                    answered,
-                    busy,
-                    aborted,
-                    unanswered,
-                })
-            }
-            Some(Outcome::Aborted) => {
-                let aborted = one_more(aborted)?;
-                Ok(Outcomes {
-                    answered,
-                    busy,
-                    aborted,
-                    unanswered,
-                })
-            }
+            None => Ok(Outcomes {
+                unanswered: one_more(self.unanswered)?,
+                ..self
+            }),
+            Some(Outcome::Answered) => Ok(Outcomes {
+                answered: one_more(self.answered)?,
+                ..self
+            }),
+            Some(Outcome::Busy) => Ok(Outcomes {
+                busy: one_more(self.busy)?,
+                ..self
+            }),
+            Some(Outcome::Aborted) => Ok(Outcomes {
+                aborted: one_more(self.aborted)?,
+                ..self
+            }),
         }
     }
 

@@ -3,7 +3,7 @@
 ghost use Rattle.std.specs.Prelude.{◌≡◌, ◌≤◌};
 ghost use Rattle.hk_outside.specs.Causes.{Rose};
 ghost use Rattle.hk_storm.specs.Storm.{IsStorm};
-ghost use Rattle.hk_storm.specs.Founding.{AreFounded, AreNamed};
+ghost use Rattle.hk_worker.specs.Founding.{AreNamed};
 ghost use Rattle.hk_storm.specs.Stormed.{IsStormed};
 
 use crate::crew::crew_of;

@@ -1,53 +1,15 @@
 //! What writes one key.
 
-ghost use Rattle.std.specs.Prelude.{◌≡◌, ◌+◌, ◌∷◌, [], IfOk, OnOk, OnErr};
-ghost use Rattle.hk_base.specs.declared.call.Op.TheVariants.{Write};
-ghost use Rattle.hk_node.specs.declared.event.NodeEvent.TheVariants.{Call};
-ghost use Rattle.hk_shard.specs.Shard.{IsApplied};
+ghost use Rattle.std.specs.Prelude.{◌≡◌, OnOk, OnErr};
+ghost use Rattle.hk_lone.specs.Lone.{IsWritten};
 
 use crate::follower::Follower;
-use hk_base::{CallNo, Content, Data, Key, MAX_TIME, Members, Memory, NodeId, Op, View};
-use hk_node::{Node, NodeEvent};
+use hk_base::{Content, Key, MAX_TIME, Memory};
+use hk_lone::{content_of, key_of, lone_shard, write};
 use hk_shard::Shard;
 use hk_snap::SnapReader;
 use std::alloc::Global;
 use std::sync::Wait;
-
-// The view that has one member, node 0.
-fn first_view(alloc: Global) -> Result<View, Memory>
-    ensures { IfOk result (λ view. view ≡ record { epoch = 1; members = record { 0 = 0 } ∷ []; next = 1 }) }
-{
-    let mut members = Members::new(alloc);
-    members.push(NodeId(0))?;
-    Ok(View {
-        epoch: 1,
-        members,
-        next: 1,
-    })
-}
-
-// A shard of a new node, the only one of its group, whose lease ends at the limit of clocks.
-fn lone_shard<R: Wait>(rt: &R, alloc: Global) -> Result<Shard, Memory> {
-    let view = first_view(alloc)?;
-    let node = Node::founder(alloc, NodeId(0), view, MAX_TIME, 0, 0)?;
-    Shard::new(rt, alloc, node)
-}
-
-// The key that is written.
-fn key_k(alloc: Global) -> Result<Key, Memory> {
-    match Key::read(alloc, b"k") {
-        Ok(key) => Ok(key),
-        Err(_) => Err(Memory),
-    }
-}
-
-// What is written each time.
-fn content(alloc: Global) -> Result<Content, Memory> {
-    match Data::read(alloc, b"a") {
-        Ok(bytes) => Ok(Content { flags: 0, bytes }),
-        Err(_) => Err(Memory),
-    }
-}
 
 /// Writes one key, always the same content, in a shard of the only node of a group.
 #[derive(Drop)]
@@ -60,9 +22,9 @@ pub struct KeyWriter {
 impl KeyWriter {
     /// A writer of the key `k`, to which nothing was written yet.
     pub fn new<R: Wait>(rt: &R, alloc: Global) -> Result<KeyWriter, Memory> {
-        let shard = lone_shard(rt, alloc)?;
-        let key = key_k(alloc)?;
-        let content = content(alloc)?;
+        let shard = lone_shard(rt, alloc, MAX_TIME, 0)?;
+        let key = key_of(alloc, b"k")?;
+        let content = content_of(alloc, b"a")?;
         Ok(KeyWriter {
             shard,
             key,
@@ -86,19 +48,10 @@ impl KeyWriter {
 
     /// Writes the key once more: one step of the shard, by the next ticket. Where memory is wanting, the shard is as it was.
     pub fn write<R: Wait>(&mut self, rt: &R, alloc: Global) -> Result<(), Memory>
-        ensures applied { OnOk result (IsApplied self.old.shard (self.old.shard.last + 1) (Call (record { 0 = self.old.shard.last + 1 }) self.old.key (Write self.old.content)) self.new.shard) }
+        ensures written { OnOk result (IsWritten self.old.shard self.old.key self.old.content self.new.shard) }
         ensures same { (self.new.key ≡ self.old.key) × (self.new.content ≡ self.old.content) }
         ensures err { OnErr result (self.new ≡ self.old) }
     {
-        let Some(ticket) = self.shard.last_ticket().checked_add(1) else {
-            return Err(Memory);
-        };
-        let event = NodeEvent::Call {
-            call: CallNo(ticket),
-            key: self.key.share()?,
-            op: Op::Write(self.content.share()?),
-        };
-        let _out = self.shard.apply(rt, alloc, ticket, event)?;
-        Ok(())
+        write(rt, alloc, &mut self.shard, &self.key, &self.content)
     }
 }

@@ -1,5 +1,5 @@
 use Rattle.std.proofs.Common.{◌≡◌, ◌+◌, length}
-use Rattle.hk_group.specs.Founding.{AreNamed}
+use Rattle.hk_worker.specs.Founding.{AreNamed}
 use Rattle.hk_group.proofs.program.seat_nodes.Given as goal
 
 -- those that are left are named, and the others have a seat
