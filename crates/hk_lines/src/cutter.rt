@@ -10,6 +10,7 @@ use crate::due::Due;
 use crate::ends::line_end;
 use crate::step::Step;
 use hk_base::Memory;
+use hk_buffer::Buffer;
 use std::alloc::Global;
 use std::marker::Model;
 
@@ -20,31 +21,25 @@ use std::marker::Model;
 /// it, then `filled`.
 #[derive(Drop)]
 pub struct Cutter {
-    bytes: Vec<u8>,
-    // the unread bytes are those from here to `end`; behind them is the room
-    start: usize,
-    end: usize,
+    buffer: Buffer,
     // no line ends in so many of the unread bytes
     searched: usize,
     // how many of the bytes to come are dropped
     dropping: u64,
     limit: usize,
     due: Due,
-    // where the line or block that was given last lies
-    from: usize,
-    to: usize,
 }
 
 impl Model for Cutter {
-    ghost use Rattle.std.specs.Prelude.{◌≡◌, ◌+◌, ◌<◌, ◌≤◌, drop, take, length, slice_range};
+    ghost use Rattle.std.specs.Prelude.{◌≡◌, ◌<◌, []};
     ghost use Rattle.hk_lines.specs.Cut.{Cutting};
     ghost use Rattle.hk_lines.specs.Searched.{IsSearched};
 
     ghost Value = { Cutting };
 
-    ghost view = { λ c. record { unread = drop c.start (take c.end c.bytes.items); dropping = c.dropping; limit = c.limit; due = c.due; given = slice_range (take c.end c.bytes.items) c.from c.to; room = drop c.end c.bytes.items } };
+    ghost view = { λ c. record { unread = c.buffer.unread; dropping = c.dropping; limit = c.limit; due = c.due; given = c.buffer.given; room = c.buffer.room } };
 
-    ghost invariant = { λ c. (c.start ≤ c.end) × (c.end ≤ length c.bytes.items) × (0 < c.dropping → c.start ≡ c.end) × (c.from ≤ c.to) × (c.to ≤ c.start) × IsSearched c.searched c.limit (drop c.start (take c.end c.bytes.items)) };
+    ghost invariant = { λ c. (0 < c.dropping → c.buffer.unread ≡ []) × IsSearched c.searched c.limit c.buffer.unread };
 }
 
 impl Cutter {
@@ -53,15 +48,11 @@ impl Cutter {
         ensures { IfOk result (λ c. c ≡ record { unread = []; dropping = 0; limit = limit; due = due.Line; given = []; room = [] }) }
     {
         Ok(Cutter {
-            bytes: Vec::new(alloc),
-            start: 0,
-            end: 0,
+            buffer: Buffer::new(alloc),
             searched: 0,
             dropping: 0,
             limit,
             due: Due::Line,
-            from: 0,
-            to: 0,
         })
     }
 
@@ -72,11 +63,7 @@ impl Cutter {
         ensures ok { OnOk result (self.new ≡ fed self.old piece.now) }
         ensures err { OnErr result (self.new ≡ with_room self.old []) }
     {
-        self.compact();
-        self.bytes.truncate(self.end);
-        let kept = kept_of(piece, self.dropping);
-        self.bytes.extend_from_slice(kept)?;
-        self.end = self.bytes.len();
+        self.buffer.feed(kept_of(piece, self.dropping))?;
         self.dropping = self.dropping.saturating_sub(piece.len() as u64);
         Ok(())
     }
@@ -88,12 +75,7 @@ impl Cutter {
         ensures same { self.new ≡ with_room self.old self.new.room }
         ensures enough { OnOk result (count ≤ length self.new.room) }
     {
-        self.compact();
-        let needed = self.end + count;
-        if self.bytes.len() < needed {
-            self.bytes.resize(needed, 0)?;
-        }
-        Ok(())
+        self.buffer.make_room(count)
     }
 
     /// Lends the room. What is written to its front comes with `filled`.
@@ -101,7 +83,7 @@ impl Cutter {
         ensures* writes { sem 𝓛 (LendsRoom self.entry result) }
         ensures room { result.now ≡ self.old.room }
     {
-        self.bytes.slice_mut(self.end..)
+        self.buffer.room()
     }
 
     /// The first `count` bytes of the room come, as a piece does that is fed. It takes no memory.
@@ -109,28 +91,10 @@ impl Cutter {
         requires { count ≤ length self.old.room }
         ensures { self.new ≡ filled self.old count }
     {
-        self.from = 0;
-        self.to = 0;
         let dropped = self.dropping.min(count as u64);
-        self.end += count;
-        self.start += dropped as usize;
+        self.buffer.filled(count);
+        self.buffer.skip(dropped as usize);
         self.dropping -= dropped;
-    }
-
-    // Once more than half of what is held was given, what is left moves to the front. So less is moved than was given.
-    fn compact(&mut self)
-        ensures { self.new ≡ with_room self.old self.new.room }
-    {
-        self.from = 0;
-        self.to = 0;
-        if self.start == self.end {
-            self.start = 0;
-            self.end = 0;
-        } else if self.start > self.end / 2 {
-            self.bytes.drain(..self.start);
-            self.end -= self.start;
-            self.start = 0;
-        }
     }
 
     /// What is due next is a block of `count` bytes and the two that end it, unless a line was too long. It takes no
@@ -151,11 +115,12 @@ impl Cutter {
         ensures { self.new ≡ skipped self.old count }
     {
         self.searched = 0;
-        let unread = (self.end - self.start) as u64;
+        let held = self.buffer.unread_len();
+        let unread = held as u64;
         if count <= unread {
-            self.start += count as usize;
+            self.buffer.skip(count as usize);
         } else {
-            self.start = self.end;
+            self.buffer.skip(held);
             self.dropping += count - unread;
         }
     }
@@ -173,7 +138,7 @@ impl Cutter {
             Due::Line => self.next_line(),
             Due::Block(count) => self.next_block(count as usize),
             Due::Nothing => {
-                self.give_nothing();
+                self.buffer.give_nothing();
                 Step::TooLong
             }
         }
@@ -189,7 +154,7 @@ impl Cutter {
                 Step::Line
             }
             None => {
-                self.give_nothing();
+                self.buffer.give_nothing();
                 if self.is_long() {
                     self.due = Due::Nothing;
                     Step::TooLong
@@ -205,8 +170,8 @@ impl Cutter {
         ensures step { result ≡ (block_step self.old count).step }
         ensures rest { self.new ≡ (block_step self.old count).rest }
     {
-        if self.end - self.start < count + 2 {
-            self.give_nothing();
+        if self.buffer.unread_len() < count + 2 {
+            self.buffer.give_nothing();
             return Step::Need;
         }
         self.give(count + 2, count + 2);
@@ -231,8 +196,7 @@ impl Cutter {
     fn window(&self) -> &[u8]
         ensures { result.now ≡ take (self.now.limit + 2) self.now.unread }
     {
-        let (held, _) = self.bytes.split_at(self.end);
-        let (_, unread) = held.split_at(self.start);
+        let unread = self.buffer.unread();
         let (window, _) = unread.split_at(unread.len().min(self.limit.saturating_add(2)));
         window
     }
@@ -241,7 +205,7 @@ impl Cutter {
     fn is_long(&self) -> bool
         ensures { result ≡ nat_le (self.now.limit + 2) (length self.now.unread) }
     {
-        let held = self.end - self.start;
+        let held = self.buffer.unread_len();
         held >= self.limit && held - self.limit >= 2
     }
 
@@ -251,26 +215,16 @@ impl Cutter {
         requires front { count ≤ gone }
         ensures { self.new ≡ giving self.old count gone }
     {
-        self.from = self.start;
-        self.to = self.start + count;
-        self.start += gone;
+        self.buffer.give(count, gone);
         self.searched = 0;
         self.due = Due::Line;
-    }
-
-    fn give_nothing(&mut self)
-        ensures { self.new ≡ record self.old { given = [] } }
-    {
-        self.from = 0;
-        self.to = 0;
     }
 
     /// The bytes of the line or block that the last step gave, until the next call of `next`, or until bytes come.
     pub fn given(&self) -> &[u8]
         ensures { result.now ≡ self.now.given }
     {
-        let (held, _) = self.bytes.split_at(self.end);
-        &held[self.from..self.to]
+        self.buffer.given()
     }
 }
 

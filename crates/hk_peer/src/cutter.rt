@@ -10,6 +10,7 @@ ghost use Rattle.hk_peer.specs.declared.step.PeerStep.TheVariants as step;
 
 use crate::step::PeerStep;
 use hk_base::Memory;
+use hk_buffer::Buffer;
 use hk_frame::{FrameFault, read_letter};
 use hk_link::Parcel;
 use std::alloc::Global;
@@ -24,10 +25,7 @@ const HEAD: usize = 4;
 /// Bytes come by `feed`, which copies them, or are written into the cutter's own room: `make_room`, then `room` lends it, then `filled`.
 #[derive(Drop)]
 pub struct PeerCutter {
-    bytes: Vec<u8>,
-    // the unread bytes are those from here to `end`; behind them is the room
-    start: usize,
-    end: usize,
+    buffer: Buffer,
     // before so many bytes are unread no frame is whole
     wanted: usize,
     // the fault that was told
@@ -35,14 +33,14 @@ pub struct PeerCutter {
 }
 
 impl Model for PeerCutter {
-    ghost use Rattle.std.specs.Prelude.{◌≤◌, drop, take, length, IfSome};
+    ghost use Rattle.std.specs.Prelude.{IfSome};
     ghost use Rattle.hk_peer.specs.Cut.{Cutting, IsWanted, IsBad};
 
     ghost Value = { Cutting };
 
-    ghost view = { λ c. record { unread = drop c.start (take c.end c.bytes.items); fault = c.fault; room = drop c.end c.bytes.items } };
+    ghost view = { λ c. record { unread = c.buffer.unread; fault = c.fault; room = c.buffer.room } };
 
-    ghost invariant = { λ c. (c.start ≤ c.end) × (c.end ≤ length c.bytes.items) × IsWanted c.wanted (drop c.start (take c.end c.bytes.items)) × IfSome c.fault (λ fault. IsBad fault (drop c.start (take c.end c.bytes.items))) };
+    ghost invariant = { λ c. IsWanted c.wanted c.buffer.unread × IfSome c.fault (λ fault. IsBad fault c.buffer.unread) };
 }
 
 impl PeerCutter {
@@ -51,9 +49,7 @@ impl PeerCutter {
         ensures { IfOk result (λ c. c ≡ record { unread = []; fault = None; room = [] }) }
     {
         Ok(PeerCutter {
-            bytes: Vec::new(alloc),
-            start: 0,
-            end: 0,
+            buffer: Buffer::new(alloc),
             wanted: HEAD,
             fault: None,
         })
@@ -66,11 +62,7 @@ impl PeerCutter {
         ensures ok { OnOk result (self.new ≡ fed self.old piece.now) }
         ensures err { OnErr result (self.new ≡ with_room self.old []) }
     {
-        self.compact();
-        self.bytes.truncate(self.end);
-        self.bytes.extend_from_slice(piece)?;
-        self.end = self.bytes.len();
-        Ok(())
+        self.buffer.feed(piece)
     }
 
     /// Makes room for at least `count` bytes, so that they can be read into the cutter with nothing between. After an `Err` there may be less room.
@@ -79,12 +71,7 @@ impl PeerCutter {
         ensures same { self.new ≡ with_room self.old self.new.room }
         ensures enough { OnOk result (count ≤ length self.new.room) }
     {
-        self.compact();
-        let needed = self.end + count;
-        if self.bytes.len() < needed {
-            self.bytes.resize(needed, 0)?;
-        }
-        Ok(())
+        self.buffer.make_room(count)
     }
 
     /// Lends the room. What is written to its front comes with `filled`.
@@ -92,7 +79,7 @@ impl PeerCutter {
         ensures* writes { sem 𝓛 (LendsRoom self.entry result) }
         ensures room { result.now ≡ self.old.room }
     {
-        self.bytes.slice_mut(self.end..)
+        self.buffer.room()
     }
 
     /// The first `count` bytes of the room come, as a piece does that is fed. It takes no memory.
@@ -100,21 +87,7 @@ impl PeerCutter {
         requires { count ≤ length self.old.room }
         ensures { self.new ≡ filled self.old count }
     {
-        self.end += count;
-    }
-
-    // Once more than half of what is held was given, what is left moves to the front. So less is moved than was given.
-    fn compact(&mut self)
-        ensures { self.new ≡ with_room self.old self.new.room }
-    {
-        if self.start == self.end {
-            self.start = 0;
-            self.end = 0;
-        } else if self.start > self.end / 2 {
-            self.bytes.drain(..self.start);
-            self.end -= self.start;
-            self.start = 0;
-        }
+        self.buffer.filled(count);
     }
 
     /// The next step. Keys and data of a letter are copied once. A fault that was told is told for ever. After an `Err` all is as it was.
@@ -135,7 +108,7 @@ impl PeerCutter {
         if self.is_part() {
             return Ok(PeerStep::Need);
         }
-        match read_letter(alloc, self.unread()) {
+        match read_letter(alloc, self.buffer.unread()) {
             Ok((shard, letter, length)) => {
                 self.give(length);
                 Ok(PeerStep::Parcel(Parcel { shard, letter }))
@@ -156,15 +129,7 @@ impl PeerCutter {
     fn is_part(&self) -> bool
         ensures { result ≡ true → IsPart self.now.unread }
     {
-        self.end - self.start < self.wanted
-    }
-
-    fn unread(&self) -> &[u8]
-        ensures { result.now ≡ self.now.unread }
-    {
-        let (held, _) = self.bytes.split_at(self.end);
-        let (_, unread) = held.split_at(self.start);
-        unread
+        self.buffer.unread_len() < self.wanted
     }
 
     // The first `count` bytes are given.
@@ -173,7 +138,7 @@ impl PeerCutter {
         requires none { self.old.fault ≡ None }
         ensures { self.new ≡ record self.old { unread = drop count self.old.unread } }
     {
-        self.start += count;
+        self.buffer.skip(count);
         self.wanted = HEAD;
     }
 

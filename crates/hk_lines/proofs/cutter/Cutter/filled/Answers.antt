@@ -1,21 +1,14 @@
-use Rattle.std.proofs.Common.{rules, arith, ◌≡◌, ◌≤◌, min, length, drop, refl, length-drop}
-use Rattle.std.proofs.lemmas.List.{drop-drop}
-use Rattle.hk_lines.proofs.Buffers.{come, less_dropped, still_searched}
+use Rattle.std.proofs.Common.{rules, arith, ◌≡◌, ◌≤◌, min, length, take, refl, length-take}
+use Rattle.hk_lines.proofs.Dropped.{come, less_dropped}
 use Rattle.hk_lines.proofs.cutter.Cutter.filled.Goals as goal
-
-pub invariant_of-self : goal.invariant_of-self
-invariant_of-self c =
-    let v = c.self.invariant in
-    let m : c.min-dropped.result ≡ min c.self.inside.dropping c.args.count = search rules in
-    let there : c.args.count ≤ length (drop c.self.inside.end c.self.inside.bytes.items) = rw (← c.self.view_is) at c.requires in
-    let more = come c.self.inside.bytes.items c.self.inside.start c.self.inside.end c.self.inside.dropping c.args.count v.0 v.1 v.2 in
-    rw m (omega (arith, v.0), grind (arith, there, length-drop, v.1), λ lt. omega (arith, lt, v.2), omega arith, omega arith, still_searched _ _ _ _ _ more v.5)
 
 pub returns : goal.returns
 returns c =
-    let v = c.self.invariant in
+    let held = c.self.inside.buffer in
+    let piece = take c.args.count held.room in
+    let there : c.args.count ≤ length held.room = rw (← c.self.view_is) at c.requires in
+    let long : length piece ≡ c.args.count = grind (arith, there, length-take) in
     let m : c.min-dropped.result ≡ min c.self.inside.dropping c.args.count = search rules in
-    let there : c.args.count ≤ length (drop c.self.inside.end c.self.inside.bytes.items) = rw (← c.self.view_is) at c.requires in
-    let more = come c.self.inside.bytes.items c.self.inside.start c.self.inside.end c.self.inside.dropping c.args.count v.0 v.1 v.2 in
-    let less = less_dropped (drop c.self.inside.end c.self.inside.bytes.items) c.self.inside.dropping c.args.count there in
-    rw (← c.self.view_is) (rw (m, more, less, ← drop-drop c.args.count c.self.inside.end c.self.inside.bytes.items) refl)
+    let more = come held.unread piece c.self.inside.dropping c.args.count long c.self.invariant.0 in
+    let less = less_dropped c.self.inside.dropping c.args.count piece long in
+    rw (← c.self.view_is) (rw (c.skip.ensures, c.filled.ensures, m, more, less) refl)

@@ -1,6 +1,6 @@
 use Rattle.std.proofs.Common.{◌≡◌, ◌≤◌, length, drop, refl, sym}
-use Rattle.hk_lines.proofs.Buffers.{refilled, front_stays, back_is, tail_is}
-use Rattle.hk_lines.proofs.cutter.Cutter.room.Goals as goal
+use Rattle.hk_buffer.proofs.Parts.{refilled, front_stays, back_is, tail_is}
+use Rattle.hk_buffer.proofs.buffer.Buffer.room.Goals as goal
 
 pub returns : goal.returns
 returns c =
