@@ -5,19 +5,21 @@ ghost use Rattle.hk_outside.specs.Causes.{Rose};
 ghost use Rattle.hk_accept.specs.Serving.{EndsServe, HasServed};
 
 use crate::desks::Desks;
-use crate::visit::Visit;
+use crate::reception::Reception;
+use crate::visit::Clients;
 use crossbeam_utils::sync::WaitGroup;
 use hk_outside::{Doors, Spawner, Status};
 use std::alloc::Global;
 use std::sync::{Arc, Wait};
 
-// Starts a job for each connection that comes, at most so many.
-fn start_each<D: Doors, S: Spawner, K: Desks + Send + Sync + Drop + 'static>(
-    alloc: Global,
+/// Starts the job of each connection that comes through open doors, at most so many.
+///
+/// Done: so many connections were taken, or no more came, and each got a job. Memory: there was none to make a job. DoorFault: the next connection could not be
+/// taken. SpawnFault: a connection got no job, and was closed.
+pub fn take_each<D: Doors, S: Spawner, V: Reception<D::Conn>>(
     doors: &mut D,
     spawner: &mut S,
-    desks: &Arc<K>,
-    group: &WaitGroup,
+    reception: &V,
     conns: u32,
 ) -> Status
     ensures ends { EndsServe result }
@@ -31,7 +33,7 @@ fn start_each<D: Doors, S: Spawner, K: Desks + Send + Sync + Drop + 'static>(
             Ok(None) => return Status::Done,
             Err(_) => return Status::DoorFault,
         };
-        let Ok(visit) = Visit::new(alloc, conn, desks, number, group) else {
+        let Ok(visit) = reception.visit(conn, number) else {
             return Status::Memory;
         };
         if spawner.start(visit).is_err() {
@@ -61,7 +63,12 @@ pub fn serve_each<R: Wait, D: Doors, S: Spawner, K: Desks + Send + Sync + Drop +
     let Ok(group) = WaitGroup::new(alloc) else {
         return Status::Memory;
     };
-    let status = start_each(alloc, doors, spawner, desks, &group, conns);
+    let clients = Clients {
+        alloc,
+        desks,
+        group: &group,
+    };
+    let status = take_each(doors, spawner, &clients, conns);
     group.wait(rt);
     status
 }

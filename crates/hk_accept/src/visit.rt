@@ -1,6 +1,7 @@
 //! The job of one connection.
 
 use crate::desks::Desks;
+use crate::reception::Reception;
 use crossbeam_utils::sync::WaitGroup;
 use hk_base::Memory;
 use hk_conn::serve_connection;
@@ -11,7 +12,7 @@ use std::sync::Arc;
 // How often one key of one request is asked, while it is busy.
 const PATIENCE: u32 = 64;
 
-// A connection to be served, and what its desk is made by.
+/// A connection of a client, which is to be served, and what its desk is made by.
 #[derive(Drop)]
 pub struct Visit<N: Drop, K: Drop> {
     alloc: Global,
@@ -22,18 +23,24 @@ pub struct Visit<N: Drop, K: Drop> {
     group: WaitGroup,
 }
 
-impl<N: Drop, K: Drop> Visit<N, K> {
-    pub fn new(
-        alloc: Global,
-        conn: N,
-        desks: &Arc<K>,
-        number: u32,
-        group: &WaitGroup,
-    ) -> Result<Visit<N, K>, Memory> {
-        let desks = desks.clone()?;
-        let group = group.clone()?;
+/// Takes clients in: each is served at a desk of its own. All visits are of this group until they are over.
+#[derive(Drop)]
+pub struct Clients<'a, K> {
+    pub alloc: Global,
+    pub desks: &'a Arc<K>,
+    pub group: &'a WaitGroup,
+}
+
+impl<'a, N: Connection + Send + Drop + 'static, K: Desks + Send + Sync + Drop + 'static> Reception<
+    N,
+> for Clients<'a, K> {
+    type Visit = Visit<N, K>;
+
+    fn visit(&self, conn: N, number: u32) -> Result<Visit<N, K>, Memory> {
+        let desks = self.desks.clone()?;
+        let group = self.group.clone()?;
         Ok(Visit {
-            alloc,
+            alloc: self.alloc,
             conn,
             desks,
             number,

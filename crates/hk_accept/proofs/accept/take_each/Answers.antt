@@ -1,7 +1,6 @@
-use Rattle.hk_accept.proofs.accept.start_each.Goals as goal
+use Rattle.hk_accept.proofs.accept.take_each.Goals as goal
 use Rattle.hk_accept.proofs.Counting.{none_more}
 
--- src/accept.rt:40:25
 pub returns-in-Ok-None-clause-done : goal.returns-in-Ok-None-clause-done
 returns-in-Ok-None-clause-done g c = λ done.
     let kept = c.loop-number.invariant in

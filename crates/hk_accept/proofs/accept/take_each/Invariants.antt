@@ -1,6 +1,6 @@
 use Rattle.std.proofs.Common.{◌≤◌}
 use Rattle.hk_accept.specs.Serving.{Came, Taken}
-use Rattle.hk_accept.proofs.accept.start_each.Given as goal
+use Rattle.hk_accept.proofs.accept.take_each.Given as goal
 
 abbrev pub invariant-loop-number : goal.invariant-loop-number
 invariant-loop-number g l = record {

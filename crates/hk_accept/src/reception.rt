@@ -1,0 +1,12 @@
+//! What makes the jobs of connections.
+
+use hk_base::Memory;
+use hk_outside::Job;
+
+/// Makes the job of each connection that comes.
+pub trait Reception<N> {
+    type Visit: Job;
+
+    /// The job of a connection that comes behind so many others. One for whose job there is no memory is closed.
+    fn visit(&self, conn: N, number: u32) -> Result<Self::Visit, Memory>;
+}
