@@ -20,13 +20,14 @@ const COMMANDS: &[Command] = &[
     ),
     ("watch", &[("writes", 1, 10_000)]),
     ("joint-storm", &[("workers", 1, 8), ("reads", 1, 10_000)]),
+    ("peer", &[("id", 0, 15), ("nodes", 1, 16), ("workers", 1, 8), ("port", 1, 65_535), ("conns", 1, 1_000_000)]),
 ];
 
 /// The options whose values are told, in this order.
-const TOLD: &[&str] = &["start", "count", "calls", "nodes", "workers", "managers", "lease", "skew", "port", "conns", "writes", "reads"];
+const TOLD: &[&str] = &["start", "count", "calls", "id", "nodes", "workers", "managers", "lease", "skew", "port", "conns", "writes", "reads"];
 
 pub fn draw(random: &mut Random) -> Drawn {
-    let (name, options) = COMMANDS[[0, 1, 2, 2, 3, 3, 4, 4, 5, 6][random.below(10)]];
+    let (name, options) = COMMANDS[[0, 1, 2, 2, 3, 3, 4, 4, 5, 6, 7, 7][random.below(12)]];
     let mut words = vec![name.to_string()];
     let mut options = options.to_vec();
     while !options.is_empty() {
@@ -46,7 +47,7 @@ pub fn draw(random: &mut Random) -> Drawn {
             let at = random.below(words.len());
             words.insert(random.below(words.len() + 1), words[at].clone());
         }
-        2 => words.insert(random.below(words.len() + 1), random.pick(&["--", "-h", "--help", "help", "", "now", "0", "--nodes=1", "storm", "serve", "joint"]).to_string()),
+        2 => words.insert(random.below(words.len() + 1), random.pick(&["--", "-h", "--help", "help", "", "now", "0", "--nodes=1", "storm", "serve", "joint", "peer"]).to_string()),
         3 => {
             let (first, second) = (random.below(words.len()), random.below(words.len()));
             words.swap(first, second);
@@ -89,6 +90,9 @@ fn command(words: &[&str]) -> Option<String> {
         if !(*least..=*most).contains(options.get(option)?) {
             return None;
         }
+    }
+    if *name == "peer" && (options["id"] >= options["nodes"] || options["port"] + options["nodes"] > 65_536) {
+        return None;
     }
     let told = TOLD.iter().filter_map(|option| options.get(option)).map(|value| format!(" {value}")).collect::<String>();
     Some(format!("{name}{told}"))

@@ -4,6 +4,7 @@ use bytes_told::{put, put_number};
 use hk_base::Memory;
 use hk_cli::{Command, read_command};
 use hk_group::Group;
+use hk_process::Process;
 use hk_storm::StormOpts;
 use std::alloc::Global;
 
@@ -54,6 +55,17 @@ fn put_group(out: &mut Vec<u8>, group: &Group) -> Result<(), Memory> {
     put_numbers(out, b"serve", &numbers)
 }
 
+fn put_process(out: &mut Vec<u8>, process: &Process) -> Result<(), Memory> {
+    let numbers = [
+        u64::from(process.id),
+        u64::from(process.nodes),
+        u64::from(process.workers),
+        u64::from(process.port),
+        u64::from(process.conns),
+    ];
+    put_numbers(out, b"peer", &numbers)
+}
+
 /// Tells which command the words are.
 pub fn tell(alloc: Global, bytes: &[u8], out: &mut Vec<u8>) -> Result<(), Memory> {
     match read_command(words(alloc, bytes)?.as_slice()) {
@@ -72,6 +84,7 @@ pub fn tell(alloc: Global, bytes: &[u8], out: &mut Vec<u8>) -> Result<(), Memory
         ),
         Some(Command::Storm(opts)) => put_storm(out, &opts),
         Some(Command::Serve(group)) => put_group(out, &group),
+        Some(Command::Peer(process)) => put_process(out, &process),
         Some(Command::JointStorm { workers, reads }) => {
             put_numbers(out, b"joint-storm", &[u64::from(workers), u64::from(reads)])
         }

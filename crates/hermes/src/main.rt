@@ -29,7 +29,9 @@ fn words(rt: &HostRuntime) -> io::Result<Vec<String>> {
 fn main(rt: HostRuntime) -> io::Result<ExitCode> {
     let alloc = rt.alloc();
     let words = words(&rt)?;
-    let serves = words.first().is_some_and(|word| word.as_str() == "serve");
+    let serves = words
+        .first()
+        .is_some_and(|word| word.as_str() == "serve" || word.as_str() == "peer");
     let mut source = ReaderSource::new(rt.reader());
     let mut sink = WriterSink::new(io::writer(&rt));
     let clock = Arc::new(alloc, SteadyClock::new(rt))?;

@@ -2,7 +2,7 @@
 use Rattle.std.proofs.Common.{◌≡◌, ℕ, List, Option, Some, None, refl, sym, ap}
 use Rattle.hk_script.proofs.Choices.{no_some}
 use Rattle.hk_cli.specs.declared.words.Command.{Command}
-use Rattle.hk_cli.specs.declared.words.Command.TheVariants.{Drill, Joint, Generate, Storm, Serve, Watch, JointStorm}
+use Rattle.hk_cli.specs.declared.words.Command.TheVariants.{Drill, Joint, Generate, Storm, Serve, Peer, Watch, JointStorm}
 use Rattle.hk_cli.specs.Words.{IsCommand, IsCommandRead}
 use Rattle.hk_cli.specs.Commands.{IsNoCommand, IsInRange}
 use Rattle.hk_cli.proofs.Exact.{commands_are_one}
@@ -35,5 +35,8 @@ in_range (Some (Storm opts)) words read = record {
 in_range (Some (Serve group)) words read =
     let is = read.2 in
     record { some_nodes = is.some_nodes; few_nodes = is.few_nodes; few_managers = is.few_managers; lease = is.lease_fits; skew = is.skew_fits }
+in_range (Some (Peer process)) words read =
+    let is = read.2 in
+    record { id = is.id_below; few_nodes = is.few_nodes; ports = is.ports_fit }
 in_range (Some (Watch writes)) words read = tt
 in_range (Some (JointStorm workers reads)) words read = tt

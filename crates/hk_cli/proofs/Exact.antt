@@ -1,14 +1,15 @@
 -- What words are read as: the command that they are, and no other.
-use Rattle.std.proofs.Common.{◌≡◌, ℕ, ◌<◌, ◌≤◌, ◌^◌, List, [], ◌∷◌, length, Bool, true, false, if◌then◌else◌, nat_le, Option, Some, None, codes, inl, inr, refl, sym, ap, subst, ◌∙◌, arith}
+use Rattle.std.proofs.Common.{◌≡◌, ℕ, ◌+◌, ◌-◌, ◌<◌, ◌≤◌, ◌^◌, List, [], ◌∷◌, length, Bool, true, false, if◌then◌else◌, nat_le, Option, Some, None, codes, inl, inr, refl, sym, ap, subst, ◌∙◌, arith}
 use Rattle.std.specs.List.{AllByRecursion}
 use Rattle.std.proofs.lemmas.Bool.Decides.{nat_tests}
 use Rattle.hk_base.specs.declared.time.TheConstants.{MAX_TIME}
 use Rattle.hk_storm.specs.declared.opts.StormOpts.{StormOpts}
 use Rattle.hk_group.specs.declared.group.Group.{Group}
+use Rattle.hk_process.specs.declared.process.Process.{Process}
 use Rattle.hk_cli.specs.declared.words.Command.{Command}
-use Rattle.hk_cli.specs.declared.words.Command.TheVariants.{Drill, Joint, Generate, Storm, Serve, Watch, JointStorm}
-use Rattle.hk_cli.specs.Words.{Given, option, IsGenerate, IsStorm, IsServe, IsWatch, IsJointStorm, IsCommand, IsCommandRead, WordsTellCommands}
-use Rattle.hk_cli.specs.Options.{option_count, option_is, value_of, ranged, generate_of, storm_of, serve_of, watch_of, joint_storm_of, alone, command_of, group_of}
+use Rattle.hk_cli.specs.declared.words.Command.TheVariants.{Drill, Joint, Generate, Storm, Serve, Peer, Watch, JointStorm}
+use Rattle.hk_cli.specs.Words.{Given, option, IsGenerate, IsStorm, IsServe, IsPeer, IsWatch, IsJointStorm, IsCommand, IsCommandRead, WordsTellCommands}
+use Rattle.hk_cli.specs.Options.{option_count, option_is, value_of, ranged, generate_of, storm_of, serve_of, peer_of, watch_of, joint_storm_of, alone, command_of, group_of, process_of}
 use Rattle.hk_script.specs.Parts.{is_text}
 use Rattle.hk_script.proofs.Choices.{chosen, held, bind_some, some_same, no_some, text_is}
 use Rattle.hk_cli.proofs.Orders.{AreApart, IsNamed, first_of, order_all, order_found, order_length, found_order, are_read, are_again}
@@ -275,6 +276,83 @@ serve_again g words is =
     let conns = ap (ranged 1 1000000) (again.values (codes "conns") ∙ found.1.1.1.1.1.1.0) ∙ ranged_again 1 1000000 g.conns is.some_conns is.few_conns in
     rw seven (rw (nodes, workers, managers, lease, skew, port, conns) refl)
 
+-- ---- peer
+abbrev met : Process → List Given
+met p = option (codes "id") p.id ∷ option (codes "nodes") p.nodes ∷ option (codes "workers") p.workers ∷ option (codes "port") p.port ∷ option (codes "conns") p.conns ∷ []
+
+met_apart : (p : Process) → AreApart (met p)
+met_apart p = (
+  ((refl, refl), ((refl, refl), ((refl, refl), ((refl, refl), tt)))),
+  (((refl, refl), ((refl, refl), ((refl, refl), tt))), (((refl, refl), ((refl, refl), tt)), (((refl, refl), tt), (tt, tt)))),
+)
+
+met_named : (p : Process) (words : List (List ℕ)) → IsPeer p words → AllByRecursion IsNamed (met p)
+met_named p words is =
+    let i = is.id_below in
+    let n = is.few_nodes in
+    let w = is.few_workers in
+    let f = is.ports_fit in
+    let c = is.few_conns in (
+      (refl, omega (arith, i, n)),
+      ((refl, omega (arith, n)), ((refl, omega (arith, w)), ((refl, omega (arith, f)), ((refl, omega (arith, c)), tt)))),
+    )
+
+peer_takes : (words : List (List ℕ)) (command : Command) → peer_of words ≡ Some command → IsCommand command (codes "peer" ∷ words)
+unfolding peer_of
+peer_takes words command e =
+    let k = length words in
+    let five = held (option_is 5 (option_count k words)) _ command e in
+    let n = bind_some (ranged 1 16 (value_of (codes "nodes") k words)) _ command five.1 in
+    let i = bind_some (ranged 0 (n.0 - 1) (value_of (codes "id") k words)) _ command n.2 in
+    let w = bind_some (ranged 1 8 (value_of (codes "workers") k words)) _ command i.2 in
+    let p = bind_some (ranged 1 (65536 - n.0) (value_of (codes "port") k words)) _ command w.2 in
+    let c = bind_some (ranged 1 1000000 (value_of (codes "conns") k words)) _ command p.2 in
+    let m : Process = process_of i.0 n.0 w.0 p.0 c.0 in
+    let is : Peer m ≡ command = some_same _ command c.2 in
+    let read = are_read k words 5 (counted (option_count k words) 5 five.0) in
+    let ns = ranged_takes 1 16 _ n.0 n.1 in
+    let ids = ranged_takes 0 (n.0 - 1) _ i.0 i.1 in
+    let ws = ranged_takes 1 8 _ w.0 w.1 in
+    let ps = ranged_takes 1 (65536 - n.0) _ p.0 p.1 in
+    let cs = ranged_takes 1 1000000 _ c.0 c.1 in
+    let at : (name : List ℕ) (v : ℕ) → value_of name k words ≡ Some v → first_of name read.given ≡ Some v = λ name v h. sym (read.values name) ∙ h in
+    let order = found_order (met m) read.given (met_apart m) read.many (
+      at (codes "id") i.0 ids.0,
+      (at (codes "nodes") n.0 ns.0, (at (codes "workers") w.0 ws.0, (at (codes "port") p.0 ps.0, (at (codes "conns") c.0 cs.0, tt)))),
+    ) in
+    subst (λ (o : Command). IsCommand o (codes "peer" ∷ words)) is (
+      words,
+      refl,
+      record {
+        id_below = (let some = ns.1 in let below = ids.2 in omega (arith, some, below));
+        few_nodes = ns.2;
+        some_workers = ws.1;
+        few_workers = ws.2;
+        some_port = ps.1;
+        ports_fit = (let few = ns.2 in let below = ps.2 in omega (arith, few, below));
+        some_conns = cs.1;
+        few_conns = cs.2;
+        options = (read.given, order, read.are);
+      },
+    )
+
+peer_again : (p : Process) (words : List (List ℕ)) → IsPeer p words → peer_of words ≡ Some (Peer p)
+unfolding peer_of
+peer_again p words is =
+    let order = is.options.1 in
+    let below = is.id_below in
+    let fits = is.ports_fit in
+    let all = order_all IsNamed (met p) is.options.0 order (met_named p words is) in
+    let again = are_again (length words) is.options.0 words (omega arith) all is.options.2 in
+    let found = order_found (met p) is.options.0 (met_apart p) order in
+    let five : option_is 5 (option_count (length words) words) ≡ true = ap (option_is 5) (again.counted ∙ ap (λ k. Some k) (order_length (met p) is.options.0 order)) in
+    let id = ap (ranged 0 (p.nodes - 1)) (again.values (codes "id") ∙ found.0) ∙ ranged_again 0 (p.nodes - 1) p.id (omega arith) (omega (arith, below)) in
+    let nodes = ap (ranged 1 16) (again.values (codes "nodes") ∙ found.1.0) ∙ ranged_again 1 16 p.nodes (omega (arith, below)) is.few_nodes in
+    let workers = ap (ranged 1 8) (again.values (codes "workers") ∙ found.1.1.0) ∙ ranged_again 1 8 p.workers is.some_workers is.few_workers in
+    let port = ap (ranged 1 (65536 - p.nodes)) (again.values (codes "port") ∙ found.1.1.1.0) ∙ ranged_again 1 (65536 - p.nodes) p.port is.some_port (omega (arith, fits)) in
+    let conns = ap (ranged 1 1000000) (again.values (codes "conns") ∙ found.1.1.1.1.0) ∙ ranged_again 1 1000000 p.conns is.some_conns is.few_conns in
+    rw five (rw nodes (rw (id, workers, port, conns) refl))
+
 -- ---- watch
 abbrev watching : ℕ → List Given
 watching w = option (codes "writes") w ∷ []
@@ -397,11 +475,15 @@ command_takes (name ∷ words) command e = elim (chosen (is_text name (codes "dr
                         elim (chosen (is_text name (codes "serve")) _ _ (Some command) lone.1) [
                           | inl s ↦ subst (λ (w : List ℕ). IsCommand command (w ∷ words)) (sym (text_is name (codes "serve") s.0)) (serve_takes words command s.1)
                           | inr more ↦
-                              elim (chosen (is_text name (codes "watch")) _ _ (Some command) more.1) [
-                                | inl v ↦ subst (λ (w : List ℕ). IsCommand command (w ∷ words)) (sym (text_is name (codes "watch") v.0)) (watch_takes words command v.1)
-                                | inr rest ↦
-                                    let j = held (is_text name (codes "joint-storm")) (joint_storm_of words) command rest.1 in
-                                    subst (λ (w : List ℕ). IsCommand command (w ∷ words)) (sym (text_is name (codes "joint-storm") j.0)) (joint_storm_takes words command j.1)
+                              elim (chosen (is_text name (codes "peer")) _ _ (Some command) more.1) [
+                                | inl m ↦ subst (λ (w : List ℕ). IsCommand command (w ∷ words)) (sym (text_is name (codes "peer") m.0)) (peer_takes words command m.1)
+                                | inr beyond ↦
+                                    elim (chosen (is_text name (codes "watch")) _ _ (Some command) beyond.1) [
+                                      | inl v ↦ subst (λ (w : List ℕ). IsCommand command (w ∷ words)) (sym (text_is name (codes "watch") v.0)) (watch_takes words command v.1)
+                                      | inr rest ↦
+                                          let j = held (is_text name (codes "joint-storm")) (joint_storm_of words) command rest.1 in
+                                          subst (λ (w : List ℕ). IsCommand command (w ∷ words)) (sym (text_is name (codes "joint-storm") j.0)) (joint_storm_takes words command j.1)
+                                    ]
                               ]
                         ]
                   ]
@@ -416,6 +498,7 @@ command_again words Joint is = rw is refl
 command_again words (Generate s c n) is = ap command_of is.1 ∙ generate_again s c n is.0 is.2
 command_again words (Storm opts) is = ap command_of is.1 ∙ storm_again opts is.0 is.2
 command_again words (Serve g) is = ap command_of is.1 ∙ serve_again g is.0 is.2
+command_again words (Peer p) is = ap command_of is.1 ∙ peer_again p is.0 is.2
 command_again words (Watch w) is = ap command_of is.1 ∙ watch_again w is.0 is.2
 command_again words (JointStorm w r) is = ap command_of is.1 ∙ joint_storm_again w r is.0 is.2
 

@@ -7,10 +7,11 @@ use Rattle.hk_storm.specs.Storm.{IsStorm}
 use Rattle.hk_storm.specs.Concluded.{EndsStorm}
 use Rattle.hk_accept.specs.Serving.{EndsServe}
 use Rattle.hk_group.specs.Founding.{IsGroup}
+use Rattle.hk_process.specs.Process.{IsProcess}
 use Rattle.hk_watching.specs.Watching.{EndsWatch}
 use Rattle.hk_joint_storm.specs.Concluded.{EndsJointStorm}
 use Rattle.hk_cli.specs.declared.words.Command.{Command}
-use Rattle.hk_cli.specs.declared.words.Command.TheVariants.{Drill, Joint, Generate, Storm, Serve, Watch, JointStorm}
+use Rattle.hk_cli.specs.declared.words.Command.TheVariants.{Drill, Joint, Generate, Storm, Serve, Peer, Watch, JointStorm}
 use Rattle.hk_cli.specs.Words.{IsCommand}
 
 -- the bytes of each word
@@ -32,6 +33,7 @@ MayEnd Joint status = EndsDrill status
 MayEnd (Generate start count nodes) status = EndsGenerate status
 MayEnd (Storm opts) status = EndsStorm status
 MayEnd (Serve group) status = EndsServe status
+MayEnd (Peer process) status = EndsServe status
 MayEnd (Watch writes) status = EndsWatch status
 MayEnd (JointStorm workers reads) status = EndsJointStorm status
 
@@ -43,5 +45,6 @@ IsInRange (Some Joint) = ⊤
 IsInRange (Some (Generate start count nodes)) = (1 ≤ nodes) × (nodes ≤ 16)
 IsInRange (Some (Storm opts)) = IsStorm opts
 IsInRange (Some (Serve group)) = IsGroup group
+IsInRange (Some (Peer process)) = IsProcess process
 IsInRange (Some (Watch writes)) = ⊤
 IsInRange (Some (JointStorm workers reads)) = ⊤

@@ -1,11 +1,12 @@
 -- What the reader makes of options. That this turns specs/Words.antt around is proved in proofs/.
-use Rattle.std.specs.Prelude.{ℕ, zero, suc, false, ◌+◌, ◌==◌, List, [], ◌∷◌, length, Bool, Option, None, Some, nat_le, if◌then◌else◌, option_and_then, codes, take, drop, position}
+use Rattle.std.specs.Prelude.{ℕ, zero, suc, false, ◌+◌, ◌-◌, ◌==◌, List, [], ◌∷◌, length, Bool, Option, None, Some, nat_le, if◌then◌else◌, option_and_then, codes, take, drop, position}
 use Rattle.std.specs.Option.{option_map}
 use Rattle.hk_base.specs.declared.time.TheConstants.{MAX_TIME}
 use Rattle.hk_cli.specs.Words.{Given, option}
 use Rattle.hk_group.specs.declared.group.Group.{Group}
+use Rattle.hk_process.specs.declared.process.Process.{Process}
 use Rattle.hk_cli.specs.declared.words.Command.{Command}
-use Rattle.hk_cli.specs.declared.words.Command.TheVariants.{Drill, Joint, Generate, Storm, Serve, Watch, JointStorm}
+use Rattle.hk_cli.specs.declared.words.Command.TheVariants.{Drill, Joint, Generate, Storm, Serve, Peer, Watch, JointStorm}
 use Rattle.hk_script.specs.Parts.{is_text, number_64}
 
 -- a word behind its two dashes
@@ -97,6 +98,20 @@ serve_of words =
     (ranged 1 16 (value_of (codes "nodes") (length words) words))
     else None
 
+abbrev pub process_of : ℕ → ℕ → ℕ → ℕ → ℕ → Process
+process_of i n w p c = record { id = i; nodes = n; workers = w; port = p; conns = c }
+
+unfoldable pub peer_of : List (List ℕ) → Option Command
+peer_of words =
+    if option_is 5 (option_count (length words) words) then
+    option_and_then (λ n. option_and_then (λ i. option_and_then (λ w. option_and_then (λ p. option_and_then (λ c. Some (Peer (process_of i n w p c)))
+    (ranged 1 1000000 (value_of (codes "conns") (length words) words)))
+    (ranged 1 (65536 - n) (value_of (codes "port") (length words) words)))
+    (ranged 1 8 (value_of (codes "workers") (length words) words)))
+    (ranged 0 (n - 1) (value_of (codes "id") (length words) words)))
+    (ranged 1 16 (value_of (codes "nodes") (length words) words))
+    else None
+
 unfoldable pub watch_of : List (List ℕ) → Option Command
 watch_of words =
     if option_is 1 (option_count (length words) words) then
@@ -120,5 +135,6 @@ command_of (name ∷ words) =
     else (if is_text name (codes "generate") then generate_of words
     else (if is_text name (codes "storm") then storm_of words
     else (if is_text name (codes "serve") then serve_of words
+    else (if is_text name (codes "peer") then peer_of words
     else (if is_text name (codes "watch") then watch_of words
-    else (if is_text name (codes "joint-storm") then joint_storm_of words else None))))))
+    else (if is_text name (codes "joint-storm") then joint_storm_of words else None)))))))

@@ -1,10 +1,11 @@
 -- The words of a command: specs that are read by a person.
-use Rattle.std.specs.Prelude.{◌≡◌, ◌⊎◌, ℕ, ◌<◌, ◌≤◌, ◌^◌, List, [], ◌∷◌, ◌++◌, Option, None, Some, codes, decimal}
+use Rattle.std.specs.Prelude.{◌≡◌, ◌⊎◌, ℕ, ◌+◌, ◌<◌, ◌≤◌, ◌^◌, List, [], ◌∷◌, ◌++◌, Option, None, Some, codes, decimal}
 use Rattle.hk_base.specs.declared.time.TheConstants.{MAX_TIME}
 use Rattle.hk_storm.specs.declared.opts.StormOpts.{StormOpts}
 use Rattle.hk_group.specs.declared.group.Group.{Group}
+use Rattle.hk_process.specs.declared.process.Process.{Process}
 use Rattle.hk_cli.specs.declared.words.Command.{Command}
-use Rattle.hk_cli.specs.declared.words.Command.TheVariants.{Drill, Joint, Generate, Storm, Serve, Watch, JointStorm}
+use Rattle.hk_cli.specs.declared.words.Command.TheVariants.{Drill, Joint, Generate, Storm, Serve, Peer, Watch, JointStorm}
 
 -- ---- options
 -- an option and its value
@@ -72,6 +73,19 @@ pub record IsServe (g : Group) (words : List (List ℕ)) : Type 0 where
   pub options : GiveEach (option (codes "nodes") g.nodes ∷ option (codes "workers") g.workers ∷ option (codes "managers") g.managers ∷ option (codes "lease") g.lease
       ∷ option (codes "skew") g.skew ∷ option (codes "port") g.port ∷ option (codes "conns") g.conns ∷ []) words
 
+-- one of 1 to 16 nodes, with 1 to 8 workers; a port for each node, from this one on, and 1 to 1,000,000 connections
+pub record IsPeer (p : Process) (words : List (List ℕ)) : Type 0 where
+  pub id_below : p.id < p.nodes
+  pub few_nodes : p.nodes ≤ 16
+  pub some_workers : 1 ≤ p.workers
+  pub few_workers : p.workers ≤ 8
+  pub some_port : 1 ≤ p.port
+  pub ports_fit : p.port + p.nodes ≤ 65536
+  pub some_conns : 1 ≤ p.conns
+  pub few_conns : p.conns ≤ 1000000
+  pub options : GiveEach (option (codes "id") p.id ∷ option (codes "nodes") p.nodes ∷ option (codes "workers") p.workers ∷ option (codes "port") p.port
+      ∷ option (codes "conns") p.conns ∷ []) words
+
 -- 1 to 10,000 writes
 pub record IsWatch (writes : ℕ) (words : List (List ℕ)) : Type 0 where
   pub some_writes : 1 ≤ writes
@@ -93,6 +107,7 @@ IsCommand Joint words = words ≡ codes "joint" ∷ []
 IsCommand (Generate start count nodes) words = (options : List (List ℕ)) × (words ≡ codes "generate" ∷ options) × IsGenerate start count nodes options
 IsCommand (Storm opts) words = (options : List (List ℕ)) × (words ≡ codes "storm" ∷ options) × IsStorm opts options
 IsCommand (Serve group) words = (options : List (List ℕ)) × (words ≡ codes "serve" ∷ options) × IsServe group options
+IsCommand (Peer process) words = (options : List (List ℕ)) × (words ≡ codes "peer" ∷ options) × IsPeer process options
 IsCommand (Watch writes) words = (options : List (List ℕ)) × (words ≡ codes "watch" ∷ options) × IsWatch writes options
 IsCommand (JointStorm workers reads) words = (options : List (List ℕ)) × (words ≡ codes "joint-storm" ∷ options) × IsJointStorm workers reads options
 

@@ -9,11 +9,13 @@ ghost use Rattle.hk_drill.specs.Generated.{generated, summary};
 ghost use Rattle.hk_storm.specs.Stormed.{IsStormed};
 ghost use Rattle.hk_group.specs.declared.group.Group.{Group as GroupOf};
 ghost use Rattle.hk_group.specs.Jobs.{HasServedBeside, own_jobs};
+ghost use Rattle.hk_process.specs.declared.process.Process.{Process as ProcessOf};
+ghost use Rattle.hk_process.specs.Process.{process_jobs};
 ghost use Rattle.hk_watching.specs.Watching.{watched_line};
 ghost use Rattle.hk_joint_storm.specs.Concluded.{IsJointStorm};
 ghost use Rattle.hk_storm.specs.declared.opts.StormOpts.{StormOpts};
 ghost use Rattle.hk_cli.specs.declared.words.Command.{Command as CommandOf};
-ghost use Rattle.hk_cli.specs.declared.words.Command.TheVariants.{Drill, Joint, Generate, Storm, Serve, Watch, JointStorm};
+ghost use Rattle.hk_cli.specs.declared.words.Command.TheVariants.{Drill, Joint, Generate, Storm, Serve, Peer, Watch, JointStorm};
 ghost use Rattle.hk_cli.specs.Words.{IsCommand};
 ghost use Rattle.hk_cli.specs.Commands.{texts, IsNoCommand, usage_line, MayEnd, IsInRange};
 
@@ -22,6 +24,7 @@ use hk_drill::{drill, generate_run, joint};
 use hk_group::serve;
 use hk_joint_storm::joint_storm;
 use hk_outside::{Clock, Doors, Sink, Source, Spawner, Status, write_all};
+use hk_process::serve_process;
 use hk_storm::storm;
 use hk_watching::watch_writes;
 use std::alloc::Global;
@@ -86,6 +89,9 @@ fn perform<
     ensures aside { (group : GroupOf) → command ≡ Some (Serve group) → (source.new ≡ source.old) × (sink.new ≡ sink.old) }
     ensures served { (group : GroupOf) → command ≡ Some (Serve group) → result ≡ Status.Done
         → HasServedBeside (own_jobs group) (D.left doors.old) (D.left doors.new) (P.taken spawner.old) (P.taken spawner.new) group.conns }
+    ensures met { (process : ProcessOf) → command ≡ Some (Peer process) → result ≡ Status.Done
+        → HasServedBeside (process_jobs process) (D.left doors.old) (D.left doors.new) (P.taken spawner.old) (P.taken spawner.new) process.conns }
+    ensures met_aside { (process : ProcessOf) → command ≡ Some (Peer process) → (source.new ≡ source.old) × (sink.new ≡ sink.old) }
     ensures watched { (writes : ℕ) → command ≡ Some (Watch writes) → result ≡ Status.Done → Appends (K.held sink.old) (K.held sink.new) (watched_line writes) }
     ensures watching { (writes : ℕ) → command ≡ Some (Watch writes)
         → (source.new ≡ source.old) × ((n : ℕ) × Appends (K.held sink.old) (K.held sink.new) (take n (watched_line writes))) }
@@ -107,6 +113,9 @@ fn perform<
         ) => generate_run(alloc, start, count, nodes, sink),
         Some(Command::Storm(opts)) => storm(rt, alloc, &opts, &*clock, sink),
         Some(Command::Serve(group)) => serve(rt, alloc, clock, &group, doors, spawner),
+        Some(Command::Peer(process)) => {
+            serve_process(rt, alloc, clock, &process, doors, spawner)
+        }
         Some(Command::Watch { writes }) => watch_writes(rt, alloc, writes, sink),
         Some(Command::JointStorm { workers, reads }) => {
             joint_storm(rt, alloc, workers, reads, &*clock, sink)
@@ -129,13 +138,17 @@ fn perform<
 ///   nodes in turn, each by a thread of its own. Each node has W workers; M managers give leases of L milliseconds, without managers leases are never over. It
 ///   reads no source and writes to no sink.
 ///
+/// - `peer --id I --nodes N --workers W --port P --conns C` runs node I of N in this process, with W workers and without managers, and opens port P + I of 127.0.0.1. Of C
+///   connections those whose first byte is 0 are peers', which bring what other nodes send; at any other a memcached client is served. What is for node J goes to port
+///   P + J. It reads no source and writes to no sink.
+///
 /// - `watch --writes N` writes a key N times in one thread while a watch of it looks in another, and writes one line, which tells the last
 ///   stamp that the watch was told. It reads no source.
 ///
 /// - `joint-storm --workers W --reads R` writes four keys of a shard in W threads, R times in each, while a reader reads all four together R times, and writes whether what it found stood
 ///   together at one moment of the shard's journal. It reads no source.
 ///
-/// For all other words one line is written, which tells the commands, and the status is Usage. Only `serve` touches the doors and the spawner.
+/// For all other words one line is written, which tells the commands, and the status is Usage. Only `serve` and `peer` touch the doors and the spawner.
 pub fn hermes<
     R: Threads + Wait + Copy + Send + Sync + 'static,
     S: Source,
@@ -211,6 +224,11 @@ pub fn hermes<
     ensures served { (group : GroupOf) → IsCommand (Serve group) (texts words.now) → result ≡ Status.Done
         → HasServedBeside (own_jobs group) (D.left doors.old) (D.left doors.new) (P.taken spawner.old) (P.taken spawner.new) group.conns }
     ensures aside { (group : GroupOf) → IsCommand (Serve group) (texts words.now) → (source.new ≡ source.old) × (sink.new ≡ sink.old) }
+
+    // So did a process that is done, with one node of a group, whose own jobs are its workers and a loop for each other node. That these can't be reached is no fault.
+    ensures met { (process : ProcessOf) → IsCommand (Peer process) (texts words.now) → result ≡ Status.Done
+        → HasServedBeside (process_jobs process) (D.left doors.old) (D.left doors.new) (P.taken spawner.old) (P.taken spawner.new) process.conns }
+    ensures met_aside { (process : ProcessOf) → IsCommand (Peer process) (texts words.now) → (source.new ≡ source.old) × (sink.new ≡ sink.old) }
 
     // A watch that is done wrote its line, which is a function of the words. Whatever the answer, what was written is a front of that line, and
     // nothing was read.

@@ -3,11 +3,12 @@
 ghost use Rattle.std.specs.Prelude.{◌≡◌, ◌≤◌, map, length, string_bytes, IfSome};
 ghost use Rattle.hk_cli.specs.Words.{IsCommandRead};
 ghost use Rattle.hk_cli.specs.Commands.{IsInRange};
-ghost use Rattle.hk_cli.specs.Options.{alone, command_of, generate_of, serve_of, storm_of, watch_of, joint_storm_of, option_is, option_count, ranged, value_of};
+ghost use Rattle.hk_cli.specs.Options.{alone, command_of, generate_of, peer_of, serve_of, storm_of, watch_of, joint_storm_of, option_is, option_count, ranged, value_of};
 
 use crate::options::{option_count, value_of};
 use hk_base::MAX_TIME;
 use hk_group::Group;
+use hk_process::Process;
 use hk_storm::StormOpts;
 
 /// What the program is to do.
@@ -23,6 +24,8 @@ pub enum Command {
     Storm(StormOpts),
     /// Serve connections at the nodes of a new group.
     Serve(Group),
+    /// Serve connections at one node of a new group, whose other nodes run in processes of their own.
+    Peer(Process),
     /// Write a key so often in one thread while a watch of it looks in another, and tell the last stamp that the watch was told.
     Watch { writes: u32 },
     /// Write keys in so many threads while a reader reads all of them together so often, and place what it found.
@@ -44,6 +47,7 @@ fn are_options(words: &[String], count: usize) -> bool
 fn ranged(words: &[String], name: &[u8], least: u64, most: u64) -> Option<u64>
     ensures value { result ≡ ranged least most (value_of name.now (length words.now) (map (λ w. string_bytes w) words.now)) }
     ensures within { IfSome result (λ n. n ≤ most) }
+    ensures enough { IfSome result (λ n. least ≤ n) }
 {
     let n = value_of(words, name)?;
     if n < least {
@@ -116,6 +120,27 @@ fn read_serve(words: &[String]) -> Option<Command>
     }))
 }
 
+#[tactic(auto, unfolding(crate::specs::Options::peer_of))]
+fn read_peer(words: &[String]) -> Option<Command>
+    ensures { result ≡ peer_of (map (λ w. string_bytes w) words.now) }
+{
+    if !are_options(words, 5) {
+        return None;
+    }
+    let nodes = ranged(words, b"nodes", 1, 16)?;
+    let id = ranged(words, b"id", 0, nodes - 1)?;
+    let workers = ranged(words, b"workers", 1, 8)?;
+    let port = ranged(words, b"port", 1, 65_536 - nodes)?;
+    let conns = ranged(words, b"conns", 1, 1_000_000)?;
+    Some(Command::Peer(Process {
+        id: id as u8,
+        nodes: nodes as u8,
+        workers: workers as u8,
+        port: port as u16,
+        conns: conns as u32,
+    }))
+}
+
 #[tactic(auto, unfolding(crate::specs::Options::watch_of))]
 fn read_watch(words: &[String]) -> Option<Command>
     ensures { result ≡ watch_of (map (λ w. string_bytes w) words.now) }
@@ -166,6 +191,7 @@ fn read(words: &[String]) -> Option<Command>
         "generate" => read_generate(words),
         "storm" => read_storm(words),
         "serve" => read_serve(words),
+        "peer" => read_peer(words),
         "watch" => read_watch(words),
         "joint-storm" => read_joint_storm(words),
         _ => None,

@@ -1,6 +1,6 @@
 //! One node of a group whose other nodes run in programs of their own.
 
-ghost use Rattle.std.specs.Prelude.{◌≡◌};
+ghost use Rattle.std.specs.Prelude.{◌≡◌, ◌≤◌, ◌<◌, ◌+◌, length, IfOk, OnOk};
 ghost use Rattle.hk_locked.specs.Places.{node_names};
 ghost use Rattle.hk_worker.specs.Founding.{names_of};
 
@@ -71,32 +71,32 @@ fn new_way(alloc: Global, number: u8, lines: &mut Lines) -> Result<Way, Memory> 
     Ok(Way { node, inlet, bell })
 }
 
-// A way to each node of the group but this one.
-fn new_ways(
+// A way more to each node from one number on and below another.
+fn add_ways(
     alloc: Global,
-    node: NodeId,
-    group: &Group,
+    ways: &mut Vec<Way>,
+    from: u8,
+    end: u8,
     lines: &mut Lines,
-) -> Result<Vec<Way>, Memory> {
-    let mut ways = Vec::new(alloc);
-    for number in 0..group.nodes {
-        if u16::from(number) != node.0 {
-            ways.push(new_way(alloc, number, lines)?)?;
-        }
+) -> Result<(), Memory>
+    requires { from ≤ end }
+    ensures { OnOk result (length ways.new.items + from ≡ length ways.old.items + end) }
+{
+    for number in from..end {
+        ways.push(new_way(alloc, number, lines)?)?;
     }
-    Ok(ways)
+    Ok(())
 }
 
-// An outlet to the node whose link is the first, and a way to each other node.
-fn new_links(
-    alloc: Global,
-    node: NodeId,
-    group: &Group,
-    lines: &mut Lines,
-) -> Result<(Outlet, Vec<Way>), Memory> {
-    let ways = new_ways(alloc, node, group, lines)?;
-    let outlet = lines.split_first()?;
-    Ok((outlet, ways))
+// A way to each of so many nodes but the one of this number.
+fn new_ways(alloc: Global, number: u8, nodes: u8, lines: &mut Lines) -> Result<Vec<Way>, Memory>
+    requires { number < nodes }
+    ensures { IfOk result (λ ways. length ways.items + 1 ≡ nodes) }
+{
+    let mut ways = Vec::new(alloc);
+    add_ways(alloc, &mut ways, 0, number, lines)?;
+    add_ways(alloc, &mut ways, number + 1, nodes, lines)?;
+    Ok(ways)
 }
 
 // The workers of a node, and what makes its desks.
@@ -109,7 +109,9 @@ fn new_staff<
     seat: Seat<P>,
     group: &Group,
     lines: &mut Lines,
-) -> Result<(Vec<WorkJob<R, C, P>>, GroupDesks<R, C, P>), Memory> {
+) -> Result<(Vec<WorkJob<R, C, P>>, GroupDesks<R, C, P>), Memory>
+    ensures { IfOk result (λ staff. length staff.0.items ≡ group.now.workers) }
+{
     let mut seats = Vec::new(shared.alloc);
     seats.push(seat)?;
     let workers = shared.workers(&mut seats, group.workers, lines)?;
@@ -122,20 +124,25 @@ impl<
     C: Clock + Send + Sync + Drop + 'static,
     P: Places + Send + Sync + 'static,
 > Member<R, C, P> {
-    /// The node of which these are the shards. It has no managers.
+    /// The node of this number, of which these are the shards. It has no managers.
     pub fn new(
         rt: R,
         alloc: Global,
         clock: Arc<C>,
         founded: Founded,
+        number: u8,
         group: &Group,
     ) -> Result<Member<R, C, P>, Memory>
-        requires { node_names P.places founded.node ≡ names_of founded }
+        requires named { node_names P.places founded.node ≡ names_of founded }
+        requires number { number < group.now.nodes }
+        ensures workers { IfOk result (λ member. length member.workers.items ≡ group.now.workers) }
+        ensures ways { IfOk result (λ member. length member.ways.items + 1 ≡ group.now.nodes) }
     {
         let mut lines = Lines::new(alloc);
         let seat = seat_node::<P>(alloc, founded, &mut lines)?;
         let shared = Shared::new(rt, alloc, clock)?;
-        let (outlet, ways) = new_links(alloc, seat.shards.node(), group, &mut lines)?;
+        let ways = new_ways(alloc, number, group.nodes, &mut lines)?;
+        let outlet = lines.split_first()?;
         let (workers, desks) = new_staff(&shared, seat, group, &mut lines)?;
         let Shared { ending, jobs, .. } = shared;
         Ok(Member {

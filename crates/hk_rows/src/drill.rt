@@ -296,7 +296,7 @@ fn a_line_has_4096_bytes_at_most(rt: HostRuntime) {
 const USAGE: &[u8] = b"usage: hermes drill | generate | storm | serve\n";
 
 // Words that are no command's.
-const NO_COMMANDS: [&[&str]; 16] = [
+const NO_COMMANDS: [&[&str]; 18] = [
     &[],
     &["drill", "now"],
     &["--help"],
@@ -313,6 +313,22 @@ const NO_COMMANDS: [&[&str]; 16] = [
     &["watch", "--writes", "0"],
     &["watch", "--writes", "10001"],
     &["watch", "--writes", "5", "--writes", "5"],
+    &[
+        "peer",
+        "--id=3",
+        "--nodes=3",
+        "--workers=1",
+        "--port=11211",
+        "--conns=1",
+    ],
+    &[
+        "peer",
+        "--id=0",
+        "--nodes=3",
+        "--workers=1",
+        "--port=65534",
+        "--conns=1",
+    ],
     &[
         "serve",
         "--nodes=17",

@@ -1,6 +1,6 @@
 use Rattle.std.proofs.Common.{subst}
 use Rattle.std.specs.Prelude.{IfSome}
-use Rattle.hk_cli.specs.declared.words.Command.TheVariants.{Drill, Joint, Generate, Storm, Serve, Watch, JointStorm}
+use Rattle.hk_cli.specs.declared.words.Command.TheVariants.{Drill, Joint, Generate, Storm, Serve, Peer, Watch, JointStorm}
 use Rattle.hk_cli.specs.Commands.{MayEnd}
 use Rattle.hk_cli.proofs.Ending.{read_is, none_is, is_none}
 use Rattle.hk_cli.proofs.top.hermes.Goals as goal
@@ -76,3 +76,9 @@ returns-clause-watching g c = λ writes is. c.perform.ensures.watching writes (r
 
 pub returns-clause-joint_stormed : goal.returns-clause-joint_stormed
 returns-clause-joint_stormed g c = λ workers reads is. c.perform.ensures.joint_stormed workers reads (read_is _ _ (JointStorm workers reads) c.read_command.ensures.read is)
+
+pub returns-clause-met : goal.returns-clause-met
+returns-clause-met g c = λ process is. c.perform.ensures.met process (read_is _ _ (Peer process) c.read_command.ensures.read is)
+
+pub returns-clause-met_aside : goal.returns-clause-met_aside
+returns-clause-met_aside g c = λ process is. c.perform.ensures.met_aside process (read_is _ _ (Peer process) c.read_command.ensures.read is)

@@ -1,0 +1,19 @@
+-- What a process has of the group that it founds its node in.
+use Rattle.std.proofs.Common.{◌≡◌, ℕ, ◌+◌, ◌<◌, ◌∙◌, Option, ap, subst, sym, arith}
+use Rattle.hk_group.specs.declared.group.Group.{Group}
+use Rattle.hk_group.specs.Jobs.{HasServedBeside}
+use Rattle.hk_process.specs.declared.process.Process.{Process}
+use Rattle.hk_process.specs.Process.{IsProcess, group_of, process_jobs}
+
+pub is_below : (p : Process) (g : Group) → g ≡ group_of p → IsProcess p → p.id < g.nodes
+is_below p g same is = subst (λ (h : Group). p.id < h.nodes) (sym same) is.id
+
+-- what holds of the group that it founds its node in, is said of the process
+pub of_group : (p : Process) (g : Group) (workers ways : ℕ) → g ≡ group_of p → workers ≡ g.workers → ways + 1 ≡ g.nodes → (workers ≡ p.workers) × (ways + 1 ≡ p.nodes)
+of_group p g workers ways same hired paths = (hired ∙ ap (λ (h : Group). h.workers) same, paths ∙ ap (λ (h : Group). h.nodes) same)
+
+-- all jobs of its own were started: a worker for each that it is to have, and a loop for each other node
+pub all_started : (p : Process) (workers senders : ℕ) (left left' taken taken' : Option ℕ) (conns : ℕ) → workers ≡ p.workers → senders + 1 ≡ p.nodes → HasServedBeside (workers + senders) left left' taken taken' conns → HasServedBeside (process_jobs p) left left' taken taken' conns
+all_started p workers senders left left' taken taken' conns hired sent served =
+    let all : workers + senders ≡ process_jobs p = omega (arith, hired, sent) in
+    subst (λ n. HasServedBeside n left left' taken taken' conns) all served

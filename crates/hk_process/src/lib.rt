@@ -1,0 +1,27 @@
+//! A node of a group in a process of its own.
+//!
+//! [`serve_process`] opens the port of one node of a group, without managers, founds the node, and starts threads: the node's workers, a loop for each other node, which
+//! sends what is for that node to its port, and one for each connection that comes. A connection whose first byte is 0 is a peer's, since each frame begins with
+//! that byte: its parcels are put into the link to the node. Any other is a client's, and is served at a desk of its own.
+//!
+//! Nothing is promised of what is sent: a parcel that can't be sent is lost, as one is that comes to a process which has ended. What was lost is sent again while
+//! someone waits for it.
+//!
+//! When so many connections came as were asked for and the clients among them have ended, the workers end, and then the loops that send, once what they were given
+//! is sent. A peer's connection that is still open then is left. How it ends, and what shows it, stands in the contract of `serve_process`; that clients and loops
+//! have ended then is only tested.
+//!
+//! A loop that sends sleeps until something was put for its node. No wait ends by time.
+//!
+//! The caller gives the runtime value, a clock, doors, a spawner, and a process within the limits of `specs/Process.antt`.
+#![tactic(auto)]
+
+mod accept;
+mod process;
+mod route;
+mod sending;
+mod server;
+mod visit;
+
+pub use process::Process;
+pub use server::serve_process;

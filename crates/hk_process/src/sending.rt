@@ -1,0 +1,153 @@
+//! The job that sends what is for one other node.
+
+use crate::route::Forward;
+use crossbeam_utils::sync::WaitGroup;
+use hk_base::{Memory, frame_length};
+use hk_group::{Ending, Way};
+use hk_link::{Bell, Inlet, Parcel};
+use hk_outside::Job;
+use std::alloc::Global;
+use std::sync::{Arc, Wait};
+
+// So many parcels leave together at most, and no more once their frames have so many bytes.
+const PARCELS: u32 = 256;
+
+const BYTES: usize = 65_536;
+
+/// What ends the loops that send, once all that was put is sent.
+#[derive(Drop)]
+pub(crate) struct Sending {
+    pub(crate) ending: Arc<Ending>,
+    /// Those of the ways.
+    pub(crate) bells: Vec<Arc<Bell>>,
+    /// Held by each loop until it has ended.
+    pub(crate) jobs: WaitGroup,
+}
+
+impl Sending {
+    pub(crate) fn new(alloc: Global) -> Result<Sending, Memory> {
+        Ok(Sending {
+            ending: Arc::new(alloc, Ending::new())?,
+            bells: Vec::new(alloc),
+            jobs: WaitGroup::new(alloc)?,
+        })
+    }
+
+    /// The loop over a way.
+    pub(crate) fn job<R: Wait + Drop, F: Drop>(
+        &mut self,
+        rt: R,
+        alloc: Global,
+        forward: F,
+        way: Way,
+    ) -> Result<SendJob<R, F>, Memory> {
+        self.bells.push(Arc::try_clone(&way.bell)?)?;
+        Ok(SendJob {
+            rt,
+            alloc,
+            forward,
+            way,
+            ending: Arc::try_clone(&self.ending)?,
+            jobs: self.jobs.clone()?,
+        })
+    }
+
+    /// Has the loops end once nothing waits to be sent, and returns when they have.
+    pub(crate) fn end<R: Wait>(self, rt: &R) {
+        let Sending {
+            ending,
+            bells,
+            jobs,
+        } = self;
+        ending.tell();
+        for bell in &bells {
+            bell.ring(rt);
+        }
+        jobs.wait(rt);
+    }
+}
+
+/// Sends what is for one other node.
+#[derive(Drop)]
+pub(crate) struct SendJob<R: Wait + Drop, F: Drop> {
+    rt: R,
+    alloc: Global,
+    forward: F,
+    way: Way,
+    ending: Arc<Ending>,
+    // Left when the job is over.
+    jobs: WaitGroup,
+}
+
+// Adds parcels that wait, until the batch is full.
+fn take_batch<R: Wait>(rt: &R, inlet: &mut Inlet, batch: &mut Vec<Parcel>) {
+    let mut bytes: usize = 0;
+    for _ in 0..PARCELS {
+        let Some(parcel) = inlet.take(rt) else {
+            return;
+        };
+        bytes = bytes.saturating_add(frame_length(&parcel.letter));
+        if batch.push(parcel).is_err() || bytes >= BYTES {
+            return;
+        }
+    }
+}
+
+// Sends all that waits.
+fn send_waiting<R: Wait, F: Forward>(
+    rt: &R,
+    forward: &mut F,
+    inlet: &mut Inlet,
+    batch: &mut Vec<Parcel>,
+) {
+    for _ in rt.forever() {
+        take_batch(rt, inlet, batch);
+        if batch.is_empty() {
+            return;
+        }
+        forward.forward(batch.as_slice());
+        batch.clear();
+    }
+}
+
+// Sends what is put until the ending was told and nothing waits any more. It sleeps in between.
+fn go_on<R: Wait, F: Forward>(
+    rt: &R,
+    forward: &mut F,
+    inlet: &mut Inlet,
+    bell: &Bell,
+    ending: &Ending,
+    batch: &mut Vec<Parcel>,
+) {
+    for _ in rt.forever() {
+        let heard = bell.rings();
+        let is_last = ending.is_told();
+        send_waiting(rt, forward, inlet, batch);
+        if is_last {
+            return;
+        }
+        bell.wait(rt, heard);
+    }
+}
+
+impl<R: Wait + Send + Drop + 'static, F: Forward + Send + Drop + 'static> Job for SendJob<R, F> {
+    fn run(self) {
+        let SendJob {
+            rt,
+            alloc,
+            mut forward,
+            way,
+            ending,
+            jobs,
+        } = self;
+        let Way {
+            mut inlet,
+            bell,
+            ..
+        } = way;
+        let mut batch = Vec::new(alloc);
+        go_on(&rt, &mut forward, &mut inlet, &bell, &ending, &mut batch);
+        drop(forward);
+        drop(jobs);
+    }
+}

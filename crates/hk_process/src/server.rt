@@ -1,0 +1,260 @@
+//! The server of one node.
+
+ghost use Rattle.std.specs.Prelude.{◌≡◌, ◌+◌, length, IfOk};
+ghost use Rattle.hk_outside.specs.Causes.{Rose};
+ghost use Rattle.hk_accept.specs.Serving.{EndsServe};
+ghost use Rattle.hk_group.specs.Jobs.{HasServedBeside};
+ghost use Rattle.hk_locked.specs.Places.{node_names};
+ghost use Rattle.hk_worker.specs.Founding.{names_of};
+ghost use Rattle.hk_process.specs.Process.{IsProcess, process_jobs};
+
+use crate::accept::take_visits;
+use crate::process::Process;
+use crate::route::Route;
+use crate::sending::{SendJob, Sending};
+use crate::visit::House;
+use hk_accept::Desks;
+use hk_base::{Memory, NodeId};
+use hk_group::{Member, Way, first_view, found_node, start_each};
+use hk_link::Outlet;
+use hk_locked::Places;
+use hk_outside::{Clock, Doors, Job, Spawner, Status};
+use hk_worker::{Founded, Tickets};
+use std::alloc::Global;
+use std::marker::Brand;
+use std::sync::{Arc, Mutex, Wait};
+
+// The loops that send, each with a dialer of its own.
+fn send_jobs<R: Wait + Copy + Drop, D: Doors>(
+    rt: R,
+    alloc: Global,
+    doors: &D,
+    process: &Process,
+    ways: Vec<Way>,
+    sending: &mut Sending,
+) -> Result<Vec<SendJob<R, Route<D::Dialer>>>, Memory>
+    requires { length ways.items + 1 ≡ process.now.nodes }
+    ensures { IfOk result (λ jobs. length jobs.items + 1 ≡ process.now.nodes) }
+{
+    let mut jobs = Vec::new(alloc);
+    for way in ways {
+        let port = process.port.saturating_add(way.node.0);
+        let route = Route {
+            alloc,
+            dialer: doors.dialer(),
+            port,
+            conn: None,
+        };
+        jobs.push(sending.job(rt, alloc, route, way)?)?;
+    }
+    Ok(jobs)
+}
+
+// Starts the workers, the loops that send, and then a job for each connection that comes.
+#[tactic(auto, using(hk_group::proofs::Started::served_beside))]
+fn serve_conns<
+    R: Wait + Send + Sync + Drop + 'static,
+    W: Job,
+    T: Job,
+    K: Desks + Send + Sync + Drop + 'static,
+    D: Doors,
+    S: Spawner,
+>(
+    rt: &R,
+    alloc: Global,
+    workers: Vec<W>,
+    senders: Vec<T>,
+    house: &Arc<House<R, K>>,
+    conns: u32,
+    doors: &mut D,
+    spawner: &mut S,
+) -> Status
+    ensures ends { EndsServe result }
+    ensures done { result ≡ Status.Done → HasServedBeside (length workers.items + length senders.items) (D.left doors.old) (D.left doors.new) (S.taken spawner.old) (S.taken spawner.new) conns }
+    ensures door_fault { result ≡ Status.DoorFault → Rose (D.faults doors.old) (D.faults doors.new) }
+    ensures spawn_fault { result ≡ Status.SpawnFault → Rose (S.faults spawner.old) (S.faults spawner.new) }
+{
+    if start_each(workers, spawner).is_err() {
+        return Status::SpawnFault;
+    }
+    if start_each(senders, spawner).is_err() {
+        return Status::SpawnFault;
+    }
+    take_visits(rt, alloc, doors, spawner, house, conns)
+}
+
+// Serves the connections, if there was memory for the loops that send and for what the visits share.
+#[tactic(auto, using(crate::proofs::Groups::all_started))]
+fn serve_where<
+    R: Wait + Send + Sync + Drop + 'static,
+    W: Job,
+    T: Job,
+    K: Desks + Send + Sync + Drop + 'static,
+    D: Doors,
+    S: Spawner,
+>(
+    rt: &R,
+    alloc: Global,
+    process: &Process,
+    workers: Vec<W>,
+    senders: Result<Vec<T>, Memory>,
+    house: Result<Arc<House<R, K>>, Memory>,
+    doors: &mut D,
+    spawner: &mut S,
+) -> Status
+    requires workers { length workers.items ≡ process.now.workers }
+    requires senders { IfOk senders (λ jobs. length jobs.items + 1 ≡ process.now.nodes) }
+    ensures ends { EndsServe result }
+    ensures done { result ≡ Status.Done → HasServedBeside (process_jobs process.now) (D.left doors.old) (D.left doors.new) (S.taken spawner.old) (S.taken spawner.new) process.now.conns }
+    ensures door_fault { result ≡ Status.DoorFault → Rose (D.faults doors.old) (D.faults doors.new) }
+    ensures spawn_fault { result ≡ Status.SpawnFault → Rose (S.faults spawner.old) (S.faults spawner.new) }
+{
+    let Ok(senders) = senders else {
+        return Status::Memory;
+    };
+    let Ok(house) = house else {
+        return Status::Memory;
+    };
+    serve_conns(
+        rt,
+        alloc,
+        workers,
+        senders,
+        &house,
+        process.conns,
+        doors,
+        spawner,
+    )
+}
+
+// What all visits of the node share.
+fn new_house<R: Wait + Drop, K: Drop>(
+    rt: R,
+    alloc: Global,
+    node: NodeId,
+    outlet: Outlet,
+    desks: K,
+) -> Result<Arc<House<R, K>>, Memory> {
+    let house = House {
+        rt,
+        alloc,
+        node,
+        outlet: Mutex::new(outlet),
+        desks,
+    };
+    Ok(Arc::new(alloc, house)?)
+}
+
+// Serves the connections, and ends all other loops then: first the workers, so that what they put is sent still.
+fn serve_member<
+    P: Places + Send + Sync + 'static,
+    R: Wait + Copy + Send + Sync + Drop + 'static,
+    C: Clock + Send + Sync + Drop + 'static,
+    D: Doors,
+    S: Spawner,
+>(
+    rt: R,
+    alloc: Global,
+    member: Member<R, C, P>,
+    mut sending: Sending,
+    process: &Process,
+    doors: &mut D,
+    spawner: &mut S,
+) -> Status
+    requires workers { length member.workers.items ≡ process.now.workers }
+    requires ways { length member.ways.items + 1 ≡ process.now.nodes }
+    ensures ends { EndsServe result }
+    ensures done { result ≡ Status.Done → HasServedBeside (process_jobs process.now) (D.left doors.old) (D.left doors.new) (S.taken spawner.old) (S.taken spawner.new) process.now.conns }
+    ensures door_fault { result ≡ Status.DoorFault → Rose (D.faults doors.old) (D.faults doors.new) }
+    ensures spawn_fault { result ≡ Status.SpawnFault → Rose (S.faults spawner.old) (S.faults spawner.new) }
+{
+    let Member {
+        workers,
+        desks,
+        outlet,
+        ways,
+        running,
+    } = member;
+    let node = NodeId(u16::from(process.id));
+    let senders = send_jobs(rt, alloc, doors, process, ways, &mut sending);
+    let house = new_house(rt, alloc, node, outlet, desks);
+    let status = serve_where(&rt, alloc, process, workers, senders, house, doors, spawner);
+    running.end(&rt);
+    sending.end(&rt);
+    status
+}
+
+// Founds the member of the group, and serves connections there.
+#[tactic(auto, using(crate::proofs::Groups::is_below, crate::proofs::Groups::of_group))]
+fn run<
+    P: Places + Send + Sync + 'static,
+    R: Wait + Copy + Send + Sync + Drop + 'static,
+    C: Clock + Send + Sync + Drop + 'static,
+    D: Doors,
+    S: Spawner,
+>(
+    rt: R,
+    alloc: Global,
+    clock: Arc<C>,
+    founded: Founded,
+    sending: Sending,
+    process: &Process,
+    doors: &mut D,
+    spawner: &mut S,
+) -> Status
+    requires process { IsProcess process.now }
+    requires own { founded.node ≡ record { 0 = process.now.id } }
+    requires named { node_names P.places founded.node ≡ names_of founded }
+    ensures ends { EndsServe result }
+    ensures done { result ≡ Status.Done → HasServedBeside (process_jobs process.now) (D.left doors.old) (D.left doors.new) (S.taken spawner.old) (S.taken spawner.new) process.now.conns }
+    ensures door_fault { result ≡ Status.DoorFault → Rose (D.faults doors.old) (D.faults doors.new) }
+    ensures spawn_fault { result ≡ Status.SpawnFault → Rose (S.faults spawner.old) (S.faults spawner.new) }
+{
+    let group = process.group();
+    match Member::<R, C, P>::new(rt, alloc, clock, founded, process.id, &group) {
+        Ok(member) => serve_member(rt, alloc, member, sending, process, doors, spawner),
+        Err(_) => Status::Memory,
+    }
+}
+
+/// Serves connections at one node of a new group, whose other nodes run in processes of their own. It returns when the clients that came have ended, and then the
+/// node's workers and the loops that send to others.
+///
+/// Done: so many connections were taken as the process is to serve, or no more came, and each got a job. Memory: there was none to make the node. DoorFault: the
+/// port could not be opened, or the next connection could not be taken. SpawnFault: a worker, a loop that sends or a connection got no job. Clients that were taken
+/// before are served to their ends. That other nodes can't be reached ends nothing.
+#[tactic(auto, using(crate::proofs::Groups::is_below))]
+pub fn serve_process<
+    R: Wait + Copy + Send + Sync + Drop + 'static,
+    C: Clock + Send + Sync + Drop + 'static,
+    D: Doors,
+    S: Spawner,
+>(rt: R, alloc: Global, clock: Arc<C>, process: &Process, doors: &mut D, spawner: &mut S) -> Status
+    requires { IsProcess process.now }
+    ensures ends { EndsServe result }
+    // A process that is done has started each worker and each loop that sends: its spawner took a job for each of them. It took the stated number of connections, or
+    // all that were left, and its spawner took a job for each of these too.
+    ensures done { result ≡ Status.Done → HasServedBeside (process_jobs process.now) (D.left doors.old) (D.left doors.new) (S.taken spawner.old) (S.taken spawner.new) process.now.conns }
+    ensures door_fault { result ≡ Status.DoorFault → Rose (D.faults doors.old) (D.faults doors.new) }
+    ensures spawn_fault { result ≡ Status.SpawnFault → Rose (S.faults spawner.old) (S.faults spawner.new) }
+{
+    let group = process.group();
+    let Ok(tickets) = Arc::new(alloc, Tickets::new()) else {
+        return Status::Memory;
+    };
+    let Ok(view) = first_view(alloc, group.nodes) else {
+        return Status::Memory;
+    };
+    let Ok(sending) = Sending::new(alloc) else {
+        return Status::Memory;
+    };
+    if doors.open(group.port).is_err() {
+        return Status::DoorFault;
+    }
+    match found_node(&rt, alloc, &view, &group, process.id, &tickets) {
+        Ok(founded) => {
+            run::<Brand, R, C, D, S>(rt, alloc, clock, founded, sending, process, doors, spawner)
+        }
+        Err(_) => Status::Memory,
+    }
+}

@@ -1,0 +1,120 @@
+//! The job of one connection.
+
+ghost use Rattle.std.specs.Io.KnownBytes.{Consumes};
+ghost use Rattle.hk_outside.specs.First.{first_bytes};
+
+use crossbeam_utils::sync::WaitGroup;
+use hk_accept::{Desks, Reception};
+use hk_base::{Memory, NodeId};
+use hk_conn::serve_connection;
+use hk_link::Outlet;
+use hk_outside::{Connection, Job, Primed, Source};
+use hk_peer::serve_peer;
+use std::alloc::Global;
+use std::sync::{Arc, Mutex, Wait};
+
+// The first byte of each frame. No request of a client begins with it.
+const FRAME: u8 = 0;
+
+// How often one key of one request is asked, while it is busy.
+const PATIENCE: u32 = 64;
+
+/// The node that is visited, and what all its visits share.
+#[derive(Drop)]
+pub(crate) struct House<R: Wait + Drop, K: Drop> {
+    pub(crate) rt: R,
+    pub(crate) alloc: Global,
+    pub(crate) node: NodeId,
+    /// Leads to the node. It is split for each peer.
+    pub(crate) outlet: Mutex<Outlet>,
+    pub(crate) desks: K,
+}
+
+/// A connection to be served.
+#[derive(Drop)]
+pub(crate) struct Visit<R: Wait + Drop, N: Drop, K: Drop> {
+    conn: N,
+    house: Arc<House<R, K>>,
+    number: u32,
+    // Left when the visit is over, or known to be a peer's.
+    clients: WaitGroup,
+}
+
+/// Takes in all who come. All visits are of the group of clients until they are over, or known to be a peer's.
+#[derive(Drop)]
+pub(crate) struct Visitors<'a, R: Wait + Drop, K: Drop> {
+    pub(crate) house: &'a Arc<House<R, K>>,
+    pub(crate) clients: &'a WaitGroup,
+}
+
+impl<
+    'a,
+    R: Wait + Send + Sync + Drop + 'static,
+    N: Connection + Send + Drop + 'static,
+    K: Desks + Send + Sync + Drop + 'static,
+> Reception<N> for Visitors<'a, R, K> {
+    type Visit = Visit<R, N, K>;
+
+    fn visit(&self, conn: N, number: u32) -> Result<Visit<R, N, K>, Memory> {
+        let house = Arc::try_clone(self.house)?;
+        let clients = self.clients.clone()?;
+        Ok(Visit {
+            conn,
+            house,
+            number,
+            clients,
+        })
+    }
+}
+
+// The first byte of a connection; none where none comes.
+#[tactic(auto, using(crate::proofs::First::none_read, crate::proofs::First::one_read))]
+fn first_byte<N: Source>(conn: &mut N) -> Option<u8>
+    ensures { Consumes (N.left conn.old) (N.left conn.new) (first_bytes result) }
+{
+    let mut room = [0; 1];
+    let Ok(count) = conn.read(&mut room) else {
+        return None;
+    };
+    if count == 0 {
+        return None;
+    }
+    Some(room[0])
+}
+
+// Puts what a peer sends, to its end. One for whose outlet there is no memory is closed: it may come again.
+fn take_in<R: Wait + Drop, N: Source, K: Drop>(house: &House<R, K>, conn: &mut N) {
+    let split = house.outlet.lock(&house.rt).split();
+    if let Ok(mut outlet) = split {
+        serve_peer(&house.rt, house.alloc, conn, house.node, &mut outlet);
+    }
+}
+
+impl<
+    R: Wait + Send + Sync + Drop + 'static,
+    N: Connection + Send + Drop + 'static,
+    K: Desks + Send + Sync + Drop + 'static,
+> Job for Visit<R, N, K> {
+    fn run(self) {
+        let Visit {
+            mut conn,
+            house,
+            number,
+            clients,
+        } = self;
+        let Some(first) = first_byte(&mut conn) else {
+            return;
+        };
+        let mut primed = Primed::new(first, conn);
+        if first == FRAME {
+            drop(clients);
+            take_in(&house, &mut primed);
+        } else {
+            if let Ok(mut desk) = house.desks.desk(number) {
+                serve_connection(house.alloc, &mut primed, &mut desk, PATIENCE);
+            }
+            drop(primed);
+            drop(clients);
+        }
+    }
+}
