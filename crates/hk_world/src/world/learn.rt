@@ -8,7 +8,7 @@ ghost use Rattle.hk_world.specs.Steps.{held_of, learned};
 ghost use Rattle.hk_world.specs.Posted.{manager_posted};
 
 use super::numbers::numbered;
-use super::post::{first_number, share_letters};
+use super::post::{Sent, first_number, send};
 use crate::shown::Shown;
 use hk_base::{Letter, Letters, Memory, Replies, View};
 use hk_manager::{Manager, ManagerOut};
@@ -48,36 +48,6 @@ fn copy_held(alloc: Global, manager: &Manager, chosen: Option<u64>) -> Result<Op
     Ok(Some(view))
 }
 
-// What is shown of letters that were sent, and of a view that is held.
-#[derive(Drop)]
-struct Sent {
-    letters: Letters,
-    view: Option<View>,
-}
-
-// Sends letters, and copies the view that the manager now holds. After `Memory` nothing is sent.
-fn send(
-    alloc: Global,
-    manager: &Manager,
-    sent: &mut Vec<Letter>,
-    letters: Letters,
-    chosen: Option<u64>,
-) -> Result<Sent, Memory>
-    ensures sent { OnOk result (sent.new.items ≡ sent.old.items ++ letters) }
-    ensures letters { IfOk result (λ told. told.letters ≡ letters) }
-    ensures view { IfOk result (λ told. told.view ≡ held_of chosen manager.now) }
-    ensures err { OnErr result (sent.new.items ≡ sent.old.items) }
-{
-    let view = copy_held(alloc, manager, chosen)?;
-    let same = share_letters(alloc, &letters)?;
-    let mut letters = letters.into_vec();
-    sent.append(&mut letters)?;
-    Ok(Sent {
-        letters: same,
-        view,
-    })
-}
-
 // Learns the view that the manager holds, and sends letters. After `Memory` all is as it was.
 fn learn_and_send(
     alloc: Global,
@@ -94,9 +64,10 @@ fn learn_and_send(
     ensures unlearned { OnErr result (views.new.items ≡ views.old.items) }
     ensures unsent { OnErr result (sent.new.items ≡ sent.old.items) }
 {
+    let view = copy_held(alloc, manager, chosen)?;
     let known = views.len();
     learn(alloc, views, manager.held())?;
-    match send(alloc, manager, sent, letters, chosen) {
+    match send(alloc, sent, letters, view) {
         Ok(told) => Ok(told),
         Err(error) => {
             views.truncate(known);

@@ -32,8 +32,8 @@ pub(super) fn nothing(alloc: Global) -> Shown
     }
 }
 
-/// The same letters, which share keys and contents.
-pub(super) fn share_letters(alloc: Global, letters: &Letters) -> Result<Letters, Memory>
+// The same letters, which share keys and contents.
+fn share_letters(alloc: Global, letters: &Letters) -> Result<Letters, Memory>
     ensures { IfOk result (λ same. same ≡ letters.now) }
 {
     let mut same = Letters::new(alloc);
@@ -74,15 +74,36 @@ pub(super) fn first_number(sent: &Vec<Letter>, letters: &Letters) -> u64
     sent.len() as u64 + 1
 }
 
-// What is shown of letters that were sent, and of a view that was installed.
+/// What is shown of letters that were sent, and of a view that is held or installed.
 #[derive(Drop)]
-struct Sent {
-    letters: Letters,
-    view: Option<View>,
+pub(super) struct Sent {
+    pub(super) letters: Letters,
+    pub(super) view: Option<View>,
 }
 
-// Sends letters, and copies the view that the step installed. After `Memory` nothing is sent.
-fn send(
+/// Sends letters, and shows them beside a view. After `Memory` nothing is sent.
+pub(super) fn send(
+    alloc: Global,
+    sent: &mut Vec<Letter>,
+    letters: Letters,
+    view: Option<View>,
+) -> Result<Sent, Memory>
+    ensures sent { OnOk result (sent.new.items ≡ sent.old.items ++ letters) }
+    ensures letters { IfOk result (λ told. told.letters ≡ letters) }
+    ensures view { IfOk result (λ told. told.view ≡ view) }
+    ensures err { OnErr result (sent.new.items ≡ sent.old.items) }
+{
+    let same = share_letters(alloc, &letters)?;
+    let mut letters = letters.into_vec();
+    sent.append(&mut letters)?;
+    Ok(Sent {
+        letters: same,
+        view,
+    })
+}
+
+// Sends letters, and shows the view that the step installed. After `Memory` nothing is sent.
+fn send_installed(
     alloc: Global,
     node: &Node,
     sent: &mut Vec<Letter>,
@@ -95,13 +116,7 @@ fn send(
     ensures err { OnErr result (sent.new.items ≡ sent.old.items) }
 {
     let view = copy_installed(alloc, node, installed)?;
-    let same = share_letters(alloc, &letters)?;
-    let mut letters = letters.into_vec();
-    sent.append(&mut letters)?;
-    Ok(Sent {
-        letters: same,
-        view,
-    })
+    send(alloc, sent, letters, view)
 }
 
 /// Sends the letters of a step that the node has made, and tells what the step shows. The letters go into the world's list,
@@ -124,7 +139,7 @@ pub(crate) fn post(
     ensures unsent { OnErr result (letters.new.items ≡ letters.old.items) }
 {
     let first_letter = first_number(letters, &out.letters);
-    match send(alloc, node, letters, out.letters, out.installed) {
+    match send_installed(alloc, node, letters, out.letters, out.installed) {
         Ok(sent) => Ok(Shown {
             call,
             view: sent.view,
