@@ -22,7 +22,7 @@ use Rattle.hk_safety.specs.Run.{RunState, world_of}
 use Rattle.hk_safety.specs.Push.{with_event}
 use Rattle.hk_merge.specs.declared.note.Note.{Note}
 use Rattle.hk_merge.specs.Reads.{ReadsAreAnswered}
-use Rattle.hk_merge.specs.Merged.{Item, Step, Look, IsEventOf, IsOf, answers_of, tickets_of, Goes}
+use Rattle.hk_merge.specs.Merged.{Item, Step, LocalRead, IsEventOf, IsOf, answers_of, tickets_of, Goes}
 use Rattle.hk_merge.specs.Shows.{ReadShows}
 use Rattle.hk_merge.proofs.Entries.{found_same, found_other}
 use Rattle.hk_assemble.specs.declared.sent.Sent.{Sent}
@@ -118,22 +118,22 @@ module _ (header : Header) (run : RunState) (sent : Buckets) (kept : Kepts) (fro
 
   -- ---- a Read of a note
   pub look_on : ReadsAreAnswered → (listed : ℕ) (note : Note) (a : Accepted) (answer : Answer) → world_step (world_of run) (Call note.node note.key Read) ≡ Ok a → answers_of a.shown.replies ≡ answer ∷ [] → kept_at listed kept ≡ None →
-      IsAssembly header (with_event run (Call note.node note.key Read)) sent (insert_entry nat_cmp kept listed answer) (front ++ Look listed note ∷ [])
+      IsAssembly header (with_event run (Call note.node note.key Read)) sent (insert_entry nat_cmp kept listed answer) (front ++ LocalRead listed note ∷ [])
   look_on reads listed note a answer accepted answered none = record {
     same = assembly.same;
-    goes = goes_on (Look listed note) (Call note.node note.key Read) a accepted refl;
+    goes = goes_on (LocalRead listed note) (Call note.node note.key Read) a accepted refl;
     counted = ap length tickets_now ∙ (assembly.counted ∙ sym (ap length letters_now));
-    knows = subst (λ (ls : List Letter). Knows sent ls (tickets_of [] (front ++ Look listed note ∷ []))) (sym letters_now)
+    knows = subst (λ (ls : List Letter). Knows sent ls (tickets_of [] (front ++ LocalRead listed note ∷ []))) (sym letters_now)
         (subst (λ (ts : List ℕ). Knows sent (world_of run).letters ts) (sym tickets_now) assembly.knows);
     shows = λ i x at. shown i x (eqb i listed) refl at;
-    keeps = λ i x shows. by_split i x (shows_split (Look listed note) (Call note.node note.key Read) a i x (start header) (world_of run) [] front run.events assembly.goes accepted shows);
+    keeps = λ i x shows. by_split i x (shows_split (LocalRead listed note) (Call note.node note.key Read) a i x (start header) (world_of run) [] front run.events assembly.goes accepted shows);
   }
     where
       letters_now : (world_of (with_event run (Call note.node note.key Read))).letters ≡ (world_of run).letters
       letters_now = ap (λ (w : WorldState). w.letters) (world_more run (Call note.node note.key Read) a accepted) ∙ read_adds reads (world_of run) note.node note.key a accepted
 
-      tickets_now : tickets_of [] (front ++ Look listed note ∷ []) ≡ tickets_of [] front
-      tickets_now = tickets_more [] front (Look listed note)
+      tickets_now : tickets_of [] (front ++ LocalRead listed note ∷ []) ≡ tickets_of [] front
+      tickets_now = tickets_more [] front (LocalRead listed note)
 
       equal : (m n : ℕ) → nat_cmp m n ≡ Equal → m ≡ n
       equal m n e = ranked m n Equal (sym e)
@@ -156,16 +156,16 @@ module _ (header : Header) (run : RunState) (sent : Buckets) (kept : Kepts) (fro
       head_or (x ∷ xs) = x
 
       shown : (i : ℕ) (x : Answer) (b : Bool) → eqb i listed ≡ b → kept_at i (insert_entry nat_cmp kept listed answer) ≡ Some x →
-          ReadShows (start header) (front ++ Look listed note ∷ []) (run.events ++ Call note.node note.key Read ∷ []) i x
+          ReadShows (start header) (front ++ LocalRead listed note ∷ []) (run.events ++ Call note.node note.key Read ∷ []) i x
       shown i x true e at =
           let here : i ≡ listed = eqb-true i listed e in
           let is : answer ≡ x = ap answer_or (sym kept_now ∙ subst (λ (n : ℕ). kept_at n (insert_entry nat_cmp kept listed answer) ≡ Some x) here at) in
-          shows_last (Look listed note) (Call note.node note.key Read) a i x (start header) (world_of run) [] front run.events assembly.goes accepted (sym here, answered ∙ ap (λ (y : Answer). y ∷ []) is)
+          shows_last (LocalRead listed note) (Call note.node note.key Read) a i x (start header) (world_of run) [] front run.events assembly.goes accepted (sym here, answered ∙ ap (λ (y : Answer). y ∷ []) is)
       shown i x false e at =
-          shows_before (Look listed note) (Call note.node note.key Read) a i x (start header) (world_of run) [] front run.events assembly.goes
+          shows_before (LocalRead listed note) (Call note.node note.key Read) a i x (start header) (world_of run) [] front run.events assembly.goes
           (assembly.shows i x (sym (kept_else i (eqb-false i listed e)) ∙ at))
 
-      by_split : (i : ℕ) (x : Answer) → ReadShows (start header) front run.events i x ⊎ LastShows (Look listed note) a i x → kept_at i (insert_entry nat_cmp kept listed answer) ≡ Some x
+      by_split : (i : ℕ) (x : Answer) → ReadShows (start header) front run.events i x ⊎ LastShows (LocalRead listed note) a i x → kept_at i (insert_entry nat_cmp kept listed answer) ≡ Some x
       by_split i x (inr (here, is)) =
           subst (λ (n : ℕ). kept_at n (insert_entry nat_cmp kept listed answer) ≡ Some x) here (kept_now ∙ ap (λ (y : Answer). Some y) (ap head_or (sym answered ∙ is)))
       by_split i x (inl before) = by_test (eqb i listed) refl (assembly.keeps i x before)
@@ -178,10 +178,10 @@ module _ (header : Header) (run : RunState) (sent : Buckets) (kept : Kepts) (fro
           by_test false e at = kept_else i (eqb-false i listed e) ∙ at
 
   pub look_done : ReadsAreAnswered → (listed : ℕ) (note : Note) (answer : Answer) (new : RunState) (now : Kepts) → IsLooked answer run new note.node note.key → kept_at listed kept ≡ None → now ≡ insert_entry nat_cmp kept listed answer →
-      IsAssembly header new sent now (front ++ Look listed note ∷ [])
+      IsAssembly header new sent now (front ++ LocalRead listed note ∷ [])
   look_done reads listed note answer new now (a, accepted, answered, is) none puts =
-      subst (λ (r : RunState). IsAssembly header r sent now (front ++ Look listed note ∷ [])) (sym is)
-      (subst (λ (k : Kepts). IsAssembly header (with_event run (Call note.node note.key Read)) sent k (front ++ Look listed note ∷ [])) (sym puts) (look_on reads listed note a answer accepted answered none))
+      subst (λ (r : RunState). IsAssembly header r sent now (front ++ LocalRead listed note ∷ [])) (sym is)
+      (subst (λ (k : Kepts). IsAssembly header (with_event run (Call note.node note.key Read)) sent k (front ++ LocalRead listed note ∷ [])) (sym puts) (look_on reads listed note a answer accepted answered none))
 
   pub step_done : {U : Type 0} → (done : U) → LettersStayKnown → (node : NodeId) (entry : JournalEntry) (event : Event) (first : ℕ) (new : RunState) (now : Buckets) → IsEventBy sent node entry.ticket entry.event event →
       first ≡ length (world_of run).letters + 1 → IsStepMade {U = U} (Ok done) run new event node entry → now ≡ with_letters sent first entry.ticket entry.letters → IsAssembly header new now kept (front ++ Step node entry ∷ [])

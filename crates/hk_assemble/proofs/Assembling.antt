@@ -11,7 +11,7 @@ use Rattle.hk_world.specs.World.{WorldState}
 use Rattle.hk_world.specs.Start.{start}
 use Rattle.hk_safety.specs.Run.{RunState, world_of}
 use Rattle.hk_merge.specs.declared.note.Note.{Note}
-use Rattle.hk_merge.specs.Merged.{JournalList, Item, Step, Look, In, Rises, journal_or, journal_of, IsFounded, IsItem, AreMerged}
+use Rattle.hk_merge.specs.Merged.{JournalList, Item, Step, LocalRead, In, Rises, journal_or, journal_of, IsFounded, IsItem, AreMerged}
 use Rattle.hk_merge.specs.Shows.{IsKeptAt, ReadShows, KeptIsShown}
 use Rattle.hk_assemble.specs.declared.gap.Gap.{Gap}
 use Rattle.hk_assemble.specs.declared.gap.Gap.TheVariants as G
@@ -27,13 +27,13 @@ holds P (y ∷ items) x all (inl same) = subst P (sym same) all.0
 holds P (y ∷ items) x all (inr more) = holds P items x all.1 more
 
 -- the note whose Read was answered
-look_in : (w : WorldState) (items : List Item) (events : List Event) (listed : ℕ) (answer : Answer) → ReadShows w items events listed answer → (note : Note) × In items (Look listed note)
+look_in : (w : WorldState) (items : List Item) (events : List Event) (listed : ℕ) (answer : Answer) → ReadShows w items events listed answer → (note : Note) × In items (LocalRead listed note)
 look_in w [] events listed answer shows = absurd shows
 look_in w (Step n entry ∷ items) [] listed answer shows = absurd shows
-look_in w (Look i note ∷ items) [] listed answer shows = absurd shows
+look_in w (LocalRead i note ∷ items) [] listed answer shows = absurd shows
 look_in w (Step n entry ∷ items) (e ∷ events) listed answer (a, ok, shows) = let m = look_in a.world items events listed answer shows in (m.0, inr m.1)
-look_in w (Look i note ∷ items) (e ∷ events) listed answer (a, ok, inl (same, is)) = (note, inl (ap (λ (k : ℕ). Look k note) (sym same)))
-look_in w (Look i note ∷ items) (e ∷ events) listed answer (a, ok, inr shows) = let m = look_in a.world items events listed answer shows in (m.0, inr m.1)
+look_in w (LocalRead i note ∷ items) (e ∷ events) listed answer (a, ok, inl (same, is)) = (note, inl (ap (λ (k : ℕ). LocalRead k note) (sym same)))
+look_in w (LocalRead i note ∷ items) (e ∷ events) listed answer (a, ok, inr shows) = let m = look_in a.world items events listed answer shows in (m.0, inr m.1)
 
 some_note : (a b : Note) → Some a ≡ Some b → a ≡ b
 some_note a b e = ap or e
@@ -67,7 +67,7 @@ module _ (header : Header) (journals : JournalList) (notes : List Note) (items :
   told_founded : (listed : ℕ) (note : Note) (answer : Answer) → slice_get notes listed ≡ Some note → kept_at listed kept ≡ Some answer → IsFounded journals note
   told_founded listed note answer lists is =
       let l = look_in (start header) items run.events listed answer (assembly.shows listed answer is) in
-      let item : IsItem journals notes (Look listed l.0) = holds (IsItem journals notes) items (Look listed l.0) merged_is.only l.1 in
+      let item : IsItem journals notes (LocalRead listed l.0) = holds (IsItem journals notes) items (LocalRead listed l.0) merged_is.only l.1 in
       subst (λ (n : Note). IsFounded journals n) (some_note l.0 note (sym item.0 ∙ lists)) item.1
 
   kept_is : (listed : ℕ) (note : Note) (o : Option Answer) → slice_get notes listed ≡ Some note → kept_at listed kept ≡ o → IsKept header journals items note o

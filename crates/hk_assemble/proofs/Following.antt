@@ -19,7 +19,7 @@ use Rattle.hk_world.specs.Steps.{Accepted, acts, calls_at, world_step}
 use Rattle.hk_safety.specs.Run.{RunState, world_with, world_from, world_of}
 use Rattle.hk_safety.specs.Push.{with_event}
 use Rattle.hk_merge.specs.Reads.{ReadsAreAnswered}
-use Rattle.hk_merge.specs.Merged.{Item, Step, Look, IsOf, IsEventOf, answers_of, tickets_after, tickets_of, Goes}
+use Rattle.hk_merge.specs.Merged.{Item, Step, LocalRead, IsOf, IsEventOf, answers_of, tickets_after, tickets_of, Goes}
 use Rattle.hk_merge.specs.Shows.{ReadShows}
 use Rattle.hk_merge.proofs.Asides.{live_step, takes_step}
 
@@ -93,7 +93,7 @@ read_adds reads w id key a e = call_adds w id key a e ∙ (ap (λ (l : List Lett
 -- the item is the note of that place, and its Read was answered this
 abbrev pub LastShows : Item → Accepted → ℕ → Answer → Type 0
 LastShows (Step node entry) a listed answer = ⊥
-LastShows (Look i note) a listed answer = (i ≡ listed) × (answers_of a.shown.replies ≡ answer ∷ [])
+LastShows (LocalRead i note) a listed answer = (i ≡ listed) × (answers_of a.shown.replies ≡ answer ∷ [])
 
 accepted_or : Accepted → Result Accepted Refused → Accepted
 accepted_or b (Ok a) = a
@@ -111,9 +111,9 @@ module _ (item : Item) (event : Event) (a : Accepted) (listed : ℕ) (answer : A
   shows_before w last tickets (x ∷ items) [] goes shows = absurd goes
   shows_before w last tickets (Step n entry ∷ items) (e ∷ events) (b, ok, is, goes) (c, okc, shows) =
       (b, ok, shows_before b.world last (tickets_after tickets (Step n entry)) items events goes (subst (λ (d : Accepted). ReadShows d.world items events listed answer) (sym (ok_is b c (sym ok ∙ okc))) shows))
-  shows_before w last tickets (Look i note ∷ items) (e ∷ events) (b, ok, is, goes) (c, okc, inl here) = (c, okc, inl here)
-  shows_before w last tickets (Look i note ∷ items) (e ∷ events) (b, ok, is, goes) (c, okc, inr shows) =
-      (b, ok, inr (shows_before b.world last (tickets_after tickets (Look i note)) items events goes (subst (λ (d : Accepted). ReadShows d.world items events listed answer) (sym (ok_is b c (sym ok ∙ okc))) shows)))
+  shows_before w last tickets (LocalRead i note ∷ items) (e ∷ events) (b, ok, is, goes) (c, okc, inl here) = (c, okc, inl here)
+  shows_before w last tickets (LocalRead i note ∷ items) (e ∷ events) (b, ok, is, goes) (c, okc, inr shows) =
+      (b, ok, inr (shows_before b.world last (tickets_after tickets (LocalRead i note)) items events goes (subst (λ (d : Accepted). ReadShows d.world items events listed answer) (sym (ok_is b c (sym ok ∙ okc))) shows)))
 
   -- what the last item shows is shown
   pub shows_last : (w last : WorldState) (tickets : List ℕ) (items : List Item) (events : List Event) → Goes w tickets items events last → world_step last event ≡ Ok a → LastShows item a listed answer →
@@ -122,11 +122,11 @@ module _ (item : Item) (event : Event) (a : Accepted) (listed : ℕ) (answer : A
     where
       at_item : (i : Item) → LastShows i a listed answer → ReadShows w (i ∷ []) (event ∷ []) listed answer
       at_item (Step n entry) shows = absurd shows
-      at_item (Look i note) shows = (a, ap (λ (v : WorldState). world_step v event) (sym goes) ∙ accepted, inl shows)
+      at_item (LocalRead i note) shows = (a, ap (λ (v : WorldState). world_step v event) (sym goes) ∙ accepted, inl shows)
   shows_last w last tickets [] (e ∷ events) goes accepted shows = absurd goes
   shows_last w last tickets (x ∷ items) [] goes accepted shows = absurd goes
   shows_last w last tickets (Step n entry ∷ items) (e ∷ events) (b, ok, is, goes) accepted shows = (b, ok, shows_last b.world last (tickets_after tickets (Step n entry)) items events goes accepted shows)
-  shows_last w last tickets (Look i note ∷ items) (e ∷ events) (b, ok, is, goes) accepted shows = (b, ok, inr (shows_last b.world last (tickets_after tickets (Look i note)) items events goes accepted shows))
+  shows_last w last tickets (LocalRead i note ∷ items) (e ∷ events) (b, ok, is, goes) accepted shows = (b, ok, inr (shows_last b.world last (tickets_after tickets (LocalRead i note)) items events goes accepted shows))
 
   -- and nothing else
   pub shows_split : (w last : WorldState) (tickets : List ℕ) (items : List Item) (events : List Event) → Goes w tickets items events last → world_step last event ≡ Ok a →
@@ -135,9 +135,9 @@ module _ (item : Item) (event : Event) (a : Accepted) (listed : ℕ) (answer : A
     where
       at_item : (i : Item) → ReadShows w (i ∷ []) (event ∷ []) listed answer → LastShows i a listed answer
       at_item (Step n entry) (c, okc, none) = absurd none
-      at_item (Look i note) (c, okc, inl (same, is)) =
+      at_item (LocalRead i note) (c, okc, inl (same, is)) =
           (same, subst (λ (d : Accepted). answers_of d.shown.replies ≡ answer ∷ []) (ok_is c a (sym okc ∙ (ap (λ (v : WorldState). world_step v event) (sym goes) ∙ accepted))) is)
-      at_item (Look i note) (c, okc, inr none) = absurd none
+      at_item (LocalRead i note) (c, okc, inr none) = absurd none
   shows_split w last tickets [] (e ∷ events) goes accepted shows = absurd goes
   shows_split w last tickets (x ∷ items) [] goes accepted shows = absurd goes
   shows_split w last tickets (Step n entry ∷ items) (e ∷ events) (b, ok, is, goes) accepted (c, okc, shows) =
@@ -146,10 +146,10 @@ module _ (item : Item) (event : Event) (a : Accepted) (listed : ℕ) (answer : A
       on : ReadShows b.world items events listed answer ⊎ LastShows item a listed answer → ReadShows w (Step n entry ∷ items) (e ∷ events) listed answer ⊎ LastShows item a listed answer
       on (inl before) = inl (b, ok, before)
       on (inr here) = inr here
-  shows_split w last tickets (Look i note ∷ items) (e ∷ events) (b, ok, is, goes) accepted (c, okc, inl here) = inl (c, okc, inl here)
-  shows_split w last tickets (Look i note ∷ items) (e ∷ events) (b, ok, is, goes) accepted (c, okc, inr shows) =
-      on (shows_split b.world last (tickets_after tickets (Look i note)) items events goes accepted (subst (λ (d : Accepted). ReadShows d.world (items ++ item ∷ []) (events ++ event ∷ []) listed answer) (sym (ok_is b c (sym ok ∙ okc))) shows))
+  shows_split w last tickets (LocalRead i note ∷ items) (e ∷ events) (b, ok, is, goes) accepted (c, okc, inl here) = inl (c, okc, inl here)
+  shows_split w last tickets (LocalRead i note ∷ items) (e ∷ events) (b, ok, is, goes) accepted (c, okc, inr shows) =
+      on (shows_split b.world last (tickets_after tickets (LocalRead i note)) items events goes accepted (subst (λ (d : Accepted). ReadShows d.world (items ++ item ∷ []) (events ++ event ∷ []) listed answer) (sym (ok_is b c (sym ok ∙ okc))) shows))
     where
-      on : ReadShows b.world items events listed answer ⊎ LastShows item a listed answer → ReadShows w (Look i note ∷ items) (e ∷ events) listed answer ⊎ LastShows item a listed answer
+      on : ReadShows b.world items events listed answer ⊎ LastShows item a listed answer → ReadShows w (LocalRead i note ∷ items) (e ∷ events) listed answer ⊎ LastShows item a listed answer
       on (inl before) = inl (b, ok, inr before)
       on (inr here) = inr here

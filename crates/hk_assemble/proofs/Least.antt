@@ -9,7 +9,7 @@ use Rattle.hk_node.specs.declared.event.NodeEvent.{NodeEvent}
 use Rattle.hk_node.specs.declared.event.NodeEvent.TheVariants.{Receive}
 use Rattle.hk_journal.specs.declared.step_entry.JournalEntry.{JournalEntry}
 use Rattle.hk_merge.specs.Reads.{IsMerged}
-use Rattle.hk_merge.specs.Merged.{Item, Step, Look, In}
+use Rattle.hk_merge.specs.Merged.{Item, Step, LocalRead, In}
 use Rattle.hk_merge.specs.Same.{same_letter, SameIsEqual}
 use Rattle.hk_assemble.specs.declared.gap.Gap.TheVariants as G
 use Rattle.hk_assemble.specs.Assembled.{IsSent, IsLeastSent, TakesUnsent}
@@ -78,7 +78,7 @@ module _ (same : SameIsEqual) (letter : Letter) where
           some_same : (a t : ℕ) → Some a ≡ Some t → a ≡ t
           some_same a t e = cc
       by_test false is e = cc
-  sends_it (Look listed note) items t e = cc
+  sends_it (LocalRead listed note) items t e = cc
 
   it_sends : (item : Item) (node : NodeId) (entry : JournalEntry) (t : ℕ) → Step node entry ≡ item → In entry.letters letter → t ≡ entry.ticket → ticket_of letter item ≡ Some t
   it_sends item node entry t is has at = ap (ticket_of letter) (sym is) ∙ (ap (λ (b : Bool). if b then Some entry.ticket else None) (in_any entry.letters has) ∙ ap (λ (n : ℕ). Some n) (sym at))

@@ -28,7 +28,7 @@ use Rattle.hk_safety.specs.Run.{RunState, world_of}
 use Rattle.hk_merge.specs.declared.note.Note.{Note}
 use Rattle.hk_merge.specs.Aside.{alive}
 use Rattle.hk_merge.specs.Reads.{IsMerged, ReadsAreAnswered, read_answer}
-use Rattle.hk_merge.specs.Merged.{JournalList, Item, Step, Look, In, Rises, journal_or, journal_of, place_of, place_cmp, IsFounded, IsItem, IsFirst, IsEventOf, IsOf, answers_of, tickets_after, tickets_of, Goes, AreMerged}
+use Rattle.hk_merge.specs.Merged.{JournalList, Item, Step, LocalRead, In, Rises, journal_or, journal_of, place_of, place_cmp, IsFounded, IsItem, IsFirst, IsEventOf, IsOf, answers_of, tickets_after, tickets_of, Goes, AreMerged}
 use Rattle.hk_merge.specs.Shows.{IsKeptAt, ReadShows, KeptIsShown}
 use Rattle.hk_merge.specs.Single.{MergedIsSingle}
 use Rattle.hk_merge.proofs.Between.{never_both}
@@ -112,7 +112,7 @@ event_one letters tickets node ticket made a b x y = absurd x
 
 of_one : (item : Item) (letters : List Letter) (tickets : List ℕ) (a b : Event) (sa sb : Shown) → IsOf item letters tickets a sa → IsOf item letters tickets b sb → a ≡ b
 of_one (Step node entry) letters tickets a b sa sb x y = event_one letters tickets node entry.ticket entry.event a b x.0 y.0
-of_one (Look listed note) letters tickets a b sa sb x y = x ∙ sym y
+of_one (LocalRead listed note) letters tickets a b sa sb x y = x ∙ sym y
 
 -- ---- one run
 record Same (ea eb : List Event) (la lb : WorldState) : Type 0 where
@@ -183,7 +183,7 @@ module _ (reads : ReadsAreAnswered) (all : List Item) where
       let adds : a.world.letters ≡ w.letters ++ entry.letters = event_adds w tickets node entry.ticket entry.event event a is ok ∙ ap (λ (l : List Letter). w.letters ++ l) letters in
       subst (λ (l : List Letter). SentBy all l (tickets ++ map (λ (x : Letter). entry.ticket) entry.letters)) (sym adds)
       (sent_join all w.letters tickets entry.letters (map (λ (x : Letter). entry.ticket) entry.letters) sent (sent_of all node entry there entry.letters (λ l has. has)))
-  item_sent w tickets (Look listed note) event a there sent is ok =
+  item_sent w tickets (LocalRead listed note) event a there sent is ok =
       subst (λ (l : List Letter). SentBy all l tickets) (sym (read_adds reads w note.node note.key a (ap (λ (v : Event). world_step w v) (sym is) ∙ ok))) sent
 
   goes_sent : (w last : WorldState) (tickets : List ℕ) (items : List Item) (events : List Event) → ((x : Item) → In items x → In all x) → SentBy all w.letters tickets → Goes w tickets items events last → SentBy all last.letters (tickets_of tickets items)
@@ -334,13 +334,13 @@ module _ (place : Item → List ℕ) where
       never_twice x y same (head_below x (more ++ (y ∷ back)) y rest (in_middle more y back))
 
 -- the note whose Read was answered
-look_in : (w : WorldState) (items : List Item) (events : List Event) (listed : ℕ) (answer : Answer) → ReadShows w items events listed answer → (note : Note) × In items (Look listed note)
+look_in : (w : WorldState) (items : List Item) (events : List Event) (listed : ℕ) (answer : Answer) → ReadShows w items events listed answer → (note : Note) × In items (LocalRead listed note)
 look_in w [] events listed answer shows = absurd shows
 look_in w (Step n entry ∷ items) [] listed answer shows = absurd shows
-look_in w (Look i note ∷ items) [] listed answer shows = absurd shows
+look_in w (LocalRead i note ∷ items) [] listed answer shows = absurd shows
 look_in w (Step n entry ∷ items) (e ∷ events) listed answer (a, ok, shows) = let m = look_in a.world items events listed answer shows in (m.0, inr m.1)
-look_in w (Look i note ∷ items) (e ∷ events) listed answer (a, ok, inl (same, is)) = (note, inl (ap (λ (k : ℕ). Look k note) (sym same)))
-look_in w (Look i note ∷ items) (e ∷ events) listed answer (a, ok, inr shows) = let m = look_in a.world items events listed answer shows in (m.0, inr m.1)
+look_in w (LocalRead i note ∷ items) (e ∷ events) listed answer (a, ok, inl (same, is)) = (note, inl (ap (λ (k : ℕ). LocalRead k note) (sym same)))
+look_in w (LocalRead i note ∷ items) (e ∷ events) listed answer (a, ok, inr shows) = let m = look_in a.world items events listed answer shows in (m.0, inr m.1)
 
 alive_one : (a b : NodeState) → Some (alive a) ≡ Some (alive b) → a ≡ b
 alive_one a b e = ap (λ (p : Process). p.node) (some_is (alive a) (alive b) e)
@@ -399,27 +399,27 @@ module _ (reads : ReadsAreAnswered) (shown : KeptIsShown) (header : Header) (jou
   kept_same note (Some a) (Some b) x y = ap (λ (k : Answer). Some k) (kept_one note a b x y)
 
   -- ---- what a note's Read shows
-  twice : (i : ℕ) (note : Note) (rest : List Item) (listed : ℕ) → Sorted (place_of journals) (Look i note ∷ rest) → AllByRecursion (IsItem journals notes) (Look i note ∷ rest) → i ≡ listed → (other : Note) × In rest (Look listed other) → ⊥
+  twice : (i : ℕ) (note : Note) (rest : List Item) (listed : ℕ) → Sorted (place_of journals) (LocalRead i note ∷ rest) → AllByRecursion (IsItem journals notes) (LocalRead i note ∷ rest) → i ≡ listed → (other : Note) × In rest (LocalRead listed other) → ⊥
   twice i note rest listed sorted only here (other, there) =
-      let item : IsItem journals notes (Look listed other) = holds (IsItem journals notes) rest (Look listed other) only.1 there in
+      let item : IsItem journals notes (LocalRead listed other) = holds (IsItem journals notes) rest (LocalRead listed other) only.1 there in
       let same : note ≡ other = some_is note other (sym only.0.0 ∙ (ap (λ (k : ℕ). slice_get notes k) here ∙ item.0)) in
-      let one : Look i note ≡ Look listed other = ap (λ (k : ℕ). Look k note) here ∙ ap (λ (n : Note). Look listed n) same in
-      never_twice (place_of journals) (Look i note) (Look listed other) (ap (place_of journals) one) (head_below (place_of journals) (Look i note) rest (Look listed other) sorted there)
+      let one : LocalRead i note ≡ LocalRead listed other = ap (λ (k : ℕ). LocalRead k note) here ∙ ap (λ (n : Note). LocalRead listed n) same in
+      never_twice (place_of journals) (LocalRead i note) (LocalRead listed other) (ap (place_of journals) one) (head_below (place_of journals) (LocalRead i note) rest (LocalRead listed other) sorted there)
 
   shows_one : (w : WorldState) (rest : List Item) (events : List Event) (listed : ℕ) (a b : Answer) → Sorted (place_of journals) rest → AllByRecursion (IsItem journals notes) rest → ReadShows w rest events listed a → ReadShows w rest events listed b → a ≡ b
   shows_one w [] events listed a b sorted only x y = absurd x
   shows_one w (Step n entry ∷ rest) [] listed a b sorted only x y = absurd x
-  shows_one w (Look i note ∷ rest) [] listed a b sorted only x y = absurd x
+  shows_one w (LocalRead i note ∷ rest) [] listed a b sorted only x y = absurd x
   shows_one w (Step n entry ∷ rest) (e ∷ events) listed a b sorted only (p, okp, x) (q, okq, y) =
       shows_one p.world rest events listed a b (sorted_tail place_cmp (place_of journals (Step n entry)) (map (place_of journals) rest) sorted) only.1 x
       (subst (λ (d : Accepted). ReadShows d.world rest events listed b) (ok_is q p (world_step w e) okq okp) y)
-  shows_one w (Look i note ∷ rest) (e ∷ events) listed a b sorted only (p, okp, inl x) (q, okq, inl y) =
+  shows_one w (LocalRead i note ∷ rest) (e ∷ events) listed a b sorted only (p, okp, inl x) (q, okq, inl y) =
       head_is a b [] [] (sym x.1 ∙ (ap (λ (d : Accepted). answers_of d.shown.replies) (ok_is p q (world_step w e) okp okq) ∙ y.1))
-  shows_one w (Look i note ∷ rest) (e ∷ events) listed a b sorted only (p, okp, inr x) (q, okq, inr y) =
-      shows_one p.world rest events listed a b (sorted_tail place_cmp (place_of journals (Look i note)) (map (place_of journals) rest) sorted) only.1 x
+  shows_one w (LocalRead i note ∷ rest) (e ∷ events) listed a b sorted only (p, okp, inr x) (q, okq, inr y) =
+      shows_one p.world rest events listed a b (sorted_tail place_cmp (place_of journals (LocalRead i note)) (map (place_of journals) rest) sorted) only.1 x
       (subst (λ (d : Accepted). ReadShows d.world rest events listed b) (ok_is q p (world_step w e) okq okp) y)
-  shows_one w (Look i note ∷ rest) (e ∷ events) listed a b sorted only (p, okp, inl x) (q, okq, inr y) = absurd (twice i note rest listed sorted only x.0 (look_in q.world rest events listed b y))
-  shows_one w (Look i note ∷ rest) (e ∷ events) listed a b sorted only (p, okp, inr x) (q, okq, inl y) = absurd (twice i note rest listed sorted only y.0 (look_in p.world rest events listed a x))
+  shows_one w (LocalRead i note ∷ rest) (e ∷ events) listed a b sorted only (p, okp, inl x) (q, okq, inr y) = absurd (twice i note rest listed sorted only x.0 (look_in q.world rest events listed b y))
+  shows_one w (LocalRead i note ∷ rest) (e ∷ events) listed a b sorted only (p, okp, inr x) (q, okq, inl y) = absurd (twice i note rest listed sorted only y.0 (look_in p.world rest events listed a x))
 
   -- ---- the cases
   first_sent : (front : List Item) (x : Item) (back : List Item) → items ≡ front ++ (x ∷ back) → (events : List Event) (world : WorldState) → Goes (start header) [] front events world → SentBy items world.letters (tickets_of [] front)
@@ -448,11 +448,11 @@ module _ (reads : ReadsAreAnswered) (shown : KeptIsShown) (header : Header) (jou
     where
       node_or : NodeId → Item → NodeId
       node_or n (Step m e) = m
-      node_or n (Look i note) = n
+      node_or n (LocalRead i note) = n
 
       entry_or : JournalEntry → Item → JournalEntry
       entry_or e (Step m d) = d
-      entry_or e (Look i note) = e
+      entry_or e (LocalRead i note) = e
 
       by_places : Places fx.front (Step fx.node fx.entry) fx.back fy.front (Step fy.node fy.entry) fy.back → x ≡ y
       by_places (inl (front, item)) =
@@ -474,7 +474,7 @@ module _ (reads : ReadsAreAnswered) (shown : KeptIsShown) (header : Header) (jou
       founded : IsFounded journals note
       founded =
           let l = look_in (start header) items events listed note.answer told in
-          let item : IsItem journals notes (Look listed l.0) = item_is (Look listed l.0) l.1 in
+          let item : IsItem journals notes (LocalRead listed l.0) = item_is (LocalRead listed l.0) l.1 in
           subst (λ (n : Note). IsFounded journals n) (some_is l.0 note (sym item.0 ∙ f.lists)) item.1
 
       by_kept : (k : Option Answer) → IsKept header journals items note k → k ≢ Some note.answer → ⊥

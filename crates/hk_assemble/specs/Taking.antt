@@ -10,7 +10,7 @@ use Rattle.hk_journal.specs.declared.step_entry.JournalEntry.{JournalEntry}
 use Rattle.hk_world.specs.declared.event.Event.{Event}
 use Rattle.hk_world.specs.declared.event.Event.TheVariants.{Call, Take, Resend, Replay}
 use Rattle.hk_world.specs.World.{WorldState}
-use Rattle.hk_merge.specs.Merged.{Item, Step, Look}
+use Rattle.hk_merge.specs.Merged.{Item, Step, LocalRead}
 use Rattle.hk_merge.specs.Same.{same_letter}
 use Rattle.hk_assemble.specs.declared.gap.Gap.{Gap}
 use Rattle.hk_assemble.specs.declared.gap.Gap.TheVariants as G
@@ -24,7 +24,7 @@ is_copy letter copy = same_letter copy letter
 
 abbrev pub ticket_of : Letter → Item → Option ℕ
 ticket_of letter (Step node entry) = if list_any (is_copy letter) entry.letters then Some entry.ticket else None
-ticket_of letter (Look listed note) = None
+ticket_of letter (LocalRead listed note) = None
 
 abbrev pub lower_of : Option ℕ → Option ℕ → Option ℕ
 lower_of (Some a) (Some b) = Some (min a b)

@@ -5,7 +5,7 @@ ghost use Rattle.std.specs.Ordering.{nat_cmp};
 ghost use Rattle.std.specs.BTreeMap.{insert_entry};
 ghost use Rattle.hk_world.specs.declared.event.Header.{Header};
 ghost use Rattle.hk_world.specs.Sound.{IsHeader};
-ghost use Rattle.hk_merge.specs.Merged.{Item, Step, Look};
+ghost use Rattle.hk_merge.specs.Merged.{Item, Step, LocalRead};
 ghost use Rattle.hk_merge.specs.Placed.{item_of};
 ghost use Rattle.hk_assemble.specs.Assembly.{kept_at};
 ghost use Rattle.hk_assemble.specs.Assemblies.{IsOn, IsLookTaken, IsNext, IsFollowed};
@@ -85,7 +85,7 @@ impl Assembly {
 
     // Makes the Read of a note.
     fn look(&mut self, alloc: Global, listed: u64, note: &Note) -> Result<(), Memory>
-        ensures { (header : Header) (front : List Item) → IsOn header self.old front → IsLookTaken result self.new header front (Look listed note.now) }
+        ensures { (header : Header) (front : List Item) → IsOn header self.old front → IsLookTaken result self.new header front (LocalRead listed note.now) }
     {
         reads_leave();
         let answer = look(&mut self.run, alloc, note.node, &note.key)?;
@@ -98,7 +98,7 @@ impl Assembly {
     {
         match slot {
             Slot::Step { node, entry } => self.step(alloc, slots, *node, entry),
-            Slot::Look { listed, note } => {
+            Slot::LocalRead { listed, note } => {
                 self.look(alloc, *listed, note)?;
                 Ok(())
             }

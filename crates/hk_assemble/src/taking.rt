@@ -38,7 +38,7 @@ fn ticket_of(slot: &Slot<'_>, letter: &Letter) -> Option<u64>
                 None
             }
         }
-        Slot::Look { .. } => None,
+        Slot::LocalRead { .. } => None,
     }
 }
 

@@ -8,8 +8,8 @@ use Rattle.hk_request.specs.declared.request.Request.TheVariants as request
 use Rattle.hk_request.specs.declared.request.StoreHead.{StoreHead}
 use Rattle.hk_conn.specs.declared.said.Said.{Said}
 use Rattle.hk_conn.specs.declared.said.Said.TheVariants as said
-use Rattle.hk_conn.specs.declared.said.Turn.{Turn}
-use Rattle.hk_conn.specs.declared.said.Turn.TheVariants as turn
+use Rattle.hk_conn.specs.declared.said.ReaderStep.{ReaderStep}
+use Rattle.hk_conn.specs.declared.said.ReaderStep.TheVariants as turn
 use Rattle.hk_conn.specs.declared.said.Stop.{Stop}
 use Rattle.hk_conn.specs.declared.said.Stop.TheVariants as stop
 use Rattle.hk_conn.specs.Heard.{told_of, heard}
@@ -108,7 +108,7 @@ says_ends m b d mid new h h' c c' s l t r n = record {
 }
 
 -- what is no stop is no line that is too long
-pub goes_on : (t : Turn) (s : Said) → t ≡ turn.Says s → None ≡ stop_at s → t ≢ turn.Says said.LongLine
+pub goes_on : (t : ReaderStep) (s : Said) → t ≡ turn.Says s → None ≡ stop_at s → t ≢ turn.Says said.LongLine
 goes_on t s is none long = let same : s ≡ said.LongLine = cc in absurd (let stops : None ≡ Some stop.TooLong = rw same at none in cc)
 
 pub says_none : (m : ℕ) (a b d : Option (List Asked)) (old mid new : List ℕ) (p : Place) (h h' : Option StoreHead) (c c' : Cutting) (s : Said) → Replying m a b old mid p (replies_from m (record { pending = h; cutting = c })) → Turns (turn.Says s) h c h' c' → Replied m b d mid new s → None ≡ stop_at s → Replying m a d old new p (replies_from m (record { pending = h'; cutting = c' })) × (length c'.unread < length c.unread)

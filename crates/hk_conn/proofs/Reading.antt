@@ -16,8 +16,8 @@ use Rattle.hk_request.specs.declared.request.RequestFault.{RequestFault}
 use Rattle.hk_request.specs.declared.request.Head.{Head}
 use Rattle.hk_conn.specs.declared.said.Said.{Said}
 use Rattle.hk_conn.specs.declared.said.Said.TheVariants.{Refused, LongLine}
-use Rattle.hk_conn.specs.declared.said.Turn.{Turn}
-use Rattle.hk_conn.specs.declared.said.Turn.TheVariants as turn
+use Rattle.hk_conn.specs.declared.said.ReaderStep.{ReaderStep}
+use Rattle.hk_conn.specs.declared.said.ReaderStep.TheVariants as turn
 use Rattle.hk_conn.specs.Said.{said_block, said_in}
 use Rattle.hk_conn.specs.Turns.{said_after, IsReader, bytes_with, IsLess, Turns, after_line, LineTurns}
 use Rattle.hk_conn.proofs.Sayings.{line_said, long_said, short_said, last_block}
@@ -75,7 +75,7 @@ no_block c r s = at (line_end (take 65538 c.unread)) refl (nat_le (c.limit + 2) 
     at None e false f = let g : (line_step c None).step ≡ Block = rw (step_line c r, e) at s in let k : Need ≡ Block = rw f at g in cc
     at None e true f = let g : (line_step c None).step ≡ Block = rw (step_line c r, e) at s in let k : TooLong ≡ Block = rw f at g in cc
 
-less_any : (t : Turn) (n m : ℕ) → n < m → IsLess t n m
+less_any : (t : ReaderStep) (n m : ℕ) → n < m → IsLess t n m
 less_any (turn.Says s) n m h = λ e. h
 less_any turn.Head n m h = h
 less_any turn.Need n m h = tt
@@ -95,7 +95,7 @@ line_reader c c1 r s e free =
     none zero u n h f = refl
     none (suc d) u n h f = absurd (let e : u ≡ [] = f (omega arith) in let k : n + 2 ≤ length {A = ℕ} [] = rw e at h in omega (arith, k))
 
-pub line_turns : (t : Turn) (c c1 c' : Cutting) (p' : Option StoreHead) → IsReader c None → (stepped c).step ≡ Line → c1 ≡ (stepped c).rest → LineTurns t (head_of c1.given) c1 p' c' → Turns t None c p' c'
+pub line_turns : (t : ReaderStep) (c c1 c' : Cutting) (p' : Option StoreHead) → IsReader c None → (stepped c).step ≡ Line → c1 ≡ (stepped c).rest → LineTurns t (head_of c1.given) c1 p' c' → Turns t None c p' c'
 line_turns t c c1 c' p' r s e lt =
     let f = line_facts c r s in
     let same : c1 ≡ giving c f.0 (f.0 + 2) = e ∙ f.3 in

@@ -10,8 +10,8 @@ use Rattle.hk_request.specs.declared.request.Head.TheVariants.{Whole, Store}
 use Rattle.hk_request.specs.declared.request.RequestFault.{RequestFault}
 use Rattle.hk_conn.specs.declared.said.Said.{Said}
 use Rattle.hk_conn.specs.declared.said.Said.TheVariants.{Refused, LongLine}
-use Rattle.hk_conn.specs.declared.said.Turn.{Turn}
-use Rattle.hk_conn.specs.declared.said.Turn.TheVariants.{Says, Head as AHead, Need}
+use Rattle.hk_conn.specs.declared.said.ReaderStep.{ReaderStep}
+use Rattle.hk_conn.specs.declared.said.ReaderStep.TheVariants.{Says, Head as AHead, Need}
 use Rattle.hk_conn.specs.Said.{said_in, said_whole, store_at, Taken, is_last}
 
 -- a block is due where a head is kept, and else a line
@@ -28,7 +28,7 @@ pub record IsReader (c : Cutting) (pending : Option StoreHead) : Type 0 where
   pub free : 0 < c.dropping → c.unread ≡ []
 
 -- the reader goes on behind a turn, unless that said that a line is too long
-abbrev pub GoesOn : Turn → Cutting → Option StoreHead → Type 0
+abbrev pub GoesOn : ReaderStep → Cutting → Option StoreHead → Type 0
 GoesOn t c pending = t ≢ Says LongLine → IsReader c pending
 
 -- the bytes that are unread, once more came
@@ -48,19 +48,19 @@ said_after (Some h) bytes = onto_block (store_at h 0 bytes) bytes
 abbrev pub ahead : Option StoreHead → Cutting → List ℕ → List Said
 ahead pending c more = said_after pending (bytes_with c more)
 
-abbrev pub onto_turn : Turn → List Said → List Said
+abbrev pub onto_turn : ReaderStep → List Said → List Said
 onto_turn (Says s) rest = s ∷ (if is_last s then [] else rest)
 onto_turn AHead rest = rest
 onto_turn Need rest = rest
 
 -- less is unread after a turn that said something and was not the last
-abbrev pub IsLess : Turn → ℕ → ℕ → Type 0
+abbrev pub IsLess : ReaderStep → ℕ → ℕ → Type 0
 IsLess (Says s) n m = is_last s ≡ false → n < m
 IsLess AHead n m = n < m
 IsLess Need n m = Unit {0}
 
 -- a turn gives what is said next, whatever comes
-pub record Turns (t : Turn) (p : Option StoreHead) (c : Cutting) (p' : Option StoreHead) (c' : Cutting) : Type 0 where
+pub record Turns (t : ReaderStep) (p : Option StoreHead) (c : Cutting) (p' : Option StoreHead) (c' : Cutting) : Type 0 where
   pub next : (more : List ℕ) → ahead p c more ≡ onto_turn t (ahead p' c' more)
   pub need : t ≡ Need → ahead p' c' [] ≡ []
   pub less : IsLess t (length c'.unread) (length c.unread)
@@ -72,7 +72,7 @@ after_line (Ok (Whole r)) bytes = said_whole r ∷ (if is_last (said_whole r) th
 after_line (Ok (Store h)) bytes = said_after (Some h) bytes
 
 -- a turn gives what a line says, whatever comes
-pub record LineTurns (t : Turn) (line : Result Head RequestFault) (c : Cutting) (p' : Option StoreHead) (c' : Cutting) : Type 0 where
+pub record LineTurns (t : ReaderStep) (line : Result Head RequestFault) (c : Cutting) (p' : Option StoreHead) (c' : Cutting) : Type 0 where
   pub next : (more : List ℕ) → after_line line (bytes_with c more) ≡ onto_turn t (ahead p' c' more)
   pub some : t ≡ Need → ⊥
   pub less : length c'.unread ≤ length c.unread

@@ -6,7 +6,7 @@ ghost use Rattle.hk_conn.specs.Serving.{place_of, Passes, ReplyStops, stop_at};
 
 use crate::answer::answer;
 use crate::reader::Reader;
-use crate::said::{Said, Stop, Turn};
+use crate::said::{ReaderStep, Said, Stop};
 use hk_base::Memory;
 use hk_outside::Desk;
 use std::alloc::Global;
@@ -28,9 +28,9 @@ pub fn pass<D: Desk>(
 {
     loop {
         match reader.turn(alloc) {
-            Ok(Turn::Need) => return Ok(Stop::Need),
-            Ok(Turn::Head) => {}
-            Ok(Turn::Says(said)) => {
+            Ok(ReaderStep::Need) => return Ok(Stop::Need),
+            Ok(ReaderStep::Head) => {}
+            Ok(ReaderStep::Says(said)) => {
                 match reply(desk, patience, said, out) {
                     Ok(None) => {}
                     Ok(Some(stop)) => return Ok(stop),

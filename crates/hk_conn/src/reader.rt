@@ -10,7 +10,7 @@ ghost use Rattle.hk_conn.specs.Turns.{GoesOn, IsReader, Turns, LineTurns};
 ghost use Rattle.hk_conn.specs.Pieces.{Pieces};
 
 use crate::ends::ConnEnd;
-use crate::said::{Said, Turn};
+use crate::said::{ReaderStep, Said};
 use crate::stream::read_some;
 use hk_base::Memory;
 use hk_lines::{Cutter, Step};
@@ -65,7 +65,7 @@ impl Reader {
     }
 
     /// The next that was said, if all of it is there.
-    pub fn turn(&mut self, alloc: Global) -> Result<Turn, Memory>
+    pub fn turn(&mut self, alloc: Global) -> Result<ReaderStep, Memory>
         requires { IsReader self.old.cutter self.old.pending }
         ensures reader { IfOk result (λ t. GoesOn t self.new.cutter self.new.pending) }
         ensures turns { IfOk result (λ t. Turns t self.old.pending self.old.cutter self.new.pending self.new.cutter) }
@@ -76,7 +76,7 @@ impl Reader {
         }
     }
 
-    fn line_turn(&mut self, alloc: Global) -> Result<Turn, Memory>
+    fn line_turn(&mut self, alloc: Global) -> Result<ReaderStep, Memory>
         requires reader { IsReader self.old.cutter None }
         requires pending { self.old.pending ≡ None }
         ensures reader { IfOk result (λ t. GoesOn t self.new.cutter self.new.pending) }
@@ -84,13 +84,13 @@ impl Reader {
     {
         match self.cutter.next() {
             Step::Line => self.line(alloc),
-            Step::TooLong => Ok(Turn::Says(Said::LongLine)),
-            Step::Need => Ok(Turn::Need),
-            Step::Block => Ok(Turn::Need),
+            Step::TooLong => Ok(ReaderStep::Says(Said::LongLine)),
+            Step::Need => Ok(ReaderStep::Need),
+            Step::Block => Ok(ReaderStep::Need),
         }
     }
 
-    fn line(&mut self, alloc: Global) -> Result<Turn, Memory>
+    fn line(&mut self, alloc: Global) -> Result<ReaderStep, Memory>
         requires reader { IsReader self.old.cutter None }
         requires free { self.old.cutter.dropping < 2 ^ 63 }
         requires pending { self.old.pending ≡ None }
@@ -98,24 +98,24 @@ impl Reader {
         ensures turns { IfOk result (λ t. LineTurns t (head_of self.old.cutter.given) self.old.cutter self.new.pending self.new.cutter) }
     {
         match read_request(alloc, self.cutter.given()) {
-            Ok(Head::Whole(Request::Quit)) => Ok(Turn::Says(Said::Left)),
-            Ok(Head::Whole(request)) => Ok(Turn::Says(Said::Asked(request))),
+            Ok(Head::Whole(Request::Quit)) => Ok(ReaderStep::Says(Said::Left)),
+            Ok(Head::Whole(request)) => Ok(ReaderStep::Says(Said::Asked(request))),
             Ok(Head::Store(head)) => {
                 self.cutter.expect_block(head.bytes);
                 self.pending = Some(head);
-                Ok(Turn::Head)
+                Ok(ReaderStep::Head)
             }
             Err(fault) => match fault.cause {
                 RequestCause::Memory => Err(Memory),
                 _ => {
                     self.cutter.skip(fault.skip);
-                    Ok(Turn::Says(Said::Refused(fault.cause)))
+                    Ok(ReaderStep::Says(Said::Refused(fault.cause)))
                 }
             },
         }
     }
 
-    fn block_turn(&mut self, alloc: Global, head: StoreHead) -> Result<Turn, Memory>
+    fn block_turn(&mut self, alloc: Global, head: StoreHead) -> Result<ReaderStep, Memory>
         requires reader { IsReader self.old.cutter (Some head) }
         requires pending { self.old.pending ≡ None }
         ensures reader { OnOk result (IsReader self.new.cutter self.new.pending) }
@@ -124,11 +124,11 @@ impl Reader {
         match self.cutter.next() {
             Step::Block => {
                 let said = self.block(alloc, head)?;
-                Ok(Turn::Says(said))
+                Ok(ReaderStep::Says(said))
             }
             _ => {
                 self.pending = Some(head);
-                Ok(Turn::Need)
+                Ok(ReaderStep::Need)
             }
         }
     }

@@ -19,7 +19,7 @@ pub enum Said {
 
 /// What a turn of the reader gave.
 #[derive(Drop)]
-pub enum Turn {
+pub enum ReaderStep {
     Says(Said),
     /// The line of a store, whose block is due now.
     Head,

@@ -1,3 +1,3 @@
 mod Options
 mod Finding
-pub mod Followed
+pub mod Following

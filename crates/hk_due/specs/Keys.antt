@@ -5,7 +5,7 @@ use Rattle.std.specs.List.{find, filter}
 use Rattle.std.specs.BTreeMap.{is_at}
 use Rattle.std.specs.Map.{lookup}
 use Rattle.hk_copy.specs.Batches.{key_cmp}
-use Rattle.hk_node.specs.declared.report.Former.{Former}
+use Rattle.hk_node.specs.declared.report.PriorRow.{PriorRow}
 use Rattle.hk_node.specs.Rows.{Rows}
 use Rattle.hk_node.specs.Report.{AreChanged}
 use Rattle.hk_node.specs.Open.{is_behind}
@@ -69,10 +69,10 @@ pub record AreOpen (keys : OpenState) (rows : Rows) : Type 0 where
 
 -- A step that changed these rows is followed.
 abbrev pub FollowingKeepsThem : Type 0
-FollowingKeepsThem = (changed : List Former) (old new : Rows) (ticket : ℕ) (before after : OpenState) →
+FollowingKeepsThem = (changed : List PriorRow) (old new : Rows) (ticket : ℕ) (before after : OpenState) →
     AreChanged changed old new → AreNoted new ticket (map (λ f. f.key) changed) before after → AreOpen before old → AreOpen after new
 
 -- A key that is open before and after the step keeps its ticket, unless it is missing.
 abbrev pub OpenKeysStay : Type 0
-OpenKeysStay = (changed : List Former) (old new : Rows) (ticket since : ℕ) (key : List ℕ) (before after : OpenState) →
+OpenKeysStay = (changed : List PriorRow) (old new : Rows) (ticket since : ℕ) (key : List ℕ) (before after : OpenState) →
     AreNoted new ticket (map (λ f. f.key) changed) before after → after.whole ≡ true → is_open_at new key ≡ true → since_of key before ≡ Some since → since_of key after ≡ Some since

@@ -9,7 +9,7 @@ ghost use Rattle.hk_due.specs.Keys.{since_of, AreOthersSame, IsKept, IsMissed, I
 
 use crate::due::{Due, due_at};
 use hk_base::{Key, Memory, State};
-use hk_node::{Former, Node};
+use hk_node::{Node, PriorRow};
 use std::alloc::Global;
 use std::collections::BTreeMap;
 use std::marker::Model;
@@ -120,12 +120,12 @@ impl OpenKeys {
 
     /// A step of this ticket made the node `part`, and changed the rows of these keys. It looks at these rows alone. Where memory is wanting, keys are missing
     /// from then on.
-    pub fn follow(&mut self, changed: &[Former], part: &Node, ticket: u64)
+    pub fn follow(&mut self, changed: &[PriorRow], part: &Node, ticket: u64)
         ensures { AreNoted part.now.rows ticket (map (λ f. f.key) changed.now) self.old self.new }
     {
-        for former in changed {
-            let found_open = is_open(part, &former.key);
-            self.note(&former.key, found_open, ticket);
+        for prior in changed {
+            let found_open = is_open(part, &prior.key);
+            self.note(&prior.key, found_open, ticket);
         }
     }
 

@@ -13,7 +13,7 @@ use Rattle.hk_node.specs.Rows.{Rows, row_at, with_row}
 use Rattle.hk_node.specs.Node.{NodeState}
 use Rattle.hk_node.specs.Sound.{IsNode}
 use Rattle.hk_node.specs.Copies.{is_valid, copies_of, batch_behind, merged}
-use Rattle.hk_effects.specs.View.{is_same_key, is_behind, first_item, item_at, covers}
+use Rattle.hk_effects.specs.Projection.{is_same_key, is_behind, first_item, item_at, covers}
 use Rattle.hk_effects.proofs.Order.{IsBelow, same_of, same_not, cases_key, cases_three, below_differs, above_differs, below_of_test, test_of_below, row-with_same, row-with_other}
 use Rattle.hk_effects.proofs.Rising.{RisesBehind, item_keys, next_cursor, not_down, bound_differs, not_behind_itself, not_behind_greater, rows_rise, after_is_behind, keys_of_copies, rest_rises, cursor_steps, behind_last}
 

@@ -14,7 +14,7 @@ use Rattle.hk_world.specs.Sound.{IsHeader, IsEvent, IsWorld}
 use Rattle.hk_managed.specs.Runs.{IsRun}
 use Rattle.hk_managed.specs.Council.{WorldsAgree}
 use Rattle.hk_managed.specs.Guarded.{Ended as HasEnded, Earned}
-use Rattle.hk_effects.specs.View.{Trace, node_at, traced}
+use Rattle.hk_effects.specs.Projection.{Trace, node_at, traced}
 use Rattle.hk_effects.specs.Own.{IsLed, IsOwn, IsGuarded, Ended}
 use Rattle.hk_effects.specs.Laws.{EventIsEffects}
 use Rattle.hk_effects.specs.Runs.{start_trace, Follows, IsKept, RunsKeepParts}

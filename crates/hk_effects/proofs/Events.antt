@@ -19,7 +19,7 @@ use Rattle.hk_world.specs.declared.event.Event.TheVariants.{Call, Take, Tick, Ti
 use Rattle.hk_world.specs.declared.process.Process.{Process}
 use Rattle.hk_world.specs.World.{WorldState, process_at, put_process, node_of, numbered, last_view}
 use Rattle.hk_world.specs.Steps.{Accepted, acts, aside, nothing, live, live_actor, ticks_at, manager_ticks_at, process_ticked, all_tick, crashes_at, manager_crashes_at, joining, starts_at, unmanaged as only_unmanaged, agrees as changes_view, installs_at, leases_at, world_step}
-use Rattle.hk_effects.specs.View.{key_node, node_at, letters_of, Trace, view}
+use Rattle.hk_effects.specs.Projection.{key_node, node_at, letters_of, Trace, project}
 use Rattle.hk_effects.specs.Own.{IsOwn, IsTrace, Agrees}
 use Rattle.hk_effects.specs.Laws.{EventIsEffects}
 use Rattle.hk_effects.proofs.Frames.{items_said}
@@ -27,12 +27,12 @@ use Rattle.hk_effects.proofs.Processes.{node-put_same, node-put_other}
 use Rattle.hk_effects.proofs.Nodes.{quiet_node}
 use Rattle.hk_effects.proofs.Rests.{ticked_node}
 use Rattle.hk_effects.proofs.Accepting.{alive, makes, with_processes, with_managers, live_manager_step, unmanaged_step, live_step, any_actor_step, ticks_step, any_tick_step, manager_ticks_step, manager_crashes_step, crashes_step, any_starts_step, changes_step, installs_step, leases_step}
-use Rattle.hk_effects.proofs.Lives.{accepts, IsEffects, IsLive, OwesLive, here, lives, stepped_effect, aside_effect}
+use Rattle.hk_effects.proofs.LiveSteps.{accepts, IsEffects, IsLive, OwesLive, here, lives, stepped_effect, aside_effect}
 use Rattle.hk_effects.proofs.Takes.{GivesOwed, TakesOwed, InstallsOwed, manager_effect, take_effect}
 use Rattle.hk_effects.proofs.Calls.{call_effect}
 use Rattle.hk_effects.proofs.Rows.{resend_owed, replay_owed, asks_owed}
 
-module _ (V : ℕ → List ℕ) (key : List ℕ) (t : Trace) (parts : Parts V (view key t)) (own : IsOwn t.world) (agrees : Agrees t.world V) (tok : IsTrace t) where
+module _ (V : ℕ → List ℕ) (key : List ℕ) (t : Trace) (parts : Parts V (project key t)) (own : IsOwn t.world) (agrees : Agrees t.world V) (tok : IsTrace t) where
   abbrev Is : Event → Accepted → Type 0
   Is event a = IsEffects V key t parts own agrees tok event a
 
@@ -49,7 +49,7 @@ module _ (V : ℕ → List ℕ) (key : List ℕ) (t : Trace) (parts : Parts V (v
 
   -- a step that changes nothing of any key
   calm_step : (x : NodeState) (alive : IsLive V key t parts own agrees tok x) (y : NodeState) → key_node key (Some y) ≡ key_node key (Some x) → OwesLive V key t parts own agrees tok x alive (idle y) []
-  calm_step x alive y same = quiet_node V (view key t) parts key x (here V key t parts own agrees tok x alive) (idle y) [] same refl refl
+  calm_step x alive y same = quiet_node V (project key t) parts key x (here V key t parts own agrees tok x alive) (idle y) [] same refl refl
 
   -- no node acts, and nothing is sent
   beside : (event : Event) (next : WorldState) (v : Option View) (a : Accepted) → ((m : ℕ) → key_node key (node_at m next.processes) ≡ key_node key (node_at m t.world.processes)) →
@@ -121,7 +121,7 @@ module _ (V : ℕ → List ℕ) (key : List ℕ) (t : Trace) (parts : Parts V (v
       asking b = cond b (record { node = x; letters = record { epoch = epoch_of x; from = A.Node x.id; to = A.Manager manager; body = LeaseAsk x.clock } ∷ []; told = []; installed = None }) (idle x)
 
       by_there : (b : Bool) → OwesLive V key t parts own agrees tok x alive (asking b) (items_said key (AskLease x.id manager) (t.world.calls + 1) x (asking b))
-      by_there true = quiet_node V (view key t) parts key x (here V key t parts own agrees tok x alive) (asking true) [] refl refl refl
+      by_there true = quiet_node V (project key t) parts key x (here V key t parts own agrees tok x alive) (asking true) [] refl refl refl
       by_there false = calm_step x alive x refl
 
   -- ---- the table
@@ -148,9 +148,9 @@ module _ (V : ℕ → List ℕ) (key : List ℕ) (t : Trace) (parts : Parts V (v
 
 -- What remains to be shown of batches and views, at every moment.
 pub record AreOwed : Type 0 where
-  pub gives : (V : ℕ → List ℕ) (key : List ℕ) (t : Trace) (parts : Parts V (view key t)) (own : IsOwn t.world) (agrees : Agrees t.world V) (tok : IsTrace t) → GivesOwed V key t parts own agrees tok
-  pub takes : (V : ℕ → List ℕ) (key : List ℕ) (t : Trace) (parts : Parts V (view key t)) (own : IsOwn t.world) (agrees : Agrees t.world V) (tok : IsTrace t) → TakesOwed V key t parts own agrees tok
-  pub installs : (V : ℕ → List ℕ) (key : List ℕ) (t : Trace) (parts : Parts V (view key t)) (own : IsOwn t.world) (agrees : Agrees t.world V) (tok : IsTrace t) → InstallsOwed V key t parts own agrees tok
+  pub gives : (V : ℕ → List ℕ) (key : List ℕ) (t : Trace) (parts : Parts V (project key t)) (own : IsOwn t.world) (agrees : Agrees t.world V) (tok : IsTrace t) → GivesOwed V key t parts own agrees tok
+  pub takes : (V : ℕ → List ℕ) (key : List ℕ) (t : Trace) (parts : Parts V (project key t)) (own : IsOwn t.world) (agrees : Agrees t.world V) (tok : IsTrace t) → TakesOwed V key t parts own agrees tok
+  pub installs : (V : ℕ → List ℕ) (key : List ℕ) (t : Trace) (parts : Parts V (project key t)) (own : IsOwn t.world) (agrees : Agrees t.world V) (tok : IsTrace t) → InstallsOwed V key t parts own agrees tok
 
 pub event_is_effects : AreOwed → EventIsEffects
 event_is_effects owed V key t event a e is own agrees tok parts =

@@ -19,7 +19,7 @@ use Rattle.hk_world.specs.declared.process.ManagerProcess.{ManagerProcess}
 use Rattle.hk_world.specs.World.{process_at, manager_at, by_number, node_of, numbered}
 use Rattle.hk_world.specs.Start.{counted, founding_view, founding_process, founding_manager, start}
 use Rattle.hk_world.specs.Sound.{IsHeader, IsWorld}
-use Rattle.hk_effects.specs.View.{key_node, node_at, view}
+use Rattle.hk_effects.specs.Projection.{key_node, node_at, project}
 use Rattle.hk_effects.specs.Own.{IsOwn, IsTrace, Agrees}
 use Rattle.hk_effects.specs.Runs.{start_trace, IsKept}
 use Rattle.hk_effects.proofs.Processes.{numbered_node, equal_numbers, number_itself}
@@ -142,7 +142,7 @@ founders_trace h = record {
 -- a node of the key is a founder's, or an absent one's
 module _ (h : Header) (key : List ℕ) where
   abbrev Start : State
-  Start = view key (start_trace h)
+  Start = project key (start_trace h)
 
   pub founders_parts : (V : ℕ → List ℕ) → Agrees (start h) V → Parts V Start
   founders_parts V agrees = record {

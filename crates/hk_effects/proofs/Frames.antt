@@ -12,7 +12,7 @@ use Rattle.hk_node.specs.Stepped.{Stepped}
 use Rattle.hk_world.specs.declared.event.Event.{Event}
 use Rattle.hk_world.specs.World.{WorldState, put_process}
 use Rattle.hk_world.specs.Steps.{Accepted, with_step, shown_of}
-use Rattle.hk_effects.specs.View.{key_node, node_at, letter_of, letters_of, Trace, view, step_marks, told_at, items_of, updates_of, traced}
+use Rattle.hk_effects.specs.Projection.{key_node, node_at, letter_of, letters_of, Trace, project, step_marks, told_at, items_of, updates_of, traced}
 use Rattle.hk_effects.proofs.Processes.{node-put_same, node-put_other}
 
 pub in_letters_append : (key : List ℕ) (xs ys : List Wire) (l : Letter) → In (letters_of key (xs ++ ys)) l → In (letters_of key xs) l ⊎ In (letters_of key ys) l
@@ -39,7 +39,7 @@ items_said key event call x o = items_of key event call (key_node key (Some x)) 
 
 -- The step of a node, from one key: a change of the register's node, with all that is marked and said.
 pub step_change : (key : List ℕ) (t : Trace) (event : Event) (calls : ℕ) (paces : Paces) (call : Option CallNo) (id : NodeId) (x : NodeState) (o : Stepped) → node_at id.0 t.world.processes ≡ Some x →
-    Change (view key t) (view key (traced key t event (accepted t.world id x o calls paces call))) id.0 (key_node key (Some o.node))
+    Change (project key t) (project key (traced key t event (accepted t.world id x o calls paces call))) id.0 (key_node key (Some o.node))
     (letters_of key o.letters) (step_marks id.0 (key_node key (Some x)) (key_node key (Some o.node)) (letters_of key o.letters))
     (updates_of id.0 (key_node key (Some x)) (items_said key event (t.world.calls + 1) x o)) (items_said key event (t.world.calls + 1) x o)
 step_change key t event calls paces call id x o at =
@@ -48,7 +48,7 @@ step_change key t event calls paces call id x o at =
     let node : key_node key (node_at id.0 ps) ≡ key_node key (Some o.node) = ap (key_node key) now in
     let was : key_node key (node_at id.0 t.world.processes) ≡ key_node key (Some x) = ap (key_node key) at in
     let all = step_marks id.0 (key_node key (Some x)) (key_node key (Some o.node)) (letters_of key o.letters) in
-    let new : State = view key (traced key t event (accepted t.world id x o calls paces call)) in
+    let new : State = project key (traced key t event (accepted t.world id x o calls paces call)) in
     let marks : new.marks ≡ all ++ t.marks = rw (node, was) refl in
     record {
       here = node;

@@ -20,7 +20,7 @@ use Rattle.hk_node.specs.Sends.{letters_to}
 use Rattle.hk_node.specs.Sound.{IsNode}
 use Rattle.hk_node.specs.Stepped.{Stepped, idle}
 use Rattle.hk_node.specs.Copies.{is_valid, batch_behind, gives_copy}
-use Rattle.hk_effects.specs.View.{key_node, phase_of, has_copied, covers, letters_of, step_marks}
+use Rattle.hk_effects.specs.Projection.{key_node, phase_of, has_copied, covers, letters_of, step_marks}
 use Rattle.hk_effects.proofs.Marks.{acks_are_new}
 use Rattle.hk_effects.proofs.Steps.{sourced, old_row}
 use Rattle.hk_effects.proofs.Nodes.{OwesStep, quiet_node, idle_step}

@@ -15,7 +15,7 @@ use Rattle.hk_node.specs.Steps.{ticks}
 use Rattle.hk_world.specs.declared.process.Process.{Process}
 use Rattle.hk_world.specs.World.{WorldState, process_at, put_process, node_of, last_view}
 use Rattle.hk_world.specs.Steps.{acting_of, Accepted, with_step, acts, aside, nothing, calls_at, process_ticked, joining}
-use Rattle.hk_effects.specs.View.{node_at}
+use Rattle.hk_effects.specs.Projection.{node_at}
 use Rattle.hk_effects.specs.Own.{Ended}
 use Rattle.hk_effects.proofs.Processes.{numbered_node, process-put_same, process-put_other, node-put_same}
 use Rattle.hk_effects.proofs.Accepting.{alive, makes, with_processes}

@@ -23,11 +23,11 @@ use Rattle.hk_register.specs.Parts.{Parts}
 use Rattle.hk_register.proofs.Grow.{in_either, in_left, in_right}
 use Rattle.hk_node.specs.Node.{NodeState, epoch_of}
 use Rattle.hk_node.specs.Sends.{letters_to, addressees, sent}
-use Rattle.hk_effects.specs.View.{pending_of, phase_of, row_node, letters_of, pending_marks, moment_marks, install_marks, ack_marks, step_marks}
+use Rattle.hk_effects.specs.Projection.{pending_of, phase_of, row_node, letters_of, pending_marks, moment_marks, install_marks, ack_marks, step_marks}
 use Rattle.hk_effects.specs.Laws.{OneEffect, Effects}
 use Rattle.hk_effects.proofs.Frames.{itself, narrow}
 use Rattle.hk_effects.proofs.Marks.{row_first}
-use Rattle.hk_effects.proofs.Two.{mid_state, mid_change}
+use Rattle.hk_effects.proofs.TwoEffects.{mid_state, mid_change}
 use Rattle.hk_effects.proofs.Sends.{inv_within, inv_no_acks}
 use Rattle.hk_effects.proofs.Shapes.{IsShaped, reshaped, shaped_has, renoted, has_is, idle_phase, none_pending, all_noted_true, completed_calm, completed_stamp}
 use Rattle.hk_effects.proofs.Steps.{told, told_completed, completed_acks}

@@ -2,7 +2,7 @@
 use Rattle.std.proofs.Common.{ℕ, List, sym, ap}
 use Rattle.hk_register.specs.Printed.{printed, PrintedIsPrinted, SlotsAreLegal}
 use Rattle.hk_world.specs.World.{WorldState}
-use Rattle.hk_effects.specs.View.{view}
+use Rattle.hk_effects.specs.Projection.{project}
 use Rattle.hk_effects.specs.Own.{IsOwn, Agrees}
 use Rattle.hk_effects.specs.Runs.{RunsKeepParts}
 use Rattle.hk_effects.specs.Orders.{members_or_none, family, OrdersAreLegal}
@@ -17,4 +17,4 @@ orders_legal runs is_printed are_legal h header key events last follows =
     let kept = runs h header key events last follows in
     let V : ℕ → List ℕ = family last.world.views in
     let parts = kept.parts V (own_agrees last.world kept.own) in
-    are_legal V (view key last) parts kept.calls (printed V (view key last)) (is_printed V (view key last) parts)
+    are_legal V (project key last) parts kept.calls (printed V (project key last)) (is_printed V (project key last) parts)

@@ -5,7 +5,7 @@ pub mod Batches
 pub mod Processes
 pub mod Frames
 pub mod Marks
-pub mod Two
+pub mod TwoEffects
 pub mod Acts
 pub mod Sends
 pub mod Replies
@@ -18,9 +18,9 @@ pub mod Gives
 pub mod Merges
 pub mod Viewed
 pub mod Installs
-pub mod Lives
+pub mod LiveSteps
 pub mod Takes
-pub mod Owed
+pub mod Obligations
 pub mod Calls
 pub mod Rows
 pub mod Events

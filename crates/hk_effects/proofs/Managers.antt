@@ -30,7 +30,7 @@ use Rattle.hk_manager.specs.Manager.{ManagerState, instance_at, with_instance}
 use Rattle.hk_manager.specs.Changes.{changed, change_fault}
 use Rattle.hk_manager.specs.Sends.{letter_to, to_all, to_others, to_members, told_all}
 use Rattle.hk_manager.specs.Steps.{Stepped, sends, idle, ticks, learns, promise_body, prepares, accepts, counts_promise, reports, counts_acceptance, proposal_in, at_proposal, is_too_late, from_node, from_manager, is_addressed, receives_from, receives, begins, begins_unless, proposes, activates_by, activates, manager_step}
-use Rattle.hk_effects.specs.View.{letter_of, letters_of}
+use Rattle.hk_effects.specs.Projection.{letter_of, letters_of}
 use Rattle.hk_effects.specs.Own.{IsTold}
 
 -- What a manager says: it tells nothing of any key, and lets only the view begin that it holds.

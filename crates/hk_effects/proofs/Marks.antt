@@ -8,7 +8,7 @@ use Rattle.hk_register.specs.Effects.{Change, Has, row_mark, cover_mark}
 use Rattle.hk_register.specs.Parts.{Parts, PendingOk}
 use Rattle.hk_register.proofs.Helps.{pending_of}
 use Rattle.hk_register.proofs.Grow.{in_either, in_right}
-use Rattle.hk_effects.specs.View.{pending_marks, moment_marks, install_marks, ack_marks, step_marks}
+use Rattle.hk_effects.specs.Projection.{pending_marks, moment_marks, install_marks, ack_marks, step_marks}
 use Rattle.hk_effects.proofs.Frames.{itself, narrow}
 
 -- a pending update's stamp is the row's, or was covered before

@@ -20,11 +20,11 @@ use Rattle.hk_node.specs.Rows.{row_at}
 use Rattle.hk_node.specs.Node.{NodeState, epoch_of}
 use Rattle.hk_node.specs.Stepped.{Stepped}
 use Rattle.hk_node.specs.Copies.{merged}
-use Rattle.hk_effects.specs.View.{is_behind, key_node, row_node, phase_of, first_item, item_at, covers, step_marks}
+use Rattle.hk_effects.specs.Projection.{is_behind, key_node, row_node, phase_of, first_item, item_at, covers, step_marks}
 use Rattle.hk_effects.specs.Laws.{OneEffect, Effects}
 use Rattle.hk_effects.proofs.Frames.{itself, weaker_trans, narrow}
 use Rattle.hk_effects.proofs.Marks.{own_pending, row_is_new}
-use Rattle.hk_effects.proofs.Two.{mid_state, at_mid, mid_change, second_change}
+use Rattle.hk_effects.proofs.TwoEffects.{mid_state, at_mid, mid_change, second_change}
 use Rattle.hk_effects.proofs.Nodes.{OwesStep, quiet_node}
 use Rattle.hk_effects.proofs.Rising.{RisesBehind, item_keys, next_cursor, behind_last, upto_last}
 use Rattle.hk_node.proofs.Order.{AreTouched}

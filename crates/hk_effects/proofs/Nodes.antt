@@ -12,7 +12,7 @@ use Rattle.hk_node.specs.Node.{NodeState}
 use Rattle.hk_node.specs.Sends.{sent}
 use Rattle.hk_node.specs.Stepped.{Stepped, idle, row_step}
 use Rattle.hk_node.specs.Steps.{on_found}
-use Rattle.hk_effects.specs.View.{key_node, row_node, has_copied, letters_of, pending_stamp, told_at, reply_item, updates_of, step_marks}
+use Rattle.hk_effects.specs.Projection.{key_node, row_node, has_copied, letters_of, pending_stamp, told_at, reply_item, updates_of, step_marks}
 use Rattle.hk_effects.specs.Laws.{Effects}
 use Rattle.hk_effects.proofs.Order.{row-with_same, row-with_other}
 use Rattle.hk_effects.proofs.Marks.{acks_are_new}

@@ -5,12 +5,12 @@ use Rattle.hk_base.specs.declared.call.Reply.{Reply}
 use Rattle.hk_history.specs.History.{is_void, is_unsure}
 use Rattle.hk_register.specs.Machine.{In, Phase, Node, Letter, Mark, Item, call_of}
 use Rattle.hk_register.specs.Machine.Letter.{Inv, Ack as AckL, Val, Give}
-use Rattle.hk_register.specs.Machine.Item.{Called, Answered, Dropped, Looked, Missed}
+use Rattle.hk_register.specs.Machine.Item.{Called, Answered, Dropped, ReadOnly, Rejected}
 use Rattle.hk_register.specs.Effects.{row_mark, cover_mark}
 use Rattle.hk_register.proofs.Grow.{in_either}
 use Rattle.hk_world.specs.declared.event.Event.{Event}
 use Rattle.hk_world.specs.declared.event.Event.TheVariants.{Call, Take, Tick, TickAll, Crash, Resend, Replay, Copy, Start, Agree, Install, Lease, AskLease, Propose, Activate}
-use Rattle.hk_effects.specs.View.{is_same_key, pending_marks, moment_marks, install_marks, ack_marks, step_marks, told_at, pending_stamp, reply_item, look_item, call_items, items_of}
+use Rattle.hk_effects.specs.Projection.{is_same_key, pending_marks, moment_marks, install_marks, ack_marks, step_marks, told_at, pending_stamp, reply_item, read_only_item, call_items, items_of}
 use Rattle.hk_effects.proofs.NodesKept.{AreAnswered}
 use Rattle.hk_effects.proofs.WorldKept.{calls_after}
 
@@ -70,11 +70,11 @@ replies_upto s n (r ∷ rs) ok i (inl e) = subst (λ (j : Item). call_of j ≤ n
     by_test false = ok r (inl refl)
 replies_upto s n (r ∷ rs) ok i (inr h) = replies_upto s n rs (λ q t. ok q (inr t)) i h
 
-looks_upto : (call : ℕ) (op : Op) (was : Node) (n : ℕ) (rs : List Reply) → call ≤ n → ItemsUpTo n (map (look_item call op was) rs)
+looks_upto : (call : ℕ) (op : Op) (was : Node) (n : ℕ) (rs : List Reply) → call ≤ n → ItemsUpTo n (map (read_only_item call op was) rs)
 looks_upto call op was n [] low i h = absurd h
 looks_upto call op was n (r ∷ rs) low i (inl e) = subst (λ (j : Item). call_of j ≤ n) (sym e) (by_test (is_void (Some r.answer)))
   where
-    by_test : (b : Bool) → call_of (cond b (Missed call op r.answer) (Looked call was.stamp op was.content r.answer)) ≤ n
+    by_test : (b : Bool) → call_of (cond b (Rejected call op r.answer) (ReadOnly call was.stamp op was.content r.answer)) ≤ n
     by_test true = low
     by_test false = low
 looks_upto call op was n (r ∷ rs) low i (inr h) = looks_upto call op was n rs low i h

@@ -9,7 +9,7 @@ use Rattle.hk_copy.specs.Batches.{key_cmp}
 use Rattle.hk_key.specs.declared.row.Row.{Row}
 use Rattle.hk_key.specs.Table.{first_row}
 use Rattle.hk_node.specs.Rows.{Rows, find_row, row_at, put_row, with_row, is_touched}
-use Rattle.hk_effects.specs.View.{is_same_key, is_behind}
+use Rattle.hk_effects.specs.Projection.{is_same_key, is_behind}
 use Rattle.hk_effects.proofs.Entries.{found_same, found_other}
 
 pub equal_keys : (a b : List ℕ) → key_cmp a b ≡ Equal → a ≡ b

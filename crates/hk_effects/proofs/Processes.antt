@@ -10,7 +10,7 @@ use Rattle.hk_node.specs.Node.{NodeState, is_member}
 use Rattle.hk_world.specs.declared.process.Process.{Process}
 use Rattle.hk_world.specs.World.{Processes, by_number, process_at, put_process, node_of}
 use Rattle.hk_register.specs.Machine.{In}
-use Rattle.hk_effects.specs.View.{node_at}
+use Rattle.hk_effects.specs.Projection.{node_at}
 use Rattle.hk_effects.proofs.Entries.{found_same, found_other}
 
 abbrev pub numbered_node : ℕ → NodeId

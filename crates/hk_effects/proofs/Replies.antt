@@ -7,10 +7,10 @@ use Rattle.hk_base.specs.declared.call.Reply.{Reply}
 use Rattle.hk_base.specs.declared.call.Op.{Op}
 use Rattle.hk_history.specs.History.{is_void, is_unsure, is_answered}
 use Rattle.hk_register.specs.Machine.{Node, Item}
-use Rattle.hk_register.specs.Machine.Item.{Answered, Dropped, Looked, Missed}
+use Rattle.hk_register.specs.Machine.Item.{Answered, Dropped, ReadOnly, Rejected}
 use Rattle.hk_register.specs.Effects.{answer_of}
 use Rattle.hk_node.specs.Stepped.{told_of}
-use Rattle.hk_effects.specs.View.{told_at, reply_item, look_item, updates_of}
+use Rattle.hk_effects.specs.Projection.{told_at, reply_item, read_only_item, updates_of}
 use Rattle.hk_effects.proofs.Order.{same_itself, same_not}
 
 -- what the reply says, if there is one
@@ -55,11 +55,11 @@ answers_are s None e = refl
 answers_are s (Some r) e = ap (λ (i : Item). i ∷ []) (answer_item s r e)
 
 -- a call that looked, and one that was refused
-pub looked_item : (call : ℕ) (op : Op) (was : Node) (r : Reply) → IsTrue (is_answered (Some r.answer)) → look_item call op was r ≡ Looked call was.stamp op was.content r.answer
-looked_item call op was r e = ap (λ (b : Bool). cond b (Missed call op r.answer) (Looked call was.stamp op was.content r.answer)) (answered_not_void r.answer e)
+pub read_only_item_is : (call : ℕ) (op : Op) (was : Node) (r : Reply) → IsTrue (is_answered (Some r.answer)) → read_only_item call op was r ≡ ReadOnly call was.stamp op was.content r.answer
+read_only_item_is call op was r e = ap (λ (b : Bool). cond b (Rejected call op r.answer) (ReadOnly call was.stamp op was.content r.answer)) (answered_not_void r.answer e)
 
-pub missed_item : (call : ℕ) (op : Op) (was : Node) (r : Reply) → IsTrue (is_void (Some r.answer)) → look_item call op was r ≡ Missed call op r.answer
-missed_item call op was r e = ap (λ (b : Bool). cond b (Missed call op r.answer) (Looked call was.stamp op was.content r.answer)) e
+pub rejected_item : (call : ℕ) (op : Op) (was : Node) (r : Reply) → IsTrue (is_void (Some r.answer)) → read_only_item call op was r ≡ Rejected call op r.answer
+rejected_item call op was r e = ap (λ (b : Bool). cond b (Rejected call op r.answer) (ReadOnly call was.stamp op was.content r.answer)) e
 
 -- the replies of a row's step, at its key and at another
 pub told_own : (key : List ℕ) (s : ℕ) (o : Option Reply) → map (reply_item s) (told_at key (told_of key o)) ≡ reply_items s o
@@ -87,10 +87,10 @@ pub reply_alone_begins_none : (id : ℕ) (z : Node) (s : ℕ) (o : Option Reply)
 reply_alone_begins_none id z s None = refl
 reply_alone_begins_none id z s (Some r) = replies_begin_none id z s (r ∷ []) []
 
-pub looks_begin_none : (id : ℕ) (z : Node) (call : ℕ) (op : Op) (was : Node) (rs : List Reply) → updates_of id z (map (look_item call op was) rs) ≡ []
+pub looks_begin_none : (id : ℕ) (z : Node) (call : ℕ) (op : Op) (was : Node) (rs : List Reply) → updates_of id z (map (read_only_item call op was) rs) ≡ []
 looks_begin_none id z call op was [] = refl
 looks_begin_none id z call op was (r ∷ rs) = by_test (is_void (Some r.answer)) ∙ looks_begin_none id z call op was rs
   where
-    by_test : (b : Bool) → updates_of id z (cond b (Missed call op r.answer) (Looked call was.stamp op was.content r.answer) ∷ map (look_item call op was) rs) ≡ updates_of id z (map (look_item call op was) rs)
+    by_test : (b : Bool) → updates_of id z (cond b (Rejected call op r.answer) (ReadOnly call was.stamp op was.content r.answer) ∷ map (read_only_item call op was) rs) ≡ updates_of id z (map (read_only_item call op was) rs)
     by_test true = refl
     by_test false = refl

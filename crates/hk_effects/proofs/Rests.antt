@@ -21,9 +21,9 @@ use Rattle.hk_node.specs.Sound.{IsNode}
 use Rattle.hk_world.specs.World.{WorldState, Processes, by_number, process_at, node_of, numbered}
 use Rattle.hk_world.specs.Steps.{process_ticked, is_live}
 use Rattle.hk_world.specs.Sound.{IsWorld, IsProcess}
-use Rattle.hk_effects.specs.View.{letter_of, letters_of, key_node, node_at}
+use Rattle.hk_effects.specs.Projection.{letter_of, letters_of, key_node, node_at}
 use Rattle.hk_effects.specs.Own.{IsChain, IsNodeOf}
-use Rattle.hk_effects.proofs.Two.{append_three}
+use Rattle.hk_effects.proofs.TwoEffects.{append_three}
 use Rattle.hk_effects.proofs.Processes.{numbered_node, process_of_node, process_holds}
 
 get_in : {X : Type 0} (ls : List X) (n : ℕ) (l : X) → slice_get ls n ≡ Some l → In ls l

@@ -14,7 +14,7 @@ use Rattle.hk_node.specs.Rows.{Rows}
 use Rattle.hk_node.specs.Node.{NodeState}
 use Rattle.hk_node.specs.Sound.{IsNode}
 use Rattle.hk_node.specs.Copies.{copies_of}
-use Rattle.hk_effects.specs.View.{is_behind}
+use Rattle.hk_effects.specs.Projection.{is_behind}
 use Rattle.hk_effects.proofs.Order.{IsBelow, key_itself, below_trans, below_differs, below_of_test, test_of_below, behind_more}
 
 abbrev pub RisesBehind : Option (List ℕ) → List (List ℕ) → Type 0

@@ -16,7 +16,7 @@ use Rattle.hk_world.specs.declared.event.Header.{Header}
 use Rattle.hk_world.specs.World.{WorldState}
 use Rattle.hk_world.specs.Steps.{acting_of, Accepted, world_step}
 use Rattle.hk_world.specs.Sound.{IsHeader, IsEvent}
-use Rattle.hk_effects.specs.View.{Trace, key_node, node_at, letters_of, step_marks, told_at, items_of, view, traced, traced_by}
+use Rattle.hk_effects.specs.Projection.{Trace, key_node, node_at, letters_of, step_marks, told_at, items_of, project, traced, traced_by}
 use Rattle.hk_effects.specs.Own.{IsChain, IsLed, IsOwn, IsTrace, IsGuarded, Agrees}
 use Rattle.hk_effects.specs.Laws.{Effects, EventIsEffects}
 use Rattle.hk_effects.specs.Runs.{start_trace, Follows, IsKept}
@@ -79,17 +79,17 @@ module _ (is_effects : EventIsEffects) (keeps : KeepsSound) (key : List ℕ) (t 
   earlier : (V : ℕ → List ℕ) → Agrees a.world V → Agrees t.world V
   earlier V agrees v h = agrees v (next.grows v h)
 
-  effects : (V : ℕ → List ℕ) → Agrees a.world V → Effects V (view key t) (view key (traced key t event a))
+  effects : (V : ℕ → List ℕ) → Agrees a.world V → Effects V (project key t) (project key (traced key t event a))
   effects V agrees = is_effects V key t event a is event_ok ok.own (earlier V agrees) ok.trace (ok.parts V (earlier V agrees))
 
-  parts_now : (V : ℕ → List ℕ) → Agrees a.world V → Parts V (view key (traced key t event a))
-  parts_now V agrees = effects_kept V (view key t) (view key (traced key t event a)) (ok.parts V (earlier V agrees)) (effects V agrees)
+  parts_now : (V : ℕ → List ℕ) → Agrees a.world V → Parts V (project key (traced key t event a))
+  parts_now V agrees = effects_kept V (project key t) (project key (traced key t event a)) (ok.parts V (earlier V agrees)) (effects V agrees)
 
   now_agrees : Agrees a.world (view_members a.world.views)
   now_agrees = agrees_with a.world led.views
 
-  calls_now : CallParts (view key (traced key t event a))
-  calls_now = let V = view_members a.world.views in effects_calls V (view key t) (view key (traced key t event a)) (ok.parts V (earlier V now_agrees)) ok.calls (effects V now_agrees)
+  calls_now : CallParts (project key (traced key t event a))
+  calls_now = let V = view_members a.world.views in effects_calls V (project key t) (project key (traced key t event a)) (ok.parts V (earlier V now_agrees)) ok.calls (effects V now_agrees)
 
   -- the acting node's part of the key, before and after
   abbrev Was : NodeId → Node
@@ -110,7 +110,7 @@ module _ (is_effects : EventIsEffects) (keeps : KeepsSound) (key : List ℕ) (t 
   marks_are : (P : Mark → Type 0) → ((k : Mark) → In t.marks k → P k) → ((id : NodeId) → acting_of a ≡ Some id → (k : Mark) → IsNew id k → P k) → (k : Mark) → In (traced key t event a).marks k → P k
   marks_are P old new = at (acting_of a) refl (parts_now (view_members a.world.views) now_agrees)
     where
-      at : (acting : Option NodeId) → acting_of a ≡ acting → Parts (view_members a.world.views) (view key (traced_by key t event a acting)) → (k : Mark) → In (traced_by key t event a acting).marks k → P k
+      at : (acting : Option NodeId) → acting_of a ≡ acting → Parts (view_members a.world.views) (project key (traced_by key t event a acting)) → (k : Mark) → In (traced_by key t event a acting).marks k → P k
       at None e parts k h = old k h
       at (Some id) e parts k h = ⊎_elim
           (λ (fresh : In (NewMarks id) k). new id e k (record {

@@ -16,7 +16,7 @@ use Rattle.hk_register.specs.Machine.{In, Node, Letter}
 use Rattle.hk_register.specs.Machine.Letter.{Inv, Ack, Val}
 use Rattle.hk_node.specs.Node.{NodeState, epoch_of}
 use Rattle.hk_node.specs.Sends.{letters_to, pending_body, body_of, sent}
-use Rattle.hk_effects.specs.View.{letters_of, ack_marks}
+use Rattle.hk_effects.specs.Projection.{letters_of, ack_marks}
 use Rattle.hk_effects.proofs.Order.{same_itself, same_not}
 
 module _ (key : List ℕ) (x : NodeState) where

@@ -20,7 +20,7 @@ use Rattle.hk_key.specs.Table.{displaced, displaced_write, aborted, given_up, gi
 use Rattle.hk_register.specs.Machine.{In, Note, Pending, Phase, Item}
 use Rattle.hk_register.specs.Machine.Phase.{Valid, Invalid, Write, Replay, Trans}
 use Rattle.hk_register.specs.Effects.{Has, IsIdle, Noted, NotesAfter, with_notes, overtaken, drop_of, dropped}
-use Rattle.hk_effects.specs.View.{note_of, pending_of, phase_of, pending_stamp}
+use Rattle.hk_effects.specs.Projection.{note_of, pending_of, phase_of, pending_stamp}
 use Rattle.hk_effects.proofs.Replies.{reply_items}
 
 -- Valid and Invalid rows have no pending update, and the others have one

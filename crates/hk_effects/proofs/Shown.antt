@@ -5,7 +5,7 @@ use Rattle.hk_register.specs.Machine.{In, State}
 use Rattle.hk_register.specs.Worked.{five, nine, exactly, with_more}
 use Rattle.hk_register.proofs.Worked.{blind, not_plain, fresh, leased, noted, inexact, all_exact}
 use Rattle.hk_world.specs.Worked.{key}
-use Rattle.hk_effects.specs.View.{view}
+use Rattle.hk_effects.specs.Projection.{project}
 use Rattle.hk_effects.specs.Orders.{family}
 use Rattle.hk_effects.specs.Worked.{val_kept, left_invalid, countered, replayed}
 use Rattle.hk_effects.specs.Worked.{ValKept, LeftInvalid, Countered, Replayed}
@@ -93,7 +93,7 @@ val_kept_shows = (
 )
   where
     at : ℕ → State
-    at k = view key (trace_at 2 val_kept k)
+    at k = project key (trace_at 2 val_kept k)
 
     members : ℕ → ℕ → List ℕ
     members k = family (trace_at 2 val_kept k).world.views
@@ -172,7 +172,7 @@ left_invalid_shows = (
 )
   where
     at : ℕ → State
-    at k = view key (trace_at 3 left_invalid k)
+    at k = project key (trace_at 3 left_invalid k)
 
     members : ℕ → ℕ → List ℕ
     members k = family (trace_at 3 left_invalid k).world.views
@@ -278,7 +278,7 @@ countered_shows = (
 )
   where
     at : ℕ → State
-    at k = view key (trace_at 2 countered k)
+    at k = project key (trace_at 2 countered k)
 
     members : ℕ → ℕ → List ℕ
     members k = family (trace_at 2 countered k).world.views
@@ -394,7 +394,7 @@ replayed_shows = (
 )
   where
     at : ℕ → State
-    at k = view key (trace_at 2 replayed k)
+    at k = project key (trace_at 2 replayed k)
 
     members : ℕ → ℕ → List ℕ
     members k = family (trace_at 2 replayed k).world.views

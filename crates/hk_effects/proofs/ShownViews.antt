@@ -5,7 +5,7 @@ use Rattle.hk_register.specs.Machine.{In, State}
 use Rattle.hk_register.specs.Worked.{five, exactly}
 use Rattle.hk_register.proofs.Worked.{blind, fresh, leased, noted, all_exact}
 use Rattle.hk_world.specs.Worked.{key}
-use Rattle.hk_effects.specs.View.{view}
+use Rattle.hk_effects.specs.Projection.{project}
 use Rattle.hk_effects.specs.Orders.{family}
 use Rattle.hk_effects.specs.Worked.{pending_installed, left_alone, view_begun, joined, copied_valid, passed}
 use Rattle.hk_effects.specs.Worked.{PendingInstalled, LeftAlone, ViewBegun, Joined, CopiedValid, Passed}
@@ -65,7 +65,7 @@ pending_installed_shows = (
 )
   where
     at : ℕ → State
-    at k = view key (trace_at 2 pending_installed k)
+    at k = project key (trace_at 2 pending_installed k)
 
     members : ℕ → ℕ → List ℕ
     members k = family (trace_at 2 pending_installed k).world.views
@@ -118,7 +118,7 @@ left_alone_shows = (
 )
   where
     at : ℕ → State
-    at k = view key (trace_at 2 left_alone k)
+    at k = project key (trace_at 2 left_alone k)
 
     members : ℕ → ℕ → List ℕ
     members k = family (trace_at 2 left_alone k).world.views
@@ -203,7 +203,7 @@ view_begun_shows = (
 )
   where
     at : ℕ → State
-    at k = view key (trace_with 2 1 view_begun k)
+    at k = project key (trace_with 2 1 view_begun k)
 
     members : ℕ → ℕ → List ℕ
     members k = family (trace_with 2 1 view_begun k).world.views
@@ -323,7 +323,7 @@ joined_shows = (
 )
   where
     at : ℕ → State
-    at k = view key (trace_at 1 joined k)
+    at k = project key (trace_at 1 joined k)
 
     members : ℕ → ℕ → List ℕ
     members k = family (trace_at 1 joined k).world.views
@@ -423,7 +423,7 @@ copied_valid_shows = (
 )
   where
     at : ℕ → State
-    at k = view key (trace_at 1 copied_valid k)
+    at k = project key (trace_at 1 copied_valid k)
 
     members : ℕ → ℕ → List ℕ
     members k = family (trace_at 1 copied_valid k).world.views
@@ -515,7 +515,7 @@ passed_shows = (
 )
   where
     at : ℕ → State
-    at k = view key (trace_at 1 passed k)
+    at k = project key (trace_at 1 passed k)
 
     members : ℕ → ℕ → List ℕ
     members k = family (trace_at 1 passed k).world.views

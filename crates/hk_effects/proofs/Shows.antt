@@ -16,7 +16,7 @@ use Rattle.hk_world.specs.declared.refused.Refused.{Refused}
 use Rattle.hk_world.specs.Steps.{Accepted, world_step}
 use Rattle.hk_world.specs.Sound.{IsEvent}
 use Rattle.hk_world.specs.Worked.{managed, key}
-use Rattle.hk_effects.specs.View.{Trace, view, letters_of, traced}
+use Rattle.hk_effects.specs.Projection.{Trace, project, letters_of, traced}
 use Rattle.hk_effects.specs.Runs.{start_trace}
 use Rattle.hk_effects.specs.Orders.{family}
 use Rattle.hk_effects.specs.Worked.{Step, Shows, all_nodes, sent_by, marked_by, repeated, by_zero, by_one, more_by_zero, more_by_one}
@@ -82,12 +82,12 @@ pub more_by_one_changes : Changes more_by_one (Some five)
 more_by_one_changes = record { changed = refl; register = refl; answer = refl; answered = refl }
 
 pub shows : {k : List ℕ} {t : Trace} {step : Step} {a : Accepted} → world_step t.world step.event ≡ Ok a → IsEvent step.event →
-    Plays (family t.world.views) (view k t) step.effects →
-    map (view k (traced k t step.event a)).node all_nodes ≡ map (played (view k t) step.effects).node all_nodes →
-    letters_of k a.shown.letters ≡ flat_map (repeated step.copies) (sent_by (view k t) step.effects) →
-    Each (Marked (view k (traced k t step.event a))) (marked_by (view k t) step.effects) →
-    (traced k t step.event a).begun ≡ (played (view k t) step.effects).begun →
-    (traced k t step.event a).history ≡ (played (view k t) step.effects).history → Shows k t step a
+    Plays (family t.world.views) (project k t) step.effects →
+    map (project k (traced k t step.event a)).node all_nodes ≡ map (played (project k t) step.effects).node all_nodes →
+    letters_of k a.shown.letters ≡ flat_map (repeated step.copies) (sent_by (project k t) step.effects) →
+    Each (Marked (project k (traced k t step.event a))) (marked_by (project k t) step.effects) →
+    (traced k t step.event a).begun ≡ (played (project k t) step.effects).begun →
+    (traced k t step.event a).history ≡ (played (project k t) step.effects).history → Shows k t step a
 shows accepted is_event are_allowed nodes letters marks begun history =
     record {
       accepted = accepted;

@@ -23,11 +23,11 @@ use Rattle.hk_register.proofs.Grow.{in_left}
 use Rattle.hk_node.specs.Node.{NodeState, epoch_of, members_of}
 use Rattle.hk_node.specs.Sends.{addressees, sent}
 use Rattle.hk_node.specs.Calls.{kind_of}
-use Rattle.hk_effects.specs.View.{note_of, phase_of, row_node, letters_of}
+use Rattle.hk_effects.specs.Projection.{note_of, phase_of, row_node, letters_of}
 use Rattle.hk_effects.specs.Laws.{OneEffect}
 use Rattle.hk_effects.proofs.Frames.{itself, narrow}
 use Rattle.hk_effects.proofs.Marks.{row_is_new}
-use Rattle.hk_effects.proofs.Two.{mid_state, at_mid, mid_change, second_change}
+use Rattle.hk_effects.proofs.TwoEffects.{mid_state, at_mid, mid_change, second_change}
 use Rattle.hk_effects.proofs.Acts.{alike, takes_tag, plain_is_blind}
 use Rattle.hk_effects.proofs.Sends.{inv_within, inv_no_acks}
 use Rattle.hk_effects.proofs.Replies.{reply_items, answers_are}

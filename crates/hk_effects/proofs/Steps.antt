@@ -31,11 +31,11 @@ use Rattle.hk_register.specs.Effects.Effect.{TakeInv, AckInv, CounterInv, NoteAc
 use Rattle.hk_register.specs.Parts.{Parts}
 use Rattle.hk_node.specs.Node.{NodeState, epoch_of, members_of}
 use Rattle.hk_node.specs.Sends.{letters_to, pending_body, addressees, sent}
-use Rattle.hk_effects.specs.View.{note_of, pending_of, phase_of, row_node, letters_of, pending_stamp, ack_marks, step_marks}
+use Rattle.hk_effects.specs.Projection.{note_of, pending_of, phase_of, row_node, letters_of, pending_stamp, ack_marks, step_marks}
 use Rattle.hk_effects.specs.Laws.{OneEffect, Effects}
 use Rattle.hk_effects.proofs.Frames.{itself, narrow}
 use Rattle.hk_effects.proofs.Marks.{Sourced, row_is_new, acks_are_new, own_pending}
-use Rattle.hk_effects.proofs.Two.{mid_state, at_mid, mid_change, second_change}
+use Rattle.hk_effects.proofs.TwoEffects.{mid_state, at_mid, mid_change, second_change}
 use Rattle.hk_effects.proofs.Sends.{ack_is, inv_within, inv_no_acks, val_within, val_no_acks}
 use Rattle.hk_effects.proofs.Replies.{reply_items, answers_are}
 use Rattle.hk_effects.proofs.Shapes.{IsShaped, reshaped, shaped_has, shaped_stamp, renoted, has_is, overtaken_is, dropped_is, overtaken_has, all_noted_true, all_exact_true, notes_after, completed_calm, completed_stamp, completed_reply, completed_same}

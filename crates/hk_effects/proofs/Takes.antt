@@ -34,7 +34,7 @@ use Rattle.hk_manager.specs.declared.event.ManagerEvent.TheVariants.{Receive as 
 use Rattle.hk_manager.specs.Steps.{manager_step}
 use Rattle.hk_world.specs.declared.event.Event.{Event}
 use Rattle.hk_world.specs.Steps.{Accepted, live_manager, manager_acts, with_manager_step, manager_shown, takes}
-use Rattle.hk_effects.specs.View.{has_copied, letters_of, Trace, view}
+use Rattle.hk_effects.specs.Projection.{has_copied, letters_of, Trace, project}
 use Rattle.hk_effects.specs.Own.{IsPendingOf, IsOwn, IsTrace, Agrees}
 use Rattle.hk_effects.proofs.Order.{cases_key, same_of}
 use Rattle.hk_effects.proofs.Processes.{in_members}
@@ -44,12 +44,12 @@ use Rattle.hk_effects.proofs.Nodes.{OwesStep, quiet_node, idle_step, own_told, o
 use Rattle.hk_effects.proofs.Accepting.{any_takes_step, live_manager_step, makes_manager_step}
 use Rattle.hk_effects.proofs.Managers.{manager_says, managers_silent}
 use Rattle.hk_effects.proofs.Rests.{numbered_in, letter_sent, letters_append, row_sound, in_some}
-use Rattle.hk_effects.proofs.Lives.{accepts, IsEffects, IsLive, here, stepped_effect, aside_effect, lives, node_own, node_sound, members_are}
+use Rattle.hk_effects.proofs.LiveSteps.{accepts, IsEffects, IsLive, here, stepped_effect, aside_effect, lives, node_own, node_sound, members_are}
 
-module _ (V : ℕ → List ℕ) (key : List ℕ) (t : Trace) (parts : Parts V (view key t)) (own : IsOwn t.world) (agrees : Agrees t.world V) (tok : IsTrace t) where
+module _ (V : ℕ → List ℕ) (key : List ℕ) (t : Trace) (parts : Parts V (project key t)) (own : IsOwn t.world) (agrees : Agrees t.world V) (tok : IsTrace t) where
   -- what a live node's step owes, of an event that is no call
   abbrev pub Owed : (x : NodeState) → IsLive V key t parts own agrees tok x → Stepped → Type 0
-  Owed x alive o = OwesStep V (view key t) parts key x (here V key t parts own agrees tok x alive) o
+  Owed x alive o = OwesStep V (project key t) parts key x (here V key t parts own agrees tok x alive) o
 
   -- What is shown elsewhere: a batch that is given,
   abbrev pub GivesOwed : Type 0
@@ -89,16 +89,16 @@ module _ (V : ℕ → List ℕ) (key : List ℕ) (t : Trace) (parts : Parts V (v
           let d = on_inv row from s kind content in
           let letter : In (letters_of key t.world.letters) (Inv from.0 (epoch_of x) (tag_of s) kind content) = letter_sent key t.world.letters l (Inv from.0 (epoch_of x) (tag_of s) kind content) sent_so (rw (is, same_of key k same, sender, epoch) (inl refl)) in
           subst (λ (k : List ℕ). Owed x alive (row_step x k (on_inv (row_at k x.rows) from s kind content))) same
-          (own_told V (view key t) parts key x (here V key t parts own agrees tok x alive) d _ (untouched_stays key x.rows d.row (node_sound V key t parts own agrees tok x alive).touched (inv_never_lowers row from s kind content) (λ first none. inv_untouched key row from s kind content none)) refl
-          (inv_step V (view key t) parts key x (has_copied x key) row (here V key t parts own agrees tok x alive) from s kind content (nat_cmp (tag_of row.stamp) (tag_of s)) refl some letter)))
-          (λ (other : key ≢ k). other_told V (view key t) parts key x (here V key t parts own agrees tok x alive) k (on_inv (row_at k x.rows) from s kind content) other) (cases_key key k)
+          (own_told V (project key t) parts key x (here V key t parts own agrees tok x alive) d _ (untouched_stays key x.rows d.row (node_sound V key t parts own agrees tok x alive).touched (inv_never_lowers row from s kind content) (λ first none. inv_untouched key row from s kind content none)) refl
+          (inv_step V (project key t) parts key x (has_copied x key) row (here V key t parts own agrees tok x alive) from s kind content (nat_cmp (tag_of row.stamp) (tag_of s)) refl some letter)))
+          (λ (other : key ≢ k). other_told V (project key t) parts key x (here V key t parts own agrees tok x alive) k (on_inv (row_at k x.rows) from s kind content) other) (cases_key key k)
 
       take_ack_at : (s top : Stamp) → In (letters_of key t.world.letters) (AckL from.0 (epoch_of x) (tag_of s) (tag_of top)) → (o : Option Waits) → (row_at key x.rows).pending ≡ o →
-          Owes V (view key t) parts key x (has_copied x key) (row_at key x.rows) (here V key t parts own agrees tok x alive) (on_ack_pending o x.id (members_of x) (row_at key x.rows) from s top) []
-          (told V (view key t) parts key x (has_copied x key) (row_at key x.rows) (here V key t parts own agrees tok x alive) (on_ack_pending o x.id (members_of x) (row_at key x.rows) from s top))
-      take_ack_at s top letter None e = quiet_step V (view key t) parts key x (has_copied x key) (row_at key x.rows) (here V key t parts own agrees tok x alive)
+          Owes V (project key t) parts key x (has_copied x key) (row_at key x.rows) (here V key t parts own agrees tok x alive) (on_ack_pending o x.id (members_of x) (row_at key x.rows) from s top) []
+          (told V (project key t) parts key x (has_copied x key) (row_at key x.rows) (here V key t parts own agrees tok x alive) (on_ack_pending o x.id (members_of x) (row_at key x.rows) from s top))
+      take_ack_at s top letter None e = quiet_step V (project key t) parts key x (has_copied x key) (row_at key x.rows) (here V key t parts own agrees tok x alive)
       take_ack_at s top letter (Some p) e =
-          ack_step V (view key t) parts key x (has_copied x key) (row_at key x.rows) (here V key t parts own agrees tok x alive) from s top p e (row_shaped (Some p) e) (row_update p e).answer letter member
+          ack_step V (project key t) parts key x (has_copied x key) (row_at key x.rows) (here V key t parts own agrees tok x alive) from s top p e (row_shaped (Some p) e) (row_update p e).answer letter member
           (members_are V key t parts own agrees tok x alive some) (eqb (tag_of s) (tag_of p.stamp)) refl (eqb (tag_of top) (tag_of s)) refl
 
       take_ack : (k : List ℕ) (s top : Stamp) → l.body ≡ AckBody k s top → (r : Row) → row_at k x.rows ≡ r → Owed x alive (row_step x k (on_ack x.id (members_of x) r from s top))
@@ -110,8 +110,8 @@ module _ (V : ℕ → List ℕ) (key : List ℕ) (t : Trace) (parts : Parts V (v
           let r_is : row ≡ r = ap (λ (j : List ℕ). row_at j x.rows) same ∙ at_r in
           subst (λ (k : List ℕ). Owed x alive (row_step x k (on_ack x.id (members_of x) r from s top))) same
           (subst (λ (r : Row). Owed x alive (row_step x key (on_ack x.id (members_of x) r from s top))) r_is
-          (own_told V (view key t) parts key x (here V key t parts own agrees tok x alive) (on_ack x.id (members_of x) row from s top) _ (untouched_stays key x.rows (on_ack x.id (members_of x) row from s top).row (node_sound V key t parts own agrees tok x alive).touched (ack_never_lowers x.id (members_of x) row from s top) (λ first none. ap (λ (r : Row). (on_ack x.id (members_of x) r from s top).row) first ∙ sym first)) refl (take_ack_at s top letter row.pending refl))))
-          (λ (other : key ≢ k). other_told V (view key t) parts key x (here V key t parts own agrees tok x alive) k (on_ack x.id (members_of x) r from s top) other) (cases_key key k)
+          (own_told V (project key t) parts key x (here V key t parts own agrees tok x alive) (on_ack x.id (members_of x) row from s top) _ (untouched_stays key x.rows (on_ack x.id (members_of x) row from s top).row (node_sound V key t parts own agrees tok x alive).touched (ack_never_lowers x.id (members_of x) row from s top) (λ first none. ap (λ (r : Row). (on_ack x.id (members_of x) r from s top).row) first ∙ sym first)) refl (take_ack_at s top letter row.pending refl))))
+          (λ (other : key ≢ k). other_told V (project key t) parts key x (here V key t parts own agrees tok x alive) k (on_ack x.id (members_of x) r from s top) other) (cases_key key k)
 
       take_val : (k : List ℕ) (s : Stamp) → l.body ≡ ValBody k s → (r : Row) → row_at k x.rows ≡ r → Owed x alive (row_step x k (still (on_val r s)))
       take_val k s is r at_r =
@@ -122,28 +122,28 @@ module _ (V : ℕ → List ℕ) (key : List ℕ) (t : Trace) (parts : Parts V (v
           let r_is : row ≡ r = ap (λ (j : List ℕ). row_at j x.rows) same ∙ at_r in
           subst (λ (k : List ℕ). Owed x alive (row_step x k (still (on_val r s)))) same
           (subst (λ (r : Row). Owed x alive (row_step x key (still (on_val r s)))) r_is
-          (own_told V (view key t) parts key x (here V key t parts own agrees tok x alive) (still (on_val row s)) [] (untouched_stays key x.rows (on_val row s) (node_sound V key t parts own agrees tok x alive).touched (val_never_lowers row s) (λ first none. val_untouched key row s first)) refl
-          (val_step V (view key t) parts key x (has_copied x key) row (here V key t parts own agrees tok x alive) from s (eqb (tag_of row.stamp) (tag_of s)) refl letter))))
-          (λ (other : key ≢ k). other_told V (view key t) parts key x (here V key t parts own agrees tok x alive) k (still (on_val r s)) other) (cases_key key k)
+          (own_told V (project key t) parts key x (here V key t parts own agrees tok x alive) (still (on_val row s)) [] (untouched_stays key x.rows (on_val row s) (node_sound V key t parts own agrees tok x alive).touched (val_never_lowers row s) (λ first none. val_untouched key row s first)) refl
+          (val_step V (project key t) parts key x (has_copied x key) row (here V key t parts own agrees tok x alive) from s (eqb (tag_of row.stamp) (tag_of s)) refl letter))))
+          (λ (other : key ≢ k). other_told V (project key t) parts key x (here V key t parts own agrees tok x alive) k (still (on_val r s)) other) (cases_key key k)
 
       receive : GivesOwed → TakesOwed → (body : Body) → l.body ≡ body → Owed x alive (received body x from)
       receive gives takes_so (InvBody k s kind content) is = take_inv k s kind content is
-      receive gives takes_so (AckBody k s top) is = found_step V (view key t) parts key x (here V key t parts own agrees tok x alive) k (λ row. on_ack x.id (members_of x) row from s top) (take_ack k s top is) (find_row k x.rows) refl
-      receive gives takes_so (ValBody k s) is = found_step V (view key t) parts key x (here V key t parts own agrees tok x alive) k (λ row. still (on_val row s)) (take_val k s is) (find_row k x.rows) refl
+      receive gives takes_so (AckBody k s top) is = found_step V (project key t) parts key x (here V key t parts own agrees tok x alive) k (λ row. on_ack x.id (members_of x) row from s top) (take_ack k s top is) (find_row k x.rows) refl
+      receive gives takes_so (ValBody k s) is = found_step V (project key t) parts key x (here V key t parts own agrees tok x alive) k (λ row. still (on_val row s)) (take_val k s is) (find_row k x.rows) refl
       receive gives takes_so (CopyAsk after room) is = gives x alive from after room inside
       receive gives takes_so (CopyGive after done items) is = takes_so x alive l from after done items sent_so sender epoch inside is
-      receive gives takes_so (LeaseAsk asked) is = idle_step V (view key t) parts key x (here V key t parts own agrees tok x alive)
-      receive gives takes_so (LeaseGive end) is = idle_step V (view key t) parts key x (here V key t parts own agrees tok x alive)
-      receive gives takes_so (Prepare ballot) is = idle_step V (view key t) parts key x (here V key t parts own agrees tok x alive)
-      receive gives takes_so (Promise ballot vote) is = idle_step V (view key t) parts key x (here V key t parts own agrees tok x alive)
-      receive gives takes_so (Accept ballot v) is = idle_step V (view key t) parts key x (here V key t parts own agrees tok x alive)
-      receive gives takes_so (AcceptedBody ballot) is = idle_step V (view key t) parts key x (here V key t parts own agrees tok x alive)
-      receive gives takes_so (Chosen v) is = idle_step V (view key t) parts key x (here V key t parts own agrees tok x alive)
-      receive gives takes_so (Activate v) is = idle_step V (view key t) parts key x (here V key t parts own agrees tok x alive)
+      receive gives takes_so (LeaseAsk asked) is = idle_step V (project key t) parts key x (here V key t parts own agrees tok x alive)
+      receive gives takes_so (LeaseGive end) is = idle_step V (project key t) parts key x (here V key t parts own agrees tok x alive)
+      receive gives takes_so (Prepare ballot) is = idle_step V (project key t) parts key x (here V key t parts own agrees tok x alive)
+      receive gives takes_so (Promise ballot vote) is = idle_step V (project key t) parts key x (here V key t parts own agrees tok x alive)
+      receive gives takes_so (Accept ballot v) is = idle_step V (project key t) parts key x (here V key t parts own agrees tok x alive)
+      receive gives takes_so (AcceptedBody ballot) is = idle_step V (project key t) parts key x (here V key t parts own agrees tok x alive)
+      receive gives takes_so (Chosen v) is = idle_step V (project key t) parts key x (here V key t parts own agrees tok x alive)
+      receive gives takes_so (Activate v) is = idle_step V (project key t) parts key x (here V key t parts own agrees tok x alive)
 
     -- a letter that is admitted, or dropped
     admitted : GivesOwed → TakesOwed → (l : Wire) → In t.world.letters l → (from : NodeId) → l.from ≡ A.Node from → (b : Bool) → (is_addressed x l.to && (eqb l.epoch (epoch_of x) && is_other x from)) ≡ b → Owed x alive (cond b (received l.body x from) (idle x))
-    admitted gives takes_so l sent_so from sender false e = idle_step V (view key t) parts key x (here V key t parts own agrees tok x alive)
+    admitted gives takes_so l sent_so from sender false e = idle_step V (project key t) parts key x (here V key t parts own agrees tok x alive)
     admitted gives takes_so l sent_so from sender true e =
         let p = and_parts (is_addressed x l.to) (eqb l.epoch (epoch_of x) && is_other x from) e in
         let q = and_parts (eqb l.epoch (epoch_of x)) (is_other x from) p.1 in
@@ -152,14 +152,14 @@ module _ (V : ℕ → List ℕ) (key : List ℕ) (t : Trace) (parts : Parts V (v
 
     -- a letter of a manager: the lease ends later, or a view is installed
     heard_owed : InstallsOwed → (body : Body) (m : ℕ) → ((v : View) → body ≡ Activate v → In t.world.views v) → Owed x alive (heard body x m)
-    heard_owed installs_so (LeaseGive end) m begun = quiet_node V (view key t) parts key x (here V key t parts own agrees tok x alive) (granted_by x m end) [] refl refl refl
+    heard_owed installs_so (LeaseGive end) m begun = quiet_node V (project key t) parts key x (here V key t parts own agrees tok x alive) (granted_by x m end) [] refl refl refl
     heard_owed installs_so (Activate v) m begun = by_greatest (is_greatest v.epoch x.activated)
       where
         noted : NodeState
         noted = record x { activated = raised m v.epoch x.activated }
 
         calm : Owed x alive (idle noted)
-        calm = quiet_node V (view key t) parts key x (here V key t parts own agrees tok x alive) (idle noted) [] refl refl refl
+        calm = quiet_node V (project key t) parts key x (here V key t parts own agrees tok x alive) (idle noted) [] refl refl refl
 
         by_installed : (b : Bool) → (ltb (epoch_of x) v.epoch && is_member x.id v.members) ≡ b → Owed x alive (cond b (installed_in (record noted { view = Some v }) v.epoch) (idle noted))
         by_installed false e = calm
@@ -173,25 +173,25 @@ module _ (V : ℕ → List ℕ) (key : List ℕ) (t : Trace) (parts : Parts V (v
 
         by_greatest : (b : Bool) → Owed x alive (cond b (installs_by_majority noted v) (idle x))
         by_greatest true = by_majority (has_majority v.epoch noted.activated)
-        by_greatest false = idle_step V (view key t) parts key x (here V key t parts own agrees tok x alive)
-    heard_owed installs_so (InvBody k s kind content) m begun = idle_step V (view key t) parts key x (here V key t parts own agrees tok x alive)
-    heard_owed installs_so (AckBody k s top) m begun = idle_step V (view key t) parts key x (here V key t parts own agrees tok x alive)
-    heard_owed installs_so (ValBody k s) m begun = idle_step V (view key t) parts key x (here V key t parts own agrees tok x alive)
-    heard_owed installs_so (CopyAsk after room) m begun = idle_step V (view key t) parts key x (here V key t parts own agrees tok x alive)
-    heard_owed installs_so (CopyGive after done items) m begun = idle_step V (view key t) parts key x (here V key t parts own agrees tok x alive)
-    heard_owed installs_so (LeaseAsk asked) m begun = idle_step V (view key t) parts key x (here V key t parts own agrees tok x alive)
-    heard_owed installs_so (Prepare ballot) m begun = idle_step V (view key t) parts key x (here V key t parts own agrees tok x alive)
-    heard_owed installs_so (Promise ballot vote) m begun = idle_step V (view key t) parts key x (here V key t parts own agrees tok x alive)
-    heard_owed installs_so (Accept ballot v) m begun = idle_step V (view key t) parts key x (here V key t parts own agrees tok x alive)
-    heard_owed installs_so (AcceptedBody ballot) m begun = idle_step V (view key t) parts key x (here V key t parts own agrees tok x alive)
-    heard_owed installs_so (Chosen v) m begun = idle_step V (view key t) parts key x (here V key t parts own agrees tok x alive)
+        by_greatest false = idle_step V (project key t) parts key x (here V key t parts own agrees tok x alive)
+    heard_owed installs_so (InvBody k s kind content) m begun = idle_step V (project key t) parts key x (here V key t parts own agrees tok x alive)
+    heard_owed installs_so (AckBody k s top) m begun = idle_step V (project key t) parts key x (here V key t parts own agrees tok x alive)
+    heard_owed installs_so (ValBody k s) m begun = idle_step V (project key t) parts key x (here V key t parts own agrees tok x alive)
+    heard_owed installs_so (CopyAsk after room) m begun = idle_step V (project key t) parts key x (here V key t parts own agrees tok x alive)
+    heard_owed installs_so (CopyGive after done items) m begun = idle_step V (project key t) parts key x (here V key t parts own agrees tok x alive)
+    heard_owed installs_so (LeaseAsk asked) m begun = idle_step V (project key t) parts key x (here V key t parts own agrees tok x alive)
+    heard_owed installs_so (Prepare ballot) m begun = idle_step V (project key t) parts key x (here V key t parts own agrees tok x alive)
+    heard_owed installs_so (Promise ballot vote) m begun = idle_step V (project key t) parts key x (here V key t parts own agrees tok x alive)
+    heard_owed installs_so (Accept ballot v) m begun = idle_step V (project key t) parts key x (here V key t parts own agrees tok x alive)
+    heard_owed installs_so (AcceptedBody ballot) m begun = idle_step V (project key t) parts key x (here V key t parts own agrees tok x alive)
+    heard_owed installs_so (Chosen v) m begun = idle_step V (project key t) parts key x (here V key t parts own agrees tok x alive)
 
     receives_owed : GivesOwed → TakesOwed → InstallsOwed → (l : Wire) → In t.world.letters l → (a : Actor) → l.from ≡ a → Owed x alive (receives_from a x l)
     receives_owed gives takes_so installs_so l sent_so (A.Manager m) sender = by_admitted (is_addressed x l.to && ltb m x.managers)
       where
         by_admitted : (b : Bool) → Owed x alive (cond b (heard l.body x m) (idle x))
         by_admitted true = heard_owed installs_so l.body m (λ v is. own.begun l v sent_so is)
-        by_admitted false = idle_step V (view key t) parts key x (here V key t parts own agrees tok x alive)
+        by_admitted false = idle_step V (project key t) parts key x (here V key t parts own agrees tok x alive)
     receives_owed gives takes_so installs_so l sent_so (A.Node from) sender = admitted gives takes_so l sent_so from sender (is_addressed x l.to && (eqb l.epoch (epoch_of x) && is_other x from)) refl
 
   -- a manager's step

@@ -12,7 +12,7 @@ use Rattle.hk_node.specs.Node.{NodeState, members_of}
 use Rattle.hk_node.specs.Sends.{sent}
 use Rattle.hk_node.specs.Stepped.{told_of}
 use Rattle.hk_node.specs.Steps.{viewed}
-use Rattle.hk_effects.specs.View.{is_same_key, is_behind, letters_of, told_at}
+use Rattle.hk_effects.specs.Projection.{is_same_key, is_behind, letters_of, told_at}
 use Rattle.hk_effects.proofs.Order.{cases_key, row_here, row_next}
 use Rattle.hk_effects.proofs.Rising.{RisesBehind, not_down, bound_differs, not_behind_itself}
 use Rattle.hk_effects.proofs.Sends.{silent_other}

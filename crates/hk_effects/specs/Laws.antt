@@ -7,7 +7,7 @@ use Rattle.hk_world.specs.World.{WorldState}
 use Rattle.hk_world.specs.Steps.{Accepted, world_step}
 use Rattle.hk_world.specs.Sound.{IsEvent}
 use Rattle.hk_world.specs.declared.event.Event.{Event}
-use Rattle.hk_effects.specs.View.{Trace, view, traced}
+use Rattle.hk_effects.specs.Projection.{Trace, project, traced}
 use Rattle.hk_effects.specs.Own.{IsLed, IsOwn, IsTrace, Agrees}
 
 abbrev pub OneEffect : (ℕ → List ℕ) → State → State → Type 0
@@ -20,7 +20,7 @@ Effects V old new = OneEffect V old new ⊎ (mid : State) × OneEffect V old mid
 abbrev pub EventIsEffects : Type 0
 EventIsEffects =
     (V : ℕ → List ℕ) (key : List ℕ) (t : Trace) (event : Event) (a : Accepted) →
-    world_step t.world event ≡ Ok a → IsEvent event → IsOwn t.world → Agrees t.world V → IsTrace t → Parts V (view key t) → Effects V (view key t) (view key (traced key t event a))
+    world_step t.world event ≡ Ok a → IsEvent event → IsOwn t.world → Agrees t.world V → IsTrace t → Parts V (project key t) → Effects V (project key t) (project key (traced key t event a))
 
 -- Each accepted event keeps the world's own invariant: without managers, and where managers agree.
 pub record EventKeepsOwn : Type 0 where

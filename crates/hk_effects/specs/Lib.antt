@@ -1,4 +1,4 @@
-pub mod View
+pub mod Projection
 pub mod Own
 pub mod Laws
 pub mod Runs

@@ -9,7 +9,7 @@ use Rattle.hk_register.specs.Printed.{events_of, entries, printed}
 use Rattle.hk_world.specs.declared.event.Header.{Header}
 use Rattle.hk_world.specs.declared.event.Event.{Event}
 use Rattle.hk_world.specs.World.{numbered}
-use Rattle.hk_effects.specs.View.{Trace, view}
+use Rattle.hk_effects.specs.Projection.{Trace, project}
 use Rattle.hk_world.specs.Sound.{IsHeader}
 use Rattle.hk_effects.specs.Runs.{start_trace, Follows}
 
@@ -27,7 +27,7 @@ history_of t = events_of t.history
 
 -- the complete updates by stamp, each answered call that changed nothing behind the update that it found
 abbrev pub order_of : List ℕ → Trace → List Entry
-order_of key t = entries (printed (family t.world.views) (view key t))
+order_of key t = entries (printed (family t.world.views) (project key t))
 
 -- After every run of a world the order of each key is legal for the key's history.
 abbrev pub OrdersAreLegal : Type 0

@@ -18,7 +18,7 @@ use Rattle.hk_node.specs.Node.{NodeState}
 use Rattle.hk_world.specs.World.{WorldState, process_at, manager_at, numbered, last_view}
 use Rattle.hk_world.specs.declared.process.ManagerProcess.{ManagerProcess}
 use Rattle.hk_world.specs.Sound.{IsWorld}
-use Rattle.hk_effects.specs.View.{Trace, node_at}
+use Rattle.hk_effects.specs.Projection.{Trace, node_at}
 
 -- nodes are 0 to 65,535
 abbrev pub IsSmall : Stamp → Type 0

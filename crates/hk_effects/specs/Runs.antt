@@ -9,7 +9,7 @@ use Rattle.hk_world.specs.declared.event.Event.{Event}
 use Rattle.hk_world.specs.Start.{start, counted}
 use Rattle.hk_world.specs.Steps.{Accepted, world_step}
 use Rattle.hk_world.specs.Sound.{IsHeader, IsEvent}
-use Rattle.hk_effects.specs.View.{Trace, view, traced}
+use Rattle.hk_effects.specs.Projection.{Trace, project, traced}
 use Rattle.hk_effects.specs.Own.{IsOwn, IsTrace, Agrees}
 
 -- each founder's row is marked
@@ -26,8 +26,8 @@ Follows key t (event ∷ events) last = (a : Accepted) × (world_step t.world ev
 pub record IsKept (key : List ℕ) (t : Trace) : Type 0 where
   pub own : IsOwn t.world
   pub trace : IsTrace t
-  pub parts : (V : ℕ → List ℕ) → Agrees t.world V → Parts V (view key t)
-  pub calls : CallParts (view key t)
+  pub parts : (V : ℕ → List ℕ) → Agrees t.world V → Parts V (project key t)
+  pub calls : CallParts (project key t)
 
 abbrev pub RunsKeepParts : Type 0
 RunsKeepParts = (h : Header) → IsHeader h → (key : List ℕ) (events : List Event) (last : Trace) → Follows key (start_trace h) events last → IsKept key last

@@ -13,7 +13,7 @@ use Rattle.hk_register.specs.Machine.{Each, Letter, Mark, Marked, Update, State}
 use Rattle.hk_register.specs.Effects.{Effect, done}
 use Rattle.hk_register.specs.Effects.Effect.{Begin, TakeInv, AckInv, CounterInv, NoteAck, Settle, FinishValid, FinishInvalid, TakeVal}
 use Rattle.hk_register.specs.Effects.Effect.{KeepVal, StartReplay, Resend, Install, InstallPending}
-use Rattle.hk_register.specs.Effects.Effect.{GiveRow, CopyRow, PassRow, CopyValid, GetReady, Look, Refuse, Quiet}
+use Rattle.hk_register.specs.Effects.Effect.{GiveRow, CopyRow, PassRow, CopyValid, GetReady, Serve, Refuse, Quiet}
 use Rattle.hk_register.specs.Runs.{after, played, Plays}
 use Rattle.hk_register.specs.Worked.{five, six, nine, aborted, exactly, with_more, write, increment, waits, waits_again, takes}
 use Rattle.hk_world.specs.declared.event.Event.{Event}
@@ -21,7 +21,7 @@ use Rattle.hk_world.specs.declared.event.Event.TheVariants.{Call, TickAll, Crash
 use Rattle.hk_world.specs.Steps.{Accepted, world_step}
 use Rattle.hk_world.specs.Sound.{IsEvent}
 use Rattle.hk_world.specs.Worked.{managed, node, key, call, take, stamp}
-use Rattle.hk_effects.specs.View.{Trace, view, letters_of, traced}
+use Rattle.hk_effects.specs.Projection.{Trace, project, letters_of, traced}
 use Rattle.hk_effects.specs.Runs.{start_trace}
 use Rattle.hk_effects.specs.Orders.{family}
 
@@ -68,12 +68,12 @@ all_nodes = 0 ∷ 1 ∷ 2 ∷ []
 pub record Shows (k : List ℕ) (t : Trace) (step : Step) (a : Accepted) : Type 0 where
   pub accepted : world_step t.world step.event ≡ Ok a
   pub is_event : IsEvent step.event
-  pub are_allowed : Plays (family t.world.views) (view k t) step.effects
-  pub nodes : map (view k (traced k t step.event a)).node all_nodes ≡ map (played (view k t) step.effects).node all_nodes
-  pub letters : letters_of k a.shown.letters ≡ flat_map (repeated step.copies) (sent_by (view k t) step.effects)
-  pub marks : Each (Marked (view k (traced k t step.event a))) (marked_by (view k t) step.effects)
-  pub begun : (traced k t step.event a).begun ≡ (played (view k t) step.effects).begun
-  pub history : (traced k t step.event a).history ≡ (played (view k t) step.effects).history
+  pub are_allowed : Plays (family t.world.views) (project k t) step.effects
+  pub nodes : map (project k (traced k t step.event a)).node all_nodes ≡ map (played (project k t) step.effects).node all_nodes
+  pub letters : letters_of k a.shown.letters ≡ flat_map (repeated step.copies) (sent_by (project k t) step.effects)
+  pub marks : Each (Marked (project k (traced k t step.event a))) (marked_by (project k t) step.effects)
+  pub begun : (traced k t step.event a).begun ≡ (played (project k t) step.effects).begun
+  pub history : (traced k t step.event a).history ≡ (played (project k t) step.effects).history
 
 -- so does each event, one after the other
 abbrev pub ShowsAll : List ℕ → Trace → List Step → Type 0
@@ -102,7 +102,7 @@ abbrev pub more_by_one : Update
 more_by_one = increment 196609 131072 1 3
 
 -- Both nodes write at once, and the VAL of the higher write comes while the lower one waits in Trans: Begin, TakeInv, AckInv,
--- NoteAck, Settle, KeepVal, FinishValid and Look.
+-- NoteAck, Settle, KeepVal, FinishValid and Serve.
 abbrev pub val_kept : List Step
 val_kept =
     one (call 0 (Write five)) (Begin 0 by_zero)
@@ -112,7 +112,7 @@ val_kept =
     ∷ two (take 3) (NoteAck 1 0 131073 (waits by_one []) (exactly 0 ∷ [])) (Settle 1 (waits by_one (exactly 0 ∷ [])))
     ∷ one (take 5) (KeepVal 0 1)
     ∷ two (take 4) (NoteAck 0 1 131073 (waits by_zero []) (with_more 1 ∷ [])) (FinishValid 0 (waits by_zero (with_more 1 ∷ [])))
-    ∷ one (call 0 Read) (Look 0 3 Read (Found nine 131073))
+    ∷ one (call 0 Read) (Serve 0 3 Read (Found nine 131073))
     ∷ []
 
 -- Of three nodes two write at once. The lower write is acknowledged by a node with a higher one, and so its key is Invalid when it
@@ -198,7 +198,7 @@ view_begun =
     ∷ one (AskLease (node 0) 0) (Quiet 0)
     ∷ one (take 7) (Quiet 0)
     ∷ one (take 8) (Quiet 0)
-    ∷ one (call 0 Read) (Look 0 2 Read (Found five 131072))
+    ∷ one (call 0 Read) (Serve 0 2 Read (Found five 131072))
     ∷ []
 
 -- a key behind the other one
@@ -206,7 +206,7 @@ abbrev pub behind : List ℕ
 behind = 108 ∷ []
 
 -- A joiner copies two keys, one at a time, from a founder that wrote them alone: Install, GiveRow, CopyRow and GetReady, each by
--- itself, Quiet for what is done with the other key, and Look at the joiner.
+-- itself, Quiet for what is done with the other key, and Serve at the joiner.
 abbrev pub joined : List Step
 joined =
     sent_to 0 (two (call 0 (Write five)) (Begin 0 by_zero) (Settle 0 (waits by_zero [])))
@@ -222,7 +222,7 @@ joined =
     ∷ one (take 3) (Quiet 0)
     ∷ one (take 4) (GetReady 1)
     ∷ one (Lease (node 1) 1000) (Quiet 1)
-    ∷ one (call 1 Read) (Look 1 3 Read (Found five 131072))
+    ∷ one (call 1 Read) (Serve 1 3 Read (Found five 131072))
     ∷ []
 
 -- a joiner of one founder, before it copies anything
@@ -311,7 +311,7 @@ place (CopyRow n m s kind content valid) = 16
 place (PassRow n m s kind content valid) = 17
 place (CopyValid n m s kind content) = 18
 place (GetReady n) = 19
-place (Look n call op answer) = 20
+place (Serve n call op answer) = 20
 place (Refuse n call op answer) = 21
 place (Quiet n) = 22
 

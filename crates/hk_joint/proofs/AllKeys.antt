@@ -17,7 +17,7 @@ use Rattle.hk_world.specs.declared.refused.Refused.{Refused}
 use Rattle.hk_world.specs.World.{WorldState, numbered}
 use Rattle.hk_world.specs.Steps.{Accepted, world_step}
 use Rattle.hk_world.specs.Sound.{IsEvent}
-use Rattle.hk_effects.specs.View.{is_same_key}
+use Rattle.hk_effects.specs.Projection.{is_same_key}
 use Rattle.hk_effects.specs.Runs.{RunsKeepParts}
 use Rattle.hk_effects.proofs.Order.{same_true, same_itself}
 use Rattle.hk_safety.specs.Run.{RunState, world_of, world_with, AreAccepted, IsRun, history}

@@ -10,7 +10,7 @@ use Rattle.hk_world.specs.declared.event.Header.{Header}
 use Rattle.hk_world.specs.World.{WorldState}
 use Rattle.hk_world.specs.Steps.{Accepted, acting_of, world_step}
 use Rattle.hk_world.specs.Sound.{IsHeader, IsEvent}
-use Rattle.hk_effects.specs.View.{Trace, view, traced}
+use Rattle.hk_effects.specs.Projection.{Trace, project, traced}
 use Rattle.hk_effects.specs.Own.{IsOwn, Agrees}
 use Rattle.hk_effects.specs.Laws.{Effects, EventIsEffects}
 use Rattle.hk_effects.specs.Orders.{family}
@@ -27,7 +27,7 @@ use Rattle.hk_joint.proofs.Earlier.{IsEarlier}
 abbrev pub Views : Trace → ℕ → List ℕ
 Views t = family t.world.views
 
-pub kept_parts : (key : List ℕ) (t : Trace) → IsKept key t → Parts (Views t) (view key t)
+pub kept_parts : (key : List ℕ) (t : Trace) → IsKept key t → Parts (Views t) (project key t)
 kept_parts key t kept = kept.parts (Views t) (own_agrees t.world kept.own)
 
 -- ---- one event
@@ -35,9 +35,9 @@ pub record IsStep (key : List ℕ) (old new : Trace) : Type 0 where
   pub kept : IsKept key new
   pub items : List Item
   pub history : new.history ≡ items ++ old.history
-  pub grows : (s : ℕ) → Complete (Views old) (view key old) s → Complete (Views new) (view key new) s
+  pub grows : (s : ℕ) → Complete (Views old) (project key old) s → Complete (Views new) (project key new) s
   pub begun : (u : Update) → In old.begun u → In new.begun u
-  pub above : (i : Item) → In items i → Above (Views old) (view key old) i
+  pub above : (i : Item) → In items i → Above (Views old) (project key old) i
 
 effects_goes : (V : ℕ → List ℕ) (old new : State) → Parts V old → Effects V old new → Goes V old new
 effects_goes V old new parts (inl e) = effect_goes V old new parts e.0 e.1
@@ -76,20 +76,20 @@ module _ (is_effects : EventIsEffects) (key : List ℕ) (t : Trace) (event : Eve
       let v = was.own.views.each m.epoch some (was.trace.guarded m h).upto in
       subst (λ (k : ℕ). Views t k ≡ After k) v.2 (sym (own_agrees t.world was.own v.0 v.1) ∙ agrees v.0 v.1)
 
-  goes : Goes After (view key t) (view key (traced key t event a))
-  goes = effects_goes After (view key t) (view key (traced key t event a)) (was.parts After agrees) (is_effects After key t event a is event_ok was.own agrees was.trace (was.parts After agrees))
+  goes : Goes After (project key t) (project key (traced key t event a))
+  goes = effects_goes After (project key t) (project key (traced key t event a)) (was.parts After agrees) (is_effects After key t event a is event_ok was.own agrees was.trace (was.parts After agrees))
 
-  up : (s : ℕ) → Complete (Views t) (view key t) s → Complete After (view key t) s
-  up = other_views (Views t) After (view key t) same_views
+  up : (s : ℕ) → Complete (Views t) (project key t) s → Complete After (project key t) s
+  up = other_views (Views t) After (project key t) same_views
 
   pub event_steps : IsStep key t (traced key t event a)
   event_steps = record {
     kept = now;
     items = goes.items;
     history = goes.history;
-    grows = λ s c. subst (λ (w : WorldState). Complete (family w.views) (view key (traced key t event a)) s) (sym (world_is key t event a (acting_of a))) (goes.grows s (up s c));
+    grows = λ s c. subst (λ (w : WorldState). Complete (family w.views) (project key (traced key t event a)) s) (sym (world_is key t event a (acting_of a))) (goes.grows s (up s c));
     begun = goes.begun;
-    above = λ i h. above_less (Views t) After (view key t) (view key t) up i (goes.above i h);
+    above = λ i h. above_less (Views t) After (project key t) (project key t) up i (goes.above i h);
   }
 
 -- ---- all events
@@ -127,8 +127,8 @@ module _ (runs : RunsKeepParts) (is_effects : EventIsEffects) (h : Header) (head
 -- ---- each moment and the last one
 pub record IsMomentOf (key : List ℕ) (last t : Trace) : Type 0 where
   pub kept : IsKept key t
-  pub earlier : IsEarlier (Views t) (view key t) (view key last)
-  pub grows : (s : ℕ) → Complete (Views t) (view key t) s → Complete (Views last) (view key last) s
+  pub earlier : IsEarlier (Views t) (project key t) (project key last)
+  pub grows : (s : ℕ) → Complete (Views t) (project key t) s → Complete (Views last) (project key last) s
   pub begun : (u : Update) → In t.begun u → In last.begun u
 
 itself_moment : (key : List ℕ) (t : Trace) → IsKept key t → IsMomentOf key t t
@@ -148,7 +148,7 @@ before_step key last t u kept step m = record {
     history = m.earlier.history ∙ ap (λ (l : List Item). m.earlier.newer ++ l) step.history ∙ sym (append_assoc m.earlier.newer step.items t.history);
     later = λ i h.
         ⊎_elim
-        (λ (k : In m.earlier.newer i). above_less (Views t) (Views u) (view key t) (view key u) step.grows i (m.earlier.later i k))
+        (λ (k : In m.earlier.newer i). above_less (Views t) (Views u) (project key t) (project key u) step.grows i (m.earlier.later i k))
         (step.above i) (in_either m.earlier.newer step.items i h);
   };
   grows = λ s c. m.grows s (step.grows s c);

@@ -6,7 +6,7 @@ use Rattle.std.proofs.lemmas.Bool.{eq-eqb, leb-true, le-leb, and_parts, and_from
 use Rattle.hk_history.specs.declared.event.Event.{Event as Line}
 use Rattle.hk_history.specs.History.{is_reply}
 use Rattle.hk_register.specs.Machine.{In, Update, Item, State, call_of}
-use Rattle.hk_register.specs.Machine.Item.{Looked}
+use Rattle.hk_register.specs.Machine.Item.{ReadOnly}
 use Rattle.hk_register.specs.Facts.{Complete, Rests}
 use Rattle.hk_register.specs.Parts.{Parts}
 use Rattle.hk_register.specs.Calls.{IsReply, OneReply, CallParts}
@@ -52,7 +52,7 @@ reached_by V st parts s b one l c = ⊎_elim
     (the_update V st parts b c)
 
 abbrev pub look_of : Slot → Item
-look_of x = Looked x.call x.stamp x.op x.content x.answer
+look_of x = ReadOnly x.call x.stamp x.op x.content x.answer
 
 -- a look's reply is there just where the look is
 pub look_replies : (items : List Item) (x : Slot) → In items (look_of x) → list_any (is_reply x.call) (events_of items) ≡ true

@@ -15,7 +15,7 @@ use Rattle.hk_history.specs.Legal as one
 use Rattle.hk_register.specs.Machine.{In}
 use Rattle.hk_register.specs.Printed.{entry_of}
 use Rattle.hk_register.proofs.Tests.{in_any}
-use Rattle.hk_effects.specs.View.{is_same_key}
+use Rattle.hk_effects.specs.Projection.{is_same_key}
 use Rattle.hk_effects.specs.Runs.{RunsKeepParts}
 use Rattle.hk_effects.proofs.Order.{same_itself, same_of, same_not, cases_key}
 use Rattle.hk_safety.specs.Run.{RunState, IsRun, history, printed}

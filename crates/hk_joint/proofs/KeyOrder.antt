@@ -10,7 +10,7 @@ use Rattle.hk_register.specs.Printed.{Slot, Below, Sorted, IsPrinted, entry_of, 
 use Rattle.hk_register.proofs.Folding.{stands_in}
 use Rattle.hk_register.proofs.Orders.{above_base}
 use Rattle.hk_register.proofs.Printing.{printed_is}
-use Rattle.hk_effects.specs.View.{Trace, view, is_same_key}
+use Rattle.hk_effects.specs.Projection.{Trace, project, is_same_key}
 use Rattle.hk_effects.specs.Laws.{EventIsEffects}
 use Rattle.hk_effects.specs.Orders.{history_of}
 use Rattle.hk_effects.specs.Runs.{IsKept, RunsKeepParts}
@@ -38,11 +38,11 @@ module _ (run : RunState) (key : List ℕ) (kept : IsKept key (trace_of key run)
   abbrev last : Trace
   last = trace_of key run
 
-  parts : Parts (Views last) (view key last)
+  parts : Parts (Views last) (project key last)
   parts = kept_parts key last kept
 
-  is_printed : IsPrinted (Views last) (view key last) (slots run key)
-  is_printed = printed_is (Views last) (view key last) parts
+  is_printed : IsPrinted (Views last) (project key last) (slots run key)
+  is_printed = printed_is (Views last) (project key last) parts
 
   pub is_change : (a : Slot) → a.place ≡ 0 → event_of run key a ≡ moment run key a.stamp
   is_change a e = ap (λ (k : ℕ). cond (eqb k 0) (moment run key a.stamp) (replied_at run key a.call)) e
@@ -53,7 +53,7 @@ module _ (run : RunState) (key : List ℕ) (kept : IsKept key (trace_of key run)
   pub change_stamp : (a : Slot) → In (slots run key) a → a.place ≡ 0 → 1 ≤ a.stamp
   change_stamp a h e =
       let f = is_printed.update a h e in
-      let up = above_base (Views last) (view key last) parts f.0 f.1 in
+      let up = above_base (Views last) (project key last) parts f.0 f.1 in
       let stamp : a.stamp ≡ f.0.stamp = ap (λ (s : Slot). s.stamp) f.3 in
       omega (arith, up, stamp)
 
@@ -71,12 +71,12 @@ module _ (run : RunState) (key : List ℕ) (kept : IsKept key (trace_of key run)
       (λ (b_zero : b.place ≡ 0).
       let upto : moment run key a.stamp ≤ moment run key b.stamp =
       no_later (is_reached key a.stamp) (is_reached key b.stamp) (traces run key) (λ x h e.
-      change_change (Views x) (view key x) (view key last) kept.calls (each x h).earlier a.stamp b.stamp (below_stamp a b below) e) in
+      change_change (Views x) (project key x) (project key last) kept.calls (each x h).earlier a.stamp b.stamp (below_stamp a b below) e) in
       omega (arith, upto, is_change a a_zero, is_change b b_zero))
       (λ (b_pos : 0 < b.place).
       let upto : moment run key a.stamp ≤ replied_at run key b.call =
       no_later (is_reached key a.stamp) (replies b.call) (traces run key) (λ x h e.
-      change_look (Views x) (view key x) (view key last) kept.calls (each x h).earlier a.stamp b (change_stamp a ha a_zero) (below_stamp a b below) (look_in b hb b_pos) e) in
+      change_look (Views x) (project key x) (project key last) kept.calls (each x h).earlier a.stamp b (change_stamp a ha a_zero) (below_stamp a b below) (look_in b hb b_pos) e) in
       omega (arith, upto, is_change a a_zero, is_other b b_pos))
       (eq-zero-or-pos b.place))
       (λ (a_pos : 0 < a.place).
@@ -84,12 +84,12 @@ module _ (run : RunState) (key : List ℕ) (kept : IsKept key (trace_of key run)
       (λ (b_zero : b.place ≡ 0).
       let upto : replied_at run key a.call ≤ moment run key b.stamp =
       no_later (replies a.call) (is_reached key b.stamp) (traces run key) (λ x h e.
-      look_change (Views x) (view key x) (view key last) kept.calls (each x h).earlier a b.stamp (below_change a b below b_zero) (look_in a ha a_pos) e) in
+      look_change (Views x) (project key x) (project key last) kept.calls (each x h).earlier a b.stamp (below_change a b below b_zero) (look_in a ha a_pos) e) in
       omega (arith, upto, is_other a a_pos, is_change b b_zero))
       (λ (b_pos : 0 < b.place).
       let upto : replied_at run key a.call ≤ replied_at run key b.call =
       no_later (replies a.call) (replies b.call) (traces run key) (λ x h e.
-      look_look (Views x) (view key x) (view key last) kept.calls (each x h).earlier a b below (is_printed.look a ha a_pos) (is_printed.look b hb b_pos) e) in
+      look_look (Views x) (project key x) (project key last) kept.calls (each x h).earlier a b below (is_printed.look a ha a_pos) (is_printed.look b hb b_pos) e) in
       omega (arith, upto, is_other a a_pos, is_other b b_pos))
       (eq-zero-or-pos b.place))
       (eq-zero-or-pos a.place)
@@ -111,7 +111,7 @@ module _ (run : RunState) (key : List ℕ) (kept : IsKept key (trace_of key run)
       (λ (zero_is : a.place ≡ 0).
       let f = is_printed.update a h zero_is in
       let stamp : a.stamp ≡ f.0.stamp = ap (λ (s : Slot). s.stamp) f.3 in
-      let low = first_within (is_reached key a.stamp) run key (reached_with (Views last) (view key last) a.stamp f.0 f.1 (omega (arith, stamp)) f.2) in
+      let low = first_within (is_reached key a.stamp) run key (reached_with (Views last) (project key last) a.stamp f.0 f.1 (omega (arith, stamp)) f.2) in
       omega (arith, low, is_change a zero_is))
       (λ (pos : 0 < a.place).
       let low = first_within (replies a.call) run key (look_replies last.history a (look_in a h pos)) in

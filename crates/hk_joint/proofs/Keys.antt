@@ -14,7 +14,7 @@ use Rattle.hk_world.specs.declared.event.Header.{Header}
 use Rattle.hk_world.specs.World.{WorldState}
 use Rattle.hk_world.specs.Steps.{Accepted, acting_of}
 use Rattle.hk_world.specs.Sound.{IsHeader}
-use Rattle.hk_effects.specs.View.{Trace, view, traced, is_same_key}
+use Rattle.hk_effects.specs.Projection.{Trace, project, traced, is_same_key}
 use Rattle.hk_effects.specs.Orders.{family}
 use Rattle.hk_effects.specs.Runs.{start_trace, Follows, RunsKeepParts}
 use Rattle.hk_effects.proofs.Order.{IsBelow, below_trans, below_differs, greater_below, cases_key, same_of, same_not}
@@ -120,4 +120,4 @@ unnamed_nothing runs run ok key off =
     let k : IsKeyOf key first_key (trace_of key run) =
     empty_from runs run.header ok.header key run.events [] (start_trace run.header) refl ok.accepted (starts_empty key run.header) (λ h. off (called_named run.events [] key h)) in
     let last : Trace = trace_of key run in
-    none_printed (family last.world.views) (view key last) (no_items last.history k.items) (no_updates last.begun k.update)
+    none_printed (family last.world.views) (project key last) (no_items last.history k.items) (no_updates last.begun k.update)

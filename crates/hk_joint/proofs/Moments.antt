@@ -8,7 +8,7 @@ use Rattle.hk_history.specs.declared.event.Event.{Event as Line}
 use Rattle.hk_history.specs.declared.event.Event.TheVariants as L
 use Rattle.hk_history.specs.History.{answer_of, is_call, is_answered}
 use Rattle.hk_register.specs.Machine.{In, Item, State, call_of}
-use Rattle.hk_register.specs.Machine.Item.{Called, Answered, Dropped, Looked, Missed}
+use Rattle.hk_register.specs.Machine.Item.{Called, Answered, Dropped, ReadOnly, Rejected}
 use Rattle.hk_register.specs.Facts.{Complete}
 use Rattle.hk_register.specs.Parts.{Parts}
 use Rattle.hk_register.specs.Calls.{IsReply, CallParts}
@@ -52,13 +52,13 @@ module _ (U V : ℕ → List ℕ) (x last : State) (parts : Parts V last) (calls
           let stamp : a.stamp ≡ s = ap (λ (z : Slot). z.stamp) same ∙ w.3 in
           subst (λ (r : ℕ). reached U r x ≡ true) (sym stamp)
           (reached_by U x is.parts s s (is.parts.items (Answered c s y) h).1 (omega arith) done)
-      by_item (Looked c s op held y) h reply call =
-          let there = in_last U x last calls is (Looked c s op held y) h in
-          let p = at_place last.history (Looked c s op held y) there in
-          let w = printed.looks p.0 c s op held y p.1 in
+      by_item (ReadOnly c s op held y) h reply call =
+          let there = in_last U x last calls is (ReadOnly c s op held y) h in
+          let p = at_place last.history (ReadOnly c s op held y) there in
+          let w = printed.read_only p.0 c s op held y p.1 in
           let same : a ≡ look_slot p.0 c s op held y = own_slot V last parts calls slots printed a (look_slot p.0 c s op held y) mine w (sym call) in
           let place : a.place ≡ p.0 = ap (λ (z : Slot). z.place) same in
-          let pos = positive last.history p.0 (Looked c s op held y) p.1 in
+          let pos = positive last.history p.0 (ReadOnly c s op held y) p.1 in
           absurd (omega (arith, place, zero_is, pos))
         where
           positive : (items : List Item) (k : ℕ) (i : Item) → StandsAt items k i → 0 < k
@@ -70,11 +70,11 @@ module _ (U V : ℕ → List ℕ) (x last : State) (parts : Parts V last) (calls
           let says = answer_is last.history calls.replies (Dropped c s y) y there refl in
           let told' : is_answered (Some y) ≡ true = subst (λ (o : Option Answer). is_answered o ≡ true) (subst (λ (n : ℕ). answer_of (events_of last.history) n ≡ Some y) call says) told in
           absurd (unlike y told' (calls.items (Dropped c s y) there).1)
-      by_item (Missed c op y) h reply call =
-          let there = in_last U x last calls is (Missed c op y) h in
-          let says = answer_is last.history calls.replies (Missed c op y) y there refl in
+      by_item (Rejected c op y) h reply call =
+          let there = in_last U x last calls is (Rejected c op y) h in
+          let says = answer_is last.history calls.replies (Rejected c op y) y there refl in
           let told' : is_answered (Some y) ≡ true = subst (λ (o : Option Answer). is_answered o ≡ true) (subst (λ (n : ℕ). answer_of (events_of last.history) n ≡ Some y) call says) told in
-          absurd (false≢true (sym (answered_not_void y told') ∙ calls.items (Missed c op y) there))
+          absurd (false≢true (sym (answered_not_void y told') ∙ calls.items (Rejected c op y) there))
 
   -- where a change is reached, its call was made
   pub change_called : (b : Slot) → In slots b → b.place ≡ 0 → reached U b.stamp x ≡ true → list_any (is_call b.call) (events_of x.history) ≡ true

@@ -19,7 +19,7 @@ use Rattle.hk_history.specs.History.{is_void}
 use Rattle.hk_key.specs.declared.row.Row.{Row}
 use Rattle.hk_register.specs.Machine.{In, Weaker, Marked, Mark, Node, Phase, Item, State}
 use Rattle.hk_register.specs.Machine.Phase.{Valid, Invalid, Write, Replay, Trans}
-use Rattle.hk_register.specs.Machine.Item.{Looked, Missed}
+use Rattle.hk_register.specs.Machine.Item.{ReadOnly, Rejected}
 use Rattle.hk_register.specs.Facts.{ReadyCovers, Complete}
 use Rattle.hk_register.specs.Effects.{row_mark, cover_mark}
 use Rattle.hk_register.specs.Parts.{Parts, NodeOk, PhaseOk}
@@ -34,7 +34,7 @@ use Rattle.hk_world.specs.declared.event.Event.{Event}
 use Rattle.hk_world.specs.declared.event.Event.TheVariants.{Call}
 use Rattle.hk_world.specs.World.{WorldState}
 use Rattle.hk_world.specs.Steps.{Accepted, acting_of, world_step}
-use Rattle.hk_effects.specs.View.{Trace, view, key_node, node_at, told_at, look_item, call_items, items_of, moment_marks, pending_marks, install_marks, step_marks, traced}
+use Rattle.hk_effects.specs.Projection.{Trace, project, key_node, node_at, told_at, read_only_item, call_items, items_of, moment_marks, pending_marks, install_marks, step_marks, traced}
 use Rattle.hk_effects.specs.Orders.{family}
 use Rattle.hk_effects.specs.Runs.{IsKept}
 use Rattle.hk_effects.proofs.Frames.{accepted, step_change}
@@ -162,35 +162,35 @@ module _ (t : Trace) (id : NodeId) (key : List ℕ) (a : Accepted) (e : world_st
 
   -- for any key nothing is complete that was not
   module _ (k : List ℕ) (kept : IsKept k t) where
-    parts : Parts (Views t) (view k t)
+    parts : Parts (Views t) (project k t)
     parts = kept_parts k t kept
 
-    marks_old : (r : IsReadBy) → (j : Mark) → Marked (view k (traced k t event (made r))) j → Marked (view k t) j
+    marks_old : (r : IsReadBy) → (j : Mark) → Marked (project k (traced k t event (made r))) j → Marked (project k t) j
     marks_old r j h =
         let z : Node = key_node k (Some r.x) in
-        let here : (view k t).node r.node.0 ≡ z = ap (key_node k) r.at in
-        let ok : NodeOk (Views t) (view k t) r.node.0 z = subst (NodeOk (Views t) (view k t) r.node.0) here (parts.nodes r.node.0) in
+        let here : (project k t).node r.node.0 ≡ z = ap (key_node k) r.at in
+        let ok : NodeOk (Views t) (project k t) r.node.0 z = subst (NodeOk (Views t) (project k t) r.node.0) here (parts.nodes r.node.0) in
         let ch = step_change k t event (calls_after event t.world.calls) r.paces (Some (next_call t.world)) r.node r.x (answers r.x key (next_call t.world) r.answer) r.at in
         let f = ch.marks_from j h in
         ⊎_elim
-        (λ (new : In (step_marks r.node.0 z z []) f.0). let m = stays_marked (Views t) (view k t) r.node.0 z ok f.0 new in (m.0, weaker_chain j f.0 m.0 f.1 m.1, m.2))
-        (λ (old : Marked (view k t) f.0). (old.0, weaker_chain j f.0 old.0 f.1 old.1, old.2))
+        (λ (new : In (step_marks r.node.0 z z []) f.0). let m = stays_marked (Views t) (project k t) r.node.0 z ok f.0 new in (m.0, weaker_chain j f.0 m.0 f.1 m.1, m.2))
+        (λ (old : Marked (project k t) f.0). (old.0, weaker_chain j f.0 old.0 f.1 old.1, old.2))
         f.2
 
-    complete_before : (r : IsReadBy) → (s : ℕ) → Complete (Views (traced k t event (made r))) (view k (traced k t event (made r))) s → Complete (Views t) (view k t) s
+    complete_before : (r : IsReadBy) → (s : ℕ) → Complete (Views (traced k t event (made r))) (project k (traced k t event (made r))) s → Complete (Views t) (project k t) s
     complete_before r s c =
         let next : Trace = traced k t event (made r) in
-        let there : Complete (Views t) (view k next) s =
-        subst (λ (w : WorldState). Complete (family w.views) (view k next) s) (world_is k t event (made r) (acting_of (made r))) c in
-        complete_marks (Views t) (view k next) (view k t) (marks_old r) s there
+        let there : Complete (Views t) (project k next) s =
+        subst (λ (w : WorldState). Complete (family w.views) (project k next) s) (world_is k t event (made r) (acting_of (made r))) c in
+        complete_marks (Views t) (project k next) (project k t) (marks_old r) s there
 
-    pub read_completes_none : (s : ℕ) → Complete (Views (traced k t event a)) (view k (traced k t event a)) s → Complete (Views t) (view k t) s
-    read_completes_none s c = complete_before read_is s (subst (λ (b : Accepted). Complete (Views (traced k t event b)) (view k (traced k t event b)) s) read_is.is c)
+    pub read_completes_none : (s : ℕ) → Complete (Views (traced k t event a)) (project k (traced k t event a)) s → Complete (Views t) (project k t) s
+    read_completes_none s c = complete_before read_is s (subst (λ (b : Accepted). Complete (Views (traced k t event b)) (project k (traced k t event b)) s) read_is.is c)
 
     pub read_reaches_none : (s : ℕ) → 1 ≤ s → is_reached k s (traced k t event a) ≡ true → is_reached k s t ≡ true
     read_reaches_none s one h =
-        let r = reached_is (Views (traced k t event a)) (view k (traced k t event a)) s h in
-        reached_by (Views t) (view k t) parts s r.update.stamp one r.not_below (read_completes_none r.update.stamp r.complete)
+        let r = reached_is (Views (traced k t event a)) (project k (traced k t event a)) s h in
+        reached_by (Views t) (project k t) parts s r.update.stamp one r.not_below (read_completes_none r.update.stamp r.complete)
 
   -- of its own key the history tells it
   not_void : (answer : Answer) → is_told answer ≡ true → is_void (Some answer) ≡ false
@@ -199,30 +199,30 @@ module _ (t : Trace) (id : NodeId) (key : List ℕ) (a : Accepted) (e : world_st
   not_void answer told = absurd (false≢true told)
 
   read_looked : (r : IsReadBy) → is_told r.answer ≡ true →
-      In (traced key t event (made r)).history (Looked (t.world.calls + 1) (key_node key (Some r.x)).stamp Read (key_node key (Some r.x)).content r.answer)
+      In (traced key t event (made r)).history (ReadOnly (t.world.calls + 1) (key_node key (Some r.x)).stamp Read (key_node key (Some r.x)).content r.answer)
   read_looked r told =
       let z : Node = key_node key (Some r.x) in
       let reply : Reply = record { call = next_call t.world; answer = r.answer } in
       let ch = step_change key t event (calls_after event t.world.calls) r.paces (Some (next_call t.world)) r.node r.x (answers r.x key (next_call t.world) r.answer) r.at in
       let one : told_at key ((key, reply) ∷ []) ≡ reply ∷ [] = ap (λ (b : Bool). cond b (reply ∷ []) []) (same_itself key) in
-      let item : look_item (t.world.calls + 1) Read z reply ≡ Looked (t.world.calls + 1) z.stamp Read z.content r.answer =
-      ap (λ (b : Bool). cond b (Missed (t.world.calls + 1) Read r.answer) (Looked (t.world.calls + 1) z.stamp Read z.content r.answer)) (not_void r.answer told) in
-      let said : items_of key event (t.world.calls + 1) z z (told_at key ((key, reply) ∷ [])) ≡ Looked (t.world.calls + 1) z.stamp Read z.content r.answer ∷ [] =
+      let item : read_only_item (t.world.calls + 1) Read z reply ≡ ReadOnly (t.world.calls + 1) z.stamp Read z.content r.answer =
+      ap (λ (b : Bool). cond b (Rejected (t.world.calls + 1) Read r.answer) (ReadOnly (t.world.calls + 1) z.stamp Read z.content r.answer)) (not_void r.answer told) in
+      let said : items_of key event (t.world.calls + 1) z z (told_at key ((key, reply) ∷ [])) ≡ ReadOnly (t.world.calls + 1) z.stamp Read z.content r.answer ∷ [] =
       ap (λ (b : Bool). cond b (call_items (eqb z.stamp z.stamp) (t.world.calls + 1) Read z z (told_at key ((key, reply) ∷ []))) []) (same_itself key)
       ∙ (ap (λ (b : Bool). call_items b (t.world.calls + 1) Read z z (told_at key ((key, reply) ∷ []))) (eq-eqb z.stamp z.stamp refl)
-      ∙ (ap (map (look_item (t.world.calls + 1) Read z)) one ∙ ap (λ (i : Item). i ∷ []) item)) in
-      subst (λ (l : List Item). In l (Looked (t.world.calls + 1) z.stamp Read z.content r.answer)) (sym (ch.history ∙ ap (λ (l : List Item). l ++ t.history) said)) (inl refl)
+      ∙ (ap (map (read_only_item (t.world.calls + 1) Read z)) one ∙ ap (λ (i : Item). i ∷ []) item)) in
+      subst (λ (l : List Item). In l (ReadOnly (t.world.calls + 1) z.stamp Read z.content r.answer)) (sym (ch.history ∙ ap (λ (l : List Item). l ++ t.history) said)) (inl refl)
 
   pub record IsLookOf (call : ℕ) (next : Trace) : Type 0 where
     pub stamp : ℕ
     pub content : Option Content
     pub answer : Answer
-    pub there : In next.history (Looked call stamp Read content answer)
+    pub there : In next.history (ReadOnly call stamp Read content answer)
 
   pub read_look : is_told read_is.answer ≡ true → IsLookOf (t.world.calls + 1) (traced key t event a)
   read_look told = record {
     stamp = (key_node key (Some read_is.x)).stamp;
     content = (key_node key (Some read_is.x)).content;
     answer = read_is.answer;
-    there = subst (λ (b : Accepted). In (traced key t event b).history (Looked (t.world.calls + 1) (key_node key (Some read_is.x)).stamp Read (key_node key (Some read_is.x)).content read_is.answer)) (sym read_is.is) (read_looked read_is told);
+    there = subst (λ (b : Accepted). In (traced key t event b).history (ReadOnly (t.world.calls + 1) (key_node key (Some read_is.x)).stamp Read (key_node key (Some read_is.x)).content read_is.answer)) (sym read_is.is) (read_looked read_is told);
   }

@@ -8,10 +8,10 @@ use Rattle.hk_base.specs.declared.stamp.Kind.TheVariants.{Write as Plain, Rmw}
 use Rattle.std.specs.Prelude.{Option}
 use Rattle.hk_register.specs.Machine.{In, Marked, Mark, Phase, Update, Item, State}
 use Rattle.hk_register.specs.Machine.Phase.{Valid, Invalid, Write, Replay, Trans}
-use Rattle.hk_register.specs.Machine.Item.{Called, Answered, Dropped, Looked, Missed}
+use Rattle.hk_register.specs.Machine.Item.{Called, Answered, Dropped, ReadOnly, Rejected}
 use Rattle.hk_register.specs.Facts.{Complete}
 use Rattle.hk_register.specs.Effects.{Effect, Happens, Allowed, done, next_stamp, answer_of, drop_of, dropped}
-use Rattle.hk_register.specs.Effects.Effect.{Begin, TakeInv, AckInv, CounterInv, NoteAck, Settle, FinishValid, FinishInvalid, TakeVal, KeepVal, StartReplay, Resend, Install, InstallPending, GiveRow, CopyRow, PassRow, CopyValid, GetReady, Look, Refuse, Quiet}
+use Rattle.hk_register.specs.Effects.Effect.{Begin, TakeInv, AckInv, CounterInv, NoteAck, Settle, FinishValid, FinishInvalid, TakeVal, KeepVal, StartReplay, Resend, Install, InstallPending, GiveRow, CopyRow, PassRow, CopyValid, GetReady, Serve, Refuse, Quiet}
 use Rattle.hk_register.specs.Parts.{Parts}
 use Rattle.hk_register.proofs.Grow.{in_right, in_either}
 use Rattle.hk_register.proofs.Begins.{fresh_row}
@@ -37,18 +37,18 @@ complete_marks V old new more s (e, c) = (
 -- the item is of a call that was served in this state, or of no such call
 abbrev pub Above : (ℕ → List ℕ) → State → Item → Type 0
 Above V st (Called c s op) = (b : ℕ) → Complete V st b → b < s
-Above V st (Looked c s op held a) = (b : ℕ) → Complete V st b → b ≤ s
+Above V st (ReadOnly c s op held a) = (b : ℕ) → Complete V st b → b ≤ s
 Above V st (Answered c s a) = ⊤
 Above V st (Dropped c s a) = ⊤
-Above V st (Missed c op a) = ⊤
+Above V st (Rejected c op a) = ⊤
 
 -- what was complete earlier is complete later
 pub above_less : (U V : ℕ → List ℕ) (old new : State) → ((s : ℕ) → Complete U old s → Complete V new s) → (i : Item) → Above V new i → Above U old i
 above_less U V old new grows (Called c s op) f = λ b d. f b (grows b d)
-above_less U V old new grows (Looked c s op held a) f = λ b d. f b (grows b d)
+above_less U V old new grows (ReadOnly c s op held a) f = λ b d. f b (grows b d)
 above_less U V old new grows (Answered c s a) f = tt
 above_less U V old new grows (Dropped c s a) f = tt
-above_less U V old new grows (Missed c op a) f = tt
+above_less U V old new grows (Rejected c op a) f = tt
 
 module _ (V : ℕ → List ℕ) where
   -- from one state to another, items of calls that were served in the first one
@@ -86,8 +86,8 @@ module _ (V : ℕ → List ℕ) where
       let up : u.base < u.stamp = rw a.6 (next_above u.kind u.base n) in
       omega (arith, fresh, up, a.5))
   effect_above st parts (Begin n u) a i (inr h) = absurd h
-  effect_above st parts (Look n call op answer) a i (inl e) = subst (Above V st) (sym e) (λ b c. fresh_row V st parts n b a.0 a.2 c)
-  effect_above st parts (Look n call op answer) a i (inr h) = absurd h
+  effect_above st parts (Serve n call op answer) a i (inl e) = subst (Above V st) (sym e) (λ b c. fresh_row V st parts n b a.0 a.2 c)
+  effect_above st parts (Serve n call op answer) a i (inr h) = absurd h
   effect_above st parts (Refuse n call op answer) a i (inl e) = subst (Above V st) (sym e) tt
   effect_above st parts (Refuse n call op answer) a i (inr h) = absurd h
   effect_above st parts (TakeInv n m s kind content why) a i h = dropped_above st (st.node n).phase why i h

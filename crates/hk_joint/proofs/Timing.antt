@@ -15,7 +15,7 @@ use Rattle.hk_register.proofs.Tests.{any_in, in_any}
 use Rattle.hk_world.specs.declared.event.Event.{Event}
 use Rattle.hk_world.specs.World.{WorldState}
 use Rattle.hk_world.specs.Start.{start}
-use Rattle.hk_effects.specs.View.{Trace, view}
+use Rattle.hk_effects.specs.Projection.{Trace, project}
 use Rattle.hk_effects.specs.Laws.{EventIsEffects}
 use Rattle.hk_effects.specs.Orders.{history_of}
 use Rattle.hk_effects.specs.Runs.{start_trace, IsKept, RunsKeepParts}
@@ -120,8 +120,8 @@ module _ (runs : RunsKeepParts) (is_effects : EventIsEffects) (run : RunState) (
         let m : IsMomentOf key last (now n) = moment_now n l in
         ⊎_elim
         (λ (zero_is : a.place ≡ 0).
-        let done = change_replied (Views (now n)) (Views last) (view key (now n)) (view key last) (kept_parts key last kept) kept.calls m.earlier m.grows (slots run key)
-        (printed_is (Views last) (view key last) (kept_parts key last kept)) a mine zero_is told e in
+        let done = change_replied (Views (now n)) (Views last) (project key (now n)) (project key last) (kept_parts key last kept) kept.calls m.earlier m.grows (slots run key)
+        (printed_is (Views last) (project key last) (kept_parts key last kept)) a mine zero_is told e in
         let up : moment run key a.stamp ≤ n = upto (is_reached key a.stamp) n l done in
         omega (arith, up, is_change run key kept (moments_of_run runs is_effects run ok key) a zero_is))
         (λ (pos : 0 < a.place).
@@ -136,13 +136,13 @@ module _ (runs : RunsKeepParts) (is_effects : EventIsEffects) (run : RunState) (
         ⊎_elim
         (λ (zero_is : b.place ≡ 0).
         let place = is_change run key kept (moments_of_run runs is_effects run ok key) b zero_is in
-        change_called (Views (now n)) (Views last) (view key (now n)) (view key last) (kept_parts key last kept) kept.calls m.earlier m.grows (slots run key)
-        (printed_is (Views last) (view key last) (kept_parts key last kept)) b mine zero_is
+        change_called (Views (now n)) (Views last) (project key (now n)) (project key last) (kept_parts key last kept) kept.calls m.earlier m.grows (slots run key)
+        (printed_is (Views last) (project key last) (kept_parts key last kept)) b mine zero_is
         (at_first (is_reached key b.stamp) n l (sym place ∙ is)))
         (λ (pos : 0 < b.place).
         let place = is_other run key kept (moments_of_run runs is_effects run ok key) b pos in
-        look_called (Views (now n)) (Views last) (view key (now n)) (view key last) (kept_parts key last kept) kept.calls m.earlier m.grows (slots run key)
-        (printed_is (Views last) (view key last) (kept_parts key last kept)) b mine pos
+        look_called (Views (now n)) (Views last) (project key (now n)) (project key last) (kept_parts key last kept) kept.calls m.earlier m.grows (slots run key)
+        (printed_is (Views last) (project key last) (kept_parts key last kept)) b mine pos
         (at_first (λ (t : Trace). list_any (is_reply b.call) (history_of t)) n l (sym place ∙ is)))
         (eq-zero-or-pos b.place)
 

@@ -12,7 +12,7 @@ use Rattle.hk_history.specs.declared.event.Entry.{Entry}
 use Rattle.hk_history.specs.History.{is_call, is_reply}
 use Rattle.hk_history.specs.Legal.{Legal, is_entry}
 use Rattle.hk_register.specs.Machine.{In, Item, call_of}
-use Rattle.hk_register.specs.Machine.Item.{Called, Answered, Dropped, Looked, Missed}
+use Rattle.hk_register.specs.Machine.Item.{Called, Answered, Dropped, ReadOnly, Rejected}
 use Rattle.hk_register.specs.Printed.{Slot, StandsAt, item_events, events_of, tag_at, entry_of}
 use Rattle.hk_register.proofs.Grow.{in_either}
 use Rattle.hk_register.proofs.Once.{look_slot, own_slot, slot_stands}
@@ -23,7 +23,7 @@ use Rattle.hk_world.specs.declared.event.Event.TheVariants.{Call}
 use Rattle.hk_world.specs.World.{numbered}
 use Rattle.hk_world.specs.Start.{start}
 use Rattle.hk_world.specs.Steps.{world_step}
-use Rattle.hk_effects.specs.View.{Trace, view, traced, is_same_key}
+use Rattle.hk_effects.specs.Projection.{Trace, project, traced, is_same_key}
 use Rattle.hk_effects.specs.Laws.{EventIsEffects}
 use Rattle.hk_effects.specs.Orders.{history_of}
 use Rattle.hk_effects.specs.Runs.{IsKept, RunsKeepParts}
@@ -52,12 +52,12 @@ begins (Answered d s a) c line (inl e) r = absurd (false≢true (subst (λ (l : 
 begins (Answered d s a) c line (inr h) r = absurd h
 begins (Dropped d s a) c line (inl e) r = absurd (false≢true (subst (λ (l : Line). is_call c l ≡ true) e r))
 begins (Dropped d s a) c line (inr h) r = absurd h
-begins (Looked d s op held a) c line (inl e) r = eqb-true d c (subst (λ (l : Line). is_call c l ≡ true) e r)
-begins (Looked d s op held a) c line (inr (inl e)) r = absurd (false≢true (subst (λ (l : Line). is_call c l ≡ true) e r))
-begins (Looked d s op held a) c line (inr (inr h)) r = absurd h
-begins (Missed d op a) c line (inl e) r = eqb-true d c (subst (λ (l : Line). is_call c l ≡ true) e r)
-begins (Missed d op a) c line (inr (inl e)) r = absurd (false≢true (subst (λ (l : Line). is_call c l ≡ true) e r))
-begins (Missed d op a) c line (inr (inr h)) r = absurd h
+begins (ReadOnly d s op held a) c line (inl e) r = eqb-true d c (subst (λ (l : Line). is_call c l ≡ true) e r)
+begins (ReadOnly d s op held a) c line (inr (inl e)) r = absurd (false≢true (subst (λ (l : Line). is_call c l ≡ true) e r))
+begins (ReadOnly d s op held a) c line (inr (inr h)) r = absurd h
+begins (Rejected d op a) c line (inl e) r = eqb-true d c (subst (λ (l : Line). is_call c l ≡ true) e r)
+begins (Rejected d op a) c line (inr (inl e)) r = absurd (false≢true (subst (λ (l : Line). is_call c l ≡ true) e r))
+begins (Rejected d op a) c line (inr (inr h)) r = absurd h
 
 begun_by : (items : List Item) (c : ℕ) (line : Line) → In (events_of items) line → is_call c line ≡ true → (i : Item) × In items i × (call_of i ≡ c)
 begun_by [] c line h r = absurd h
@@ -140,7 +140,7 @@ module _ (runs : RunsKeepParts) (is_effects : EventIsEffects) (run : RunState) (
       let kept_run : IsKept key (trace_of key run) = run_kept runs key run ok in
       let parts = kept_parts key (trace_of key run) kept_run in
       let V = Views (trace_of key run) in
-      let one : p.slot ≡ b = own_slot V (view key (trace_of key run)) parts kept_run.calls (slots run key) (printed_is V (view key (trace_of key run)) parts) p.slot b there mine calls in
+      let one : p.slot ≡ b = own_slot V (project key (trace_of key run)) parts kept_run.calls (slots run key) (printed_is V (project key (trace_of key run)) parts) p.slot b there mine calls in
       ap (λ (s : Standing). s.event) p.is ∙ (ap (λ (k : List ℕ). event_of run k p.slot) keys ∙ ap (event_of run key) one)
     where
       key_is : {k j : List ℕ} → Some k ≡ Some j → k ≡ j
@@ -198,15 +198,15 @@ module _ (runs : RunsKeepParts) (is_effects : EventIsEffects) (run : RunState) (
         let c : ℕ = t.world.calls + 1 in
         let last : Trace = trace_of key run in
         let look = read_look t at.id key at.a (made_at key) is_told_here.told in
-        let there : In (now key (suc i)).history (Looked c look.stamp Read look.content look.answer) =
-        subst (λ (z : Trace). In z.history (Looked c look.stamp Read look.content look.answer)) (sym (goes_on key)) look.there in
+        let there : In (now key (suc i)).history (ReadOnly c look.stamp Read look.content look.answer) =
+        subst (λ (z : Trace). In z.history (ReadOnly c look.stamp Read look.content look.answer)) (sym (goes_on key)) look.there in
         let m : IsMomentOf key last (now key (suc i)) = moment_now runs is_effects run ok key (suc i) at.within in
         let kept_run : IsKept key last = run_kept runs key run ok in
         let parts = kept_parts key last kept_run in
-        let in_end : In last.history (Looked c look.stamp Read look.content look.answer) = in_last (Views (now key (suc i))) (view key (now key (suc i))) (view key last) kept_run.calls m.earlier _ there in
-        let p = at_place last.history (Looked c look.stamp Read look.content look.answer) in_end in
+        let in_end : In last.history (ReadOnly c look.stamp Read look.content look.answer) = in_last (Views (now key (suc i))) (project key (now key (suc i))) (project key last) kept_run.calls m.earlier _ there in
+        let p = at_place last.history (ReadOnly c look.stamp Read look.content look.answer) in_end in
         let slot : Slot = look_slot p.0 c look.stamp Read look.content look.answer in
-        let mine : In (slots run key) slot = (printed_is (Views last) (view key last) parts).looks p.0 c look.stamp Read look.content look.answer p.1 in
+        let mine : In (slots run key) slot = (printed_is (Views last) (project key last) parts).read_only p.0 c look.stamp Read look.content look.answer p.1 in
         let place : event_of run key slot ≡ replied_at run key c = is_other run key kept_run (moments_of_run runs is_effects run ok key) slot p.2 in
         let high : replied_at run key c ≤ suc i =
         upto runs is_effects run ok key (λ (z : Trace). list_any (is_reply c) (history_of z)) (suc i) at.within (look_replies (now key (suc i)).history slot there) in

@@ -4,7 +4,7 @@ use Rattle.std.specs.List.{filter, flat_map, range_with_len}
 use Rattle.hk_history.specs.declared.event.Entry.{Entry}
 use Rattle.hk_register.specs.Printed.{Slot, entry_of}
 use Rattle.hk_register.specs.Printed as register
-use Rattle.hk_effects.specs.View.{view, is_same_key}
+use Rattle.hk_effects.specs.Projection.{project, is_same_key}
 use Rattle.hk_effects.specs.Orders.{family}
 use Rattle.hk_safety.specs.Run.{RunState, IsRun, trace_of, printed, named}
 use Rattle.hk_safety.specs.Moment.{moment, replied_at}
@@ -17,7 +17,7 @@ pub record Standing : Type 0 where
 
 -- the slots of the key's printed order
 abbrev pub slots : RunState → List ℕ → List Slot
-slots run key = register.printed (family (trace_of key run).world.views) (view key (trace_of key run))
+slots run key = register.printed (family (trace_of key run).world.views) (project key (trace_of key run))
 
 -- a change stands at the moment of its stamp, any other call at the event of its reply
 abbrev pub event_of : RunState → List ℕ → Slot → ℕ

@@ -4,7 +4,7 @@ use Rattle.std.specs.List.{AllByRecursion}
 use Rattle.hk_snap.specs.declared.rule.Publication.{Publication}
 use Rattle.hk_snap.specs.Snapshots.{cell_of, last_shown, IsRising}
 use Rattle.hk_snap.specs.Ends.{Reader, seen_at, Loads}
-use Rattle.hk_joint_reads.specs.declared.look.Look.{Look}
+use Rattle.hk_joint_reads.specs.declared.look.KeyLoads.{KeyLoads}
 use Rattle.hk_joint_reads.specs.Reads.{LoadsEach, shown_of, ticket_of, tickets_of, looks_of}
 
 -- what is loaded later of the keys that are left makes a round of all keys
@@ -49,7 +49,7 @@ first_ends old now keys left tickets is none =
     (is.lists ++ [], goes [] now refl, sym (append-nil tickets) ∙ ap (λ (l : List (List ℕ)). tickets ++ tickets_of l []) (sym none) ∙ is.told [])
 
 -- ---- the second round
-pub record SecondRound (old now : Reader) (keys left : List (List ℕ)) (first behind : List (Option ℕ)) (looks : List Look) : Type 0 where
+pub record SecondRound (old now : Reader) (keys left : List (List ℕ)) (first behind : List (Option ℕ)) (looks : List KeyLoads) : Type 0 where
   pub lists : List (List Publication)
   pub goes : GoesOn old now keys left lists
   pub rising : AllByRecursion IsRising lists
@@ -62,28 +62,28 @@ all_more : (lists : List (List Publication)) (seen : List Publication) → AllBy
 all_more [] seen all is = (is, tt)
 all_more (l ∷ lists) seen all is = (all.0, all_more lists seen all.1 is)
 
-pub second_more : (old now loaded : Reader) (keys left rest : List (List ℕ)) (first behind others : List (Option ℕ)) (key : List ℕ) (ticket : Option ℕ) (looks : List Look) (look : Look)
+pub second_more : (old now loaded : Reader) (keys left rest : List (List ℕ)) (first behind others : List (Option ℕ)) (key : List ℕ) (ticket : Option ℕ) (looks : List KeyLoads) (look : KeyLoads)
     → SecondRound old now keys left first behind looks → left ≡ key ∷ rest → behind ≡ ticket ∷ others → Loads now (cell_of key) loaded
     → loaded.shown ≡ last_shown (seen_at loaded.ends (cell_of key)) → IsRising (seen_at loaded.ends (cell_of key))
     → look ≡ record { key = key; first = ticket; second = shown_of key loaded.shown } → SecondRound old loaded keys rest first others (looks ++ look ∷ [])
 second_more old now loaded keys left rest first behind others key ticket looks look is same with_ticket loads shown rises told =
     let seen = seen_at loaded.ends (cell_of key) in
     let goes : GoesOn old now keys (key ∷ rest) is.lists = subst (λ (l : List (List ℕ)). GoesOn old now keys l is.lists) same is.goes in
-    let known : look ≡ record { key = key; first = ticket; second = shown_of key (last_shown seen) } = told ∙ ap (λ s. let l : Look = record { key = key; first = ticket; second = shown_of key s } in l) shown in
+    let known : look ≡ record { key = key; first = ticket; second = shown_of key (last_shown seen) } = told ∙ ap (λ s. let l : KeyLoads = record { key = key; first = ticket; second = shown_of key s } in l) shown in
     record {
       lists = is.lists ++ seen ∷ [];
       goes = goes_on old now loaded keys rest is.lists key goes loads shown;
       rising = all_more is.lists seen is.rising rises;
       told = λ later.
           append_assoc looks (look ∷ []) (looks_of rest others later)
-          ∙ ap (λ (l : Look). looks ++ l ∷ looks_of rest others later) known
+          ∙ ap (λ (l : KeyLoads). looks ++ l ∷ looks_of rest others later) known
           ∙ ap (λ (l : List (List ℕ)). looks ++ looks_of l (ticket ∷ others) (seen ∷ later)) (sym same)
           ∙ ap (λ (l : List (Option ℕ)). looks ++ looks_of left l (seen ∷ later)) (sym with_ticket)
           ∙ is.told (seen ∷ later)
           ∙ ap (looks_of keys first) (sym (append_assoc is.lists (seen ∷ []) later));
     }
 
-pub second_ends : (old now : Reader) (keys left : List (List ℕ)) (first behind : List (Option ℕ)) (looks : List Look) → SecondRound old now keys left first behind looks → left ≡ []
+pub second_ends : (old now : Reader) (keys left : List (List ℕ)) (first behind : List (Option ℕ)) (looks : List KeyLoads) → SecondRound old now keys left first behind looks → left ≡ []
     → (second : List (List Publication)) × LoadsEach old keys second now × (looks ≡ looks_of keys first second) × AllByRecursion IsRising second
 second_ends old now keys left first behind looks is none =
     let goes : GoesOn old now keys [] is.lists = subst (λ (l : List (List ℕ)). GoesOn old now keys l is.lists) none is.goes in (

@@ -15,7 +15,7 @@ use Rattle.hk_snap.specs.declared.snapshot.Snapshot.{Snapshot}
 use Rattle.hk_snap.specs.Snapshots.{cell_of, last_shown, is_large, IsRising}
 use Rattle.hk_snap.specs.Ends.{Reader, seen_at, Loads}
 use Rattle.hk_snap.proofs.Prefixes.{prefix_self, prefix_trans}
-use Rattle.hk_joint_reads.specs.declared.look.Look.{Look}
+use Rattle.hk_joint_reads.specs.declared.look.KeyLoads.{KeyLoads}
 use Rattle.hk_joint_reads.specs.declared.read.Joint.{Joint}
 use Rattle.hk_joint_reads.specs.declared.read.Joint.TheVariants.{Elsewhere, Moved, Large}
 use Rattle.hk_joint_reads.specs.Reads.{LoadsEach, shown_of, ticket_of, tickets_of, looks_of, elsewhere, moved, moved_by, row_busy, shown_busy, busy, large_by, large, first_told, unfound, joint_of, IsFound, IsJointRead}
@@ -68,7 +68,7 @@ by_ticket true key a b s t front rises first last is_s is_t e m = same_latest ke
 by_ticket false key a b s t front rises first last is_s is_t e m = some_none _ m
 
 -- the first load showed a ticket of the key, the second one a snapshot of it
-abbrev seen_look : List ℕ → Option Snapshot → Option Snapshot → Look
+abbrev seen_look : List ℕ → Option Snapshot → Option Snapshot → KeyLoads
 seen_look key s t = record { key = key; first = ticket_of key s; second = shown_of key t }
 
 by_second : (is_s is_t : Bool) (key : List ℕ) (a b : List Publication) (s t : Snapshot) → IsPrefix a b → IsRising b → last_shown a ≡ Some s → last_shown b ≡ Some t → bytes_eq s.key key ≡ is_s
@@ -125,7 +125,7 @@ other_or : (a b : Option Joint) → Other a → Other b → Other (option_or a b
 other_or None b x y = y
 other_or (Some j) b x y = x
 
-other_first : (check : Look → Option Joint) → ((l : Look) → Other (check l)) → (looks : List Look) → Other (first_told check looks)
+other_first : (check : KeyLoads → Option Joint) → ((l : KeyLoads) → Other (check l)) → (looks : List KeyLoads) → Other (first_told check looks)
 other_first check other [] = tt
 other_first check other (l ∷ looks) = other_or (check l) (first_told check looks) (other l) (other_first check other looks)
 
@@ -149,7 +149,7 @@ other_large : (key : List ℕ) (shown : Option Snapshot) → Other (large_by key
 other_large key None = tt
 other_large key (Some s) = when (is_large s.shape) (Large key) None (λ f. f) tt
 
-other_all : (looks : List Look) (end now skew : ℕ) → Other (unfound looks end now skew)
+other_all : (looks : List KeyLoads) (end now skew : ℕ) → Other (unfound looks end now skew)
 other_all looks end now skew =
     other_or (first_told elsewhere looks) _ (other_first elsewhere (λ l. unless (is_some l.first && is_some l.second) (Elsewhere l.key) (λ f. f)) looks)
     (other_or (first_told moved looks) _ (other_first moved (λ l. other_moved l.key l.first l.second) looks)
@@ -170,13 +170,13 @@ found_still old between new keys first second end now skew joint long loads agai
     all_still between new keys first second long (each_below old between keys first loads) again rising one.0 two.0
 
 -- what the code of a read does
-pub joint_read : {E : Type 0} (r : Result Joint E) (old between new : Reader) (keys : List (List ℕ)) (first second : List (List Publication)) (tickets : List (Option ℕ)) (looks : List Look) (end end' now skew : ℕ)
+pub joint_read : {E : Type 0} (r : Result Joint E) (old between new : Reader) (keys : List (List ℕ)) (first second : List (List Publication)) (tickets : List (Option ℕ)) (looks : List KeyLoads) (end end' now skew : ℕ)
     (reading : Option ℕ) → LoadsEach old keys first between → tickets ≡ tickets_of keys first → LoadsEach between keys second new → looks ≡ looks_of keys tickets second → AllByRecursion IsRising second
     → IfSome reading (λ time. now ≡ time) → end ≡ end' → IfOk r (λ joint. joint ≡ joint_of looks end now skew) → IfOk r (λ joint. IsJointRead old new keys end' skew reading joint)
 joint_read (Err e) old between new keys first second tickets looks end end' now skew reading loads are again seen rising clock same is = tt
 joint_read (Ok joint) old between new keys first second tickets looks end end' now skew reading loads are again seen rising clock same is =
     let told : joint ≡ joint_of (looks_of keys (tickets_of keys first) second) end' now skew =
-    is ∙ ap (λ (l : List Look). joint_of l end now skew) (seen ∙ ap (λ (t : List (Option ℕ)). looks_of keys t second) are) ∙ ap (λ (n : ℕ). joint_of (looks_of keys (tickets_of keys first) second) n now skew) same in
+    is ∙ ap (λ (l : List KeyLoads). joint_of l end now skew) (seen ∙ ap (λ (t : List (Option ℕ)). looks_of keys t second) are) ∙ ap (λ (n : ℕ). joint_of (looks_of keys (tickets_of keys first) second) n now skew) same in
     record {
       first = first;
       second = second;

@@ -12,7 +12,7 @@ use Rattle.hk_snap.specs.Snapshots.{cell_of, last_shown, is_large}
 use Rattle.hk_snap.specs.Ends.{Reader, seen_at, Loads}
 use Rattle.hk_joint_reads.specs.declared.read.Joint.{Joint}
 use Rattle.hk_joint_reads.specs.declared.read.Joint.TheVariants.{Found, Elsewhere, Moved, Busy, Large}
-use Rattle.hk_joint_reads.specs.declared.look.Look.{Look}
+use Rattle.hk_joint_reads.specs.declared.look.KeyLoads.{KeyLoads}
 
 -- ---- loads
 -- One load of each key's cell, in turn; each list is what was seen of the cell then, and what its load showed is the last of it.
@@ -37,7 +37,7 @@ tickets_of (key ∷ keys) [] = []
 tickets_of (key ∷ keys) (seen ∷ lists) = ticket_of key (last_shown seen) ∷ tickets_of keys lists
 
 -- each key with the ticket that its first load showed and the snapshot that its second one showed
-abbrev pub looks_of : List (List ℕ) → List (Option ℕ) → List (List Publication) → List Look
+abbrev pub looks_of : List (List ℕ) → List (Option ℕ) → List (List Publication) → List KeyLoads
 looks_of [] first second = []
 looks_of (key ∷ keys) [] second = []
 looks_of (key ∷ keys) (t ∷ first) [] = []
@@ -45,7 +45,7 @@ looks_of (key ∷ keys) (t ∷ first) (seen ∷ second) = record { key = key; fi
 
 -- ---- checks
 -- one of the key's two loads showed another key, or none
-abbrev pub elsewhere : Look → Option Joint
+abbrev pub elsewhere : KeyLoads → Option Joint
 elsewhere l = if is_some l.first && is_some l.second then None else Some (Elsewhere l.key)
 
 -- the two loads showed different tickets
@@ -53,7 +53,7 @@ abbrev pub moved_by : List ℕ → Option ℕ → Option Snapshot → Option Joi
 moved_by key (Some t) (Some s) = if t == s.ticket then None else Some (Moved key t s.ticket)
 moved_by key first second = None
 
-abbrev pub moved : Look → Option Joint
+abbrev pub moved : KeyLoads → Option Joint
 moved l = moved_by l.key l.first l.second
 
 abbrev pub row_busy : State → Stamp → Option Joint
@@ -65,7 +65,7 @@ shown_busy None = None
 shown_busy (Some s) = row_busy s.state s.stamp
 
 -- the lease may be over, or else the row is not Valid
-abbrev pub busy : ℕ → ℕ → ℕ → Look → Option Joint
+abbrev pub busy : ℕ → ℕ → ℕ → KeyLoads → Option Joint
 busy end now skew l = if nat_lt end (now + skew) then Some (Busy (why.Lease end now)) else shown_busy l.second
 
 abbrev pub large_by : List ℕ → Option Snapshot → Option Joint
@@ -73,11 +73,11 @@ large_by key None = None
 large_by key (Some s) = if is_large s.shape then Some (Large key) else None
 
 -- the data is more than a cell shows
-abbrev pub large : Look → Option Joint
+abbrev pub large : KeyLoads → Option Joint
 large l = large_by l.key l.second
 
 -- a check is told at the first key for which it holds
-abbrev pub first_told : (Look → Option Joint) → List Look → Option Joint
+abbrev pub first_told : (KeyLoads → Option Joint) → List KeyLoads → Option Joint
 first_told check [] = None
 first_told check (l ∷ looks) = option_or (check l) (first_told check looks)
 
@@ -85,15 +85,15 @@ abbrev pub with_shown : Option Snapshot → List Snapshot → List Snapshot
 with_shown None rest = rest
 with_shown (Some s) rest = s ∷ rest
 
-abbrev pub snapshots : List Look → List Snapshot
+abbrev pub snapshots : List KeyLoads → List Snapshot
 snapshots [] = []
 snapshots (l ∷ looks) = with_shown l.second (snapshots looks)
 
 -- Elsewhere, then Moved, then Busy, then Large
-abbrev pub unfound : List Look → ℕ → ℕ → ℕ → Option Joint
+abbrev pub unfound : List KeyLoads → ℕ → ℕ → ℕ → Option Joint
 unfound looks end now skew = option_or (first_told elsewhere looks) (option_or (first_told moved looks) (option_or (first_told (busy end now skew) looks) (first_told large looks)))
 
-abbrev pub joint_of : List Look → ℕ → ℕ → ℕ → Joint
+abbrev pub joint_of : List KeyLoads → ℕ → ℕ → ℕ → Joint
 joint_of looks end now skew = unwrap_or (unfound looks end now skew) (Found (snapshots looks))
 
 -- ---- a whole read

@@ -5,7 +5,7 @@ ghost use Rattle.hk_joint_reads.specs.Reads.{elsewhere, moved, busy, shown_busy,
 ghost use Rattle.hk_joint_reads.specs.Checks.{told_by};
 ghost use Rattle.hk_snap.specs.Snapshots.{is_large};
 
-use crate::look::Look;
+use crate::look::KeyLoads;
 use crate::read::{Joint, Snapshots};
 use hk_base::{Memory, State, Why};
 use hk_snap::{Shape, Snapshot};
@@ -20,7 +20,7 @@ pub(crate) enum Check {
     Large,
 }
 
-fn elsewhere(look: &Look) -> Result<Option<Joint>, Memory>
+fn elsewhere(look: &KeyLoads) -> Result<Option<Joint>, Memory>
     ensures { IfOk result (λ told. told ≡ elsewhere look.now) }
 {
     if look.first.is_some() && look.second.is_some() {
@@ -30,7 +30,7 @@ fn elsewhere(look: &Look) -> Result<Option<Joint>, Memory>
     Ok(Some(Joint::Elsewhere { key }))
 }
 
-fn moved(look: &Look) -> Result<Option<Joint>, Memory>
+fn moved(look: &KeyLoads) -> Result<Option<Joint>, Memory>
     ensures { IfOk result (λ told. told ≡ moved look.now) }
 {
     let Some(first) = look.first else {
@@ -75,7 +75,7 @@ fn shown_busy(shown: &Option<Snapshot>) -> Option<Joint>
     }
 }
 
-fn busy(end: u64, now: u64, skew: u64, look: &Look) -> Option<Joint>
+fn busy(end: u64, now: u64, skew: u64, look: &KeyLoads) -> Option<Joint>
     ensures { result ≡ busy end now skew look.now }
 {
     if is_past(end, now, skew) {
@@ -90,7 +90,7 @@ fn is_large(shape: &Shape) -> bool
     matches!(shape, Shape::Large)
 }
 
-fn large(look: &Look) -> Result<Option<Joint>, Memory>
+fn large(look: &KeyLoads) -> Result<Option<Joint>, Memory>
     ensures { IfOk result (λ told. told ≡ large look.now) }
 {
     let Some(shown) = &look.second else {
@@ -105,7 +105,7 @@ fn large(look: &Look) -> Result<Option<Joint>, Memory>
 
 impl Check {
     // What the check tells of a key.
-    fn tell(self, look: &Look) -> Result<Option<Joint>, Memory>
+    fn tell(self, look: &KeyLoads) -> Result<Option<Joint>, Memory>
         ensures { IfOk result (λ told. told ≡ told_by self look.now) }
     {
         match self {
@@ -117,7 +117,7 @@ impl Check {
     }
 
     // What the check tells of the first key of which it tells something.
-    fn tell_first(self, looks: &[Look]) -> Result<Option<Joint>, Memory>
+    fn tell_first(self, looks: &[KeyLoads]) -> Result<Option<Joint>, Memory>
         ensures { IfOk result (λ told. told ≡ first_told (told_by self) looks.now) }
     {
         for look in looks {
@@ -131,7 +131,7 @@ impl Check {
 }
 
 // What the first check tells that tells something.
-fn unfound(looks: &[Look], end: u64, now: u64, skew: u64) -> Result<Option<Joint>, Memory>
+fn unfound(looks: &[KeyLoads], end: u64, now: u64, skew: u64) -> Result<Option<Joint>, Memory>
     ensures { IfOk result (λ told. told ≡ unfound looks.now end now skew) }
 {
     let told = Check::Elsewhere.tell_first(looks)?;
@@ -178,7 +178,7 @@ fn same(snapshot: &Snapshot) -> Result<Snapshot, Memory>
 }
 
 // The snapshots that the second loads showed.
-fn snapshots(alloc: Global, looks: &[Look]) -> Result<Snapshots, Memory>
+fn snapshots(alloc: Global, looks: &[KeyLoads]) -> Result<Snapshots, Memory>
     ensures { IfOk result (λ found. found ≡ snapshots looks.now) }
 {
     let mut found = Snapshots::new(alloc);
@@ -193,7 +193,7 @@ fn snapshots(alloc: Global, looks: &[Look]) -> Result<Snapshots, Memory>
 /// What the loads of all keys tell.
 pub(crate) fn judge(
     alloc: Global,
-    looks: &[Look],
+    looks: &[KeyLoads],
     end: u64,
     now: u64,
     skew: u64,

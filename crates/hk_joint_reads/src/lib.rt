@@ -7,5 +7,5 @@ mod judge;
 mod look;
 mod read;
 
-pub use look::Look;
+pub use look::KeyLoads;
 pub use read::{Joint, Snapshots, read_joint};

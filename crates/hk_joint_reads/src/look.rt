@@ -14,7 +14,7 @@ use std::sync::Wait;
 
 /// A key, with what its cell showed of it at its two loads: the ticket at the first, the snapshot at the second.
 #[derive(Drop)]
-pub struct Look {
+pub struct KeyLoads {
     pub key: Key,
     pub first: Option<u64>,
     pub second: Option<Snapshot>,
@@ -82,7 +82,7 @@ fn look_again<R: Wait>(
     reader: &mut SnapReader,
     key: &Key,
     first: Option<u64>,
-) -> Result<Look, Memory>
+) -> Result<KeyLoads, Memory>
     ensures loads { Loads reader.old (cell_of key.now) reader.new }
     ensures shown { reader.new.shown ≡ last_shown (seen_at reader.new.ends (cell_of key.now)) }
     ensures rising { IsRising (seen_at reader.new.ends (cell_of key.now)) }
@@ -91,7 +91,7 @@ fn look_again<R: Wait>(
     reader.load(rt, cell_of(key));
     let second = shown_of(alloc, reader, key)?;
     let key = key.share()?;
-    Ok(Look { key, first, second })
+    Ok(KeyLoads { key, first, second })
 }
 
 /// Loads each key's cell again.
@@ -101,7 +101,7 @@ pub(crate) fn load_again<R: Wait>(
     reader: &mut SnapReader,
     keys: &[Key],
     first: &[Option<u64>],
-) -> Result<Vec<Look>, Memory>
+) -> Result<Vec<KeyLoads>, Memory>
     requires { length first.now ≡ length keys.now }
     ensures loads { IfOk result (λ looks. (second : List (List Publication)) × LoadsEach reader.old keys.now second reader.new × (looks.items ≡ looks_of keys.now first.now second) × AllByRecursion IsRising second) }
     ensures same { names reader.new.ends ≡ names reader.old.ends }

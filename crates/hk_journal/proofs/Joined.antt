@@ -2,9 +2,9 @@
 use Rattle.std.proofs.Common.{◌≡◌, ℕ, List, [], ◌∷◌, ◌++◌, map, Bool, true, false, cond, if◌then◌else◌, refl, sym, ap, ◌∙◌, append_assoc}
 use Rattle.std.specs.List.{filter}
 use Rattle.hk_key.specs.declared.row.Row.{Row}
-use Rattle.hk_node.specs.declared.report.Former.{Former}
+use Rattle.hk_node.specs.declared.report.PriorRow.{PriorRow}
 use Rattle.hk_node.specs.Rows.{Rows}
-use Rattle.hk_node.specs.Report.{is_changed, former_at, changed_rows}
+use Rattle.hk_node.specs.Report.{is_changed, prior_at, changed_rows}
 use Rattle.hk_node.specs.Node.{NodeState}
 use Rattle.hk_node.proofs.Exact.{reports_are_exact}
 use Rattle.hk_journal.specs.declared.step_entry.JournalEntry.{JournalEntry}
@@ -37,10 +37,10 @@ shown_is_joined chosen base (entry ∷ front) back =
 pub entries_give : EntriesGive
 entries_give node ticket event out is = record { rising = (tt, tt); steps = (record { letters = is.letters; replies = is.replies }, tt) }
 
-keys_by : (old : Rows) (r : List ℕ × Row) (rest : List (List ℕ × Row)) (former : List Former) (is : Bool) → map (λ q. q.0) rest ≡ map (λ f. f.key) former
-    → map (λ q. q.0) (cond is (r ∷ rest) rest) ≡ map (λ f. f.key) ((if is then former_at old r.0 ∷ [] else []) ++ former)
-keys_by old r rest former true e = ap (λ l. r.0 ∷ l) e
-keys_by old r rest former false e = e
+keys_by : (old : Rows) (r : List ℕ × Row) (rest : List (List ℕ × Row)) (prior : List PriorRow) (is : Bool) → map (λ q. q.0) rest ≡ map (λ f. f.key) prior
+    → map (λ q. q.0) (cond is (r ∷ rest) rest) ≡ map (λ f. f.key) ((if is then prior_at old r.0 ∷ [] else []) ++ prior)
+keys_by old r rest prior true e = ap (λ l. r.0 ∷ l) e
+keys_by old r rest prior false e = e
 
 pub changed_are_reported : ChangedAreReported
 changed_are_reported old [] = refl

@@ -11,7 +11,7 @@ use Rattle.std.specs.List.Sorted.{IsStrictlySortedBy}
 use Rattle.std.proofs.lemmas.Cmp.{nat_cmp_total, tied_itself}
 use Rattle.std.proofs.lemmas.Map.Keys.{sorted_head, sorted_tail}
 use Rattle.std.proofs.lemmas.Option.{none-some}
-use Rattle.hk_lease.specs.Entries.{entry_given_back}
+use Rattle.hk_lease.specs.Entries.{entry_rolled_back}
 use Rattle.hk_lease.specs.Grants.{by_number}
 
 -- what is below the first key is below all
@@ -54,10 +54,10 @@ module _ {K X : Type 0} (cmp : K → K → Ordering) (total : IsTotalOrder cmp) 
           rw is (ap (λ (x : X). (e.0, x) ∷ es) (sym same))
       by_order Greater is at more = rw (ap is_eq is) (ap (λ (l : List (K × X)). e ∷ l) (more at))
 
-  pub put_undone : (k : K) (v : X) (es : List (K × X)) → IsStrictlySortedBy cmp (keys_of es) → entry_given_back (is_at (cmp k)) (lookup (is_at (cmp k)) es) (insert_entry cmp es k v) ≡ es
+  pub put_undone : (k : K) (v : X) (es : List (K × X)) → IsStrictlySortedBy cmp (keys_of es) → entry_rolled_back (is_at (cmp k)) (lookup (is_at (cmp k)) es) (insert_entry cmp es k v) ≡ es
   put_undone k v es sorted = by_found (lookup (is_at (cmp k)) es) refl
     where
-      by_found : (o : Option X) → lookup (is_at (cmp k)) es ≡ o → entry_given_back (is_at (cmp k)) o (insert_entry cmp es k v) ≡ es
+      by_found : (o : Option X) → lookup (is_at (cmp k)) es ≡ o → entry_rolled_back (is_at (cmp k)) o (insert_entry cmp es k v) ≡ es
       by_found None is = remove_put k v es is
       by_found (Some old) is = set_put k v old es sorted is
 

@@ -5,7 +5,7 @@ use Rattle.std.specs.Ordering.{nat_cmp}
 use Rattle.std.specs.BTreeMap.{is_at, insert_entry}
 use Rattle.std.specs.Map.{lookup}
 use Rattle.hk_base.specs.declared.stamp.NodeId.{NodeId}
-use Rattle.hk_lease.specs.Entries.{entry_given_back}
+use Rattle.hk_lease.specs.Entries.{entry_rolled_back}
 
 abbrev pub by_number : NodeId → NodeId → Ordering
 by_number a b = nat_cmp a.0 b.0
@@ -23,5 +23,5 @@ abbrev pub with_grant : List (NodeId × ℕ) → NodeId → ℕ → List (NodeId
 with_grant grants node until = insert_entry by_number grants node (max (until_of grants node) until)
 
 -- what was noted for a node before is given back
-abbrev pub until_given_back : List (NodeId × ℕ) → NodeId → Option ℕ → List (NodeId × ℕ)
-until_given_back grants node until = entry_given_back (is_at (by_number node)) until grants
+abbrev pub until_rolled_back : List (NodeId × ℕ) → NodeId → Option ℕ → List (NodeId × ℕ)
+until_rolled_back grants node until = entry_rolled_back (is_at (by_number node)) until grants

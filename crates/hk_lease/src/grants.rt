@@ -2,7 +2,7 @@
 
 ghost use Rattle.std.specs.Prelude.{◌≡◌, ◌≢◌, [], max, IsSome, OnOk, OnErr};
 ghost use Rattle.hk_base.specs.declared.stamp.NodeId.{NodeId};
-ghost use Rattle.hk_lease.specs.Grants.{noted_for, until_of, with_grant, until_given_back};
+ghost use Rattle.hk_lease.specs.Grants.{noted_for, until_of, with_grant, until_rolled_back};
 ghost use Rattle.hk_lease.specs.Past.{may_run, past_answer, IsAllPast};
 
 use hk_base::{Memory, NodeId, View};
@@ -61,7 +61,7 @@ impl Grants {
         ensures greatest { OnOk result (until_of self.new node ≡ max (until_of self.old node) until) }
         ensures others { OnOk result ((other : NodeId) → other.0 ≢ node.0 → until_of self.new other ≡ until_of self.old other) }
         ensures there { OnOk result (IsSome (noted_for self.new node)) }
-        ensures undone { OnOk result (until_given_back self.new node (noted_for self.old node) ≡ self.old) }
+        ensures undone { OnOk result (until_rolled_back self.new node (noted_for self.old node) ≡ self.old) }
         ensures err { OnErr result (self.new ≡ self.old) }
     {
         let noted = self.untils.get(&node).copied().unwrap_or(0);
@@ -78,9 +78,9 @@ impl Grants {
 
     /// Gives back what was noted for the node before, of which something is noted now: behind a `grant` for that node this
     /// makes all as it was before it. It takes no memory.
-    pub fn give_back(&mut self, node: NodeId, until: Option<u64>)
+    pub fn roll_back(&mut self, node: NodeId, until: Option<u64>)
         requires { IsSome (noted_for self.old node) }
-        ensures { self.new ≡ until_given_back self.old node until }
+        ensures { self.new ≡ until_rolled_back self.old node until }
     {
         match until {
             Some(until) => match self.untils.get_mut(&node) {

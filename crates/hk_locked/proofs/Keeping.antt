@@ -28,10 +28,10 @@ use Rattle.std.specs.List.{AllByRecursion}
 use Rattle.hk_base.specs.Range.{IsLetter}
 use Rattle.hk_base.specs.declared.letter.Letter.{Letter}
 use Rattle.hk_node.proofs.Ranged.{letters_in_range}
-use Rattle.hk_node.specs.declared.report.Former.{Former}
+use Rattle.hk_node.specs.declared.report.PriorRow.{PriorRow}
 use Rattle.hk_node.specs.Report.{AreChanged}
 use Rattle.hk_due.specs.Keys.{OpenState, AreOpen, AreNoted}
-use Rattle.hk_due.proofs.Followed.{following_keeps}
+use Rattle.hk_due.proofs.Following.{following_keeps}
 use Rattle.hk_told.specs.declared.ask.Ask.{Ask}
 use Rattle.hk_told.specs.Lists.{last_row}
 use Rattle.hk_told.specs.Held.{Asks, IsHeld, Delivers, heard, Grow, Show, AreFewer, IsNewAsk, IsWith}
@@ -162,14 +162,14 @@ called_letters s call key op event letters is same given =
 
 -- ---- the keys of open rows
 -- a step that is reported is followed
-pub follows : (s t : ShardState) (ticket : ℕ) (event : NodeEvent) (changed shown : List Former) (part : NodeState) (keys followed : OpenState) → IsApplied s ticket event t
+pub follows : (s t : ShardState) (ticket : ℕ) (event : NodeEvent) (changed shown : List PriorRow) (part : NodeState) (keys followed : OpenState) → IsApplied s ticket event t
     → AreChanged changed s.part.rows (node_step s.part event).node.rows → shown ≡ changed → part ≡ t.part → AreNoted part.rows ticket (map (λ f. f.key) shown) keys followed
     → Follows ticket s.part.rows t.part.rows keys followed
 follows s t ticket event changed shown part keys followed applied are same at noted = record {
   changed = changed;
   differ = subst (λ (n : NodeState). AreChanged changed s.part.rows n.rows) (sym applied.part) are;
-  noted = subst (λ (l : List Former). AreNoted t.part.rows ticket (map (λ f. f.key) l) keys followed) same
-      (subst (λ (n : NodeState). AreNoted n.rows ticket (map (λ (f : Former). f.key) shown) keys followed) at noted);
+  noted = subst (λ (l : List PriorRow). AreNoted t.part.rows ticket (map (λ f. f.key) l) keys followed) same
+      (subst (λ (n : NodeState). AreNoted n.rows ticket (map (λ (f : PriorRow). f.key) shown) keys followed) at noted);
 }
 
 -- and the keys are those of the open rows again

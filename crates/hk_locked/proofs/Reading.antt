@@ -19,8 +19,8 @@ use Rattle.hk_snap.specs.Leases.{Lease, Looks as LooksAtLease}
 use Rattle.hk_snap.proofs.Lists.{same_long}
 use Rattle.hk_snap.proofs.Prefixes.{prefix_self, prefix_trans}
 use Rattle.hk_told.specs.declared.ask.Ask.{Ask}
-use Rattle.hk_told.specs.declared.asks.Look.{Look}
-use Rattle.hk_told.specs.declared.asks.Look.TheVariants.{Gone, Waits, Told}
+use Rattle.hk_told.specs.declared.asks.AskState.{AskState}
+use Rattle.hk_told.specs.declared.asks.AskState.TheVariants.{Gone, Waits, Told}
 use Rattle.hk_told.specs.Held.{IsHeld}
 use Rattle.hk_told.specs.Kept.{asks_in, LooksAs}
 use Rattle.hk_told.specs.Shown.{BeginsIn, LooksAt}
@@ -171,12 +171,12 @@ looks_when s key ticket call told old new m held ask kept of_key of_ticket of_to
   );
 }
 
-pub looks_for : (s : LockedState) (key : List ℕ) (ticket : ℕ) (call : CallNo) (look : Look) (old new : ReaderState) → Meets s key old new
+pub looks_for : (s : LockedState) (key : List ℕ) (ticket : ℕ) (call : CallNo) (look : AskState) (old new : ReaderState) → Meets s key old new
     → IsHeld s.shard.part.rows (lists_in s.shard.ends) s.shard.last (asks_in s.asks)
     → IsSomeAnd (asks_in s.asks call) (λ ask. ask.key ≡ key) → LooksAs ticket (asks_in s.asks call) look → LooksFor key ticket old new look
 looks_for s key ticket call look old new m held is_at stands = at_ask (asks_in s.asks call) look refl is_at stands
   where
-    at_ask : (o : Option Ask) (look : Look) → asks_in s.asks call ≡ o → IsSomeAnd o (λ ask. ask.key ≡ key) → LooksAs ticket o look → LooksFor key ticket old new look
+    at_ask : (o : Option Ask) (look : AskState) → asks_in s.asks call ≡ o → IsSomeAnd o (λ ask. ask.key ≡ key) → LooksAs ticket o look → LooksFor key ticket old new look
     at_ask o Gone is of_key stands = tt
     at_ask None Waits is of_key stands = absurd of_key
     at_ask (Some ask) Waits is of_key stands = looks_when s key ticket call None old new m held ask is of_key stands.0 stands.1

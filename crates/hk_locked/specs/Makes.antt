@@ -7,7 +7,7 @@ use Rattle.hk_base.specs.declared.call.Answer.{Answer}
 use Rattle.hk_base.specs.declared.letter.Letter.{Letter}
 use Rattle.hk_node.specs.declared.event.NodeEvent.{NodeEvent}
 use Rattle.hk_node.specs.declared.event.NodeEvent.TheVariants.{Call}
-use Rattle.hk_node.specs.declared.report.Former.{Former}
+use Rattle.hk_node.specs.declared.report.PriorRow.{PriorRow}
 use Rattle.hk_node.specs.Rows.{Rows}
 use Rattle.hk_node.specs.Report.{AreChanged}
 use Rattle.hk_node.specs.Index.{is_open_at}
@@ -38,7 +38,7 @@ due_in after before s = due_of after before s.open_keys s.shard.part.rows
 -- A step of this ticket is followed by the keys of open rows. It changed just these rows: each that is open then is noted under the ticket, or keeps an earlier
 -- one, and the others are let go.
 pub record Follows (ticket : ℕ) (old new : Rows) (before after : OpenState) : Type 0 where
-  pub changed : List Former
+  pub changed : List PriorRow
   pub differ : AreChanged changed old new
   pub noted : AreNoted new ticket (map (λ f. f.key) changed) before after
 

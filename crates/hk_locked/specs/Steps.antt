@@ -17,8 +17,8 @@ use Rattle.hk_node.specs.Stepped.{replies_of}
 use Rattle.hk_node.specs.Steps.{node_step}
 use Rattle.hk_shard.specs.Shard.{ShardState, IsApplied, checkpointed}
 use Rattle.hk_journal.specs.declared.step_entry.JournalEntry.{JournalEntry}
-use Rattle.hk_told.specs.declared.asks.Look.{Look}
-use Rattle.hk_told.specs.declared.asks.Look.TheVariants.{Gone, Waits, Told}
+use Rattle.hk_told.specs.declared.asks.AskState.{AskState}
+use Rattle.hk_told.specs.declared.asks.AskState.TheVariants.{Gone, Waits, Told}
 use Rattle.hk_told.specs.declared.ask.Ask.{Ask}
 use Rattle.hk_told.specs.Held.{Asks, IsNewAsk, IsWith}
 use Rattle.hk_told.specs.Kept.{asks_in, given_up, AreOthersSame}
@@ -133,7 +133,7 @@ pub record LooksOnce (key : List ℕ) (ticket : ℕ) (old new : ReaderState) (to
   pub looks : Looks (end_at key old) (end_at key new) key ticket told
 
 -- the ask of the ticket was told this, or nothing; where there is no such ask, nothing is known
-abbrev pub LooksFor : List ℕ → ℕ → ReaderState → ReaderState → Look → Type 0
+abbrev pub LooksFor : List ℕ → ℕ → ReaderState → ReaderState → AskState → Type 0
 LooksFor key ticket old new Gone = ⊤
 LooksFor key ticket old new Waits = LooksOnce key ticket old new None
 LooksFor key ticket old new (Told answer) = LooksOnce key ticket old new (Some answer)

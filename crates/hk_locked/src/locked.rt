@@ -22,7 +22,7 @@ ghost use Rattle.hk_locked.specs.Places.{shard_names, node_names};
 ghost use Rattle.hk_locked.specs.ByRow.{ReadsRow};
 ghost use Rattle.hk_locked.specs.Makes.{Stands, Follows, Makes, MakesCall, CallsAt, IsQuiet, due_in};
 ghost use Rattle.hk_locked.specs.Steps.{IsGrown, Meets, MeetsLease, Ticks, Trims, Begins, StartsAt, LooksFor, GivesUp, HasNoAsk, HasCalled, AreOneOrNone, replies_with, is_short};
-ghost use Rattle.hk_told.specs.declared.asks.Look.TheVariants.{Gone};
+ghost use Rattle.hk_told.specs.declared.asks.AskState.TheVariants.{Gone};
 
 use crate::by_row::{RowRead, told_by};
 use crate::places::Places;
@@ -34,7 +34,7 @@ use hk_journal::{Journal, share_journal};
 use hk_node::{Node, NodeEvent, NodeOut, Report};
 use hk_shard::Shard;
 use hk_snap::cell_of;
-use hk_told::{Ask, Asks, Look};
+use hk_told::{Ask, AskState, Asks};
 use std::alloc::Global;
 use std::marker::{Model, PhantomData};
 use std::sync::Wait;
@@ -484,14 +484,14 @@ impl<F: Completion + Copy + Drop, P: Places> LockedShard<F, P> {
         key: &Key,
         call: CallNo,
         ticket: u64,
-    ) -> Result<Look, Memory>
+    ) -> Result<AskState, Memory>
         ensures looks { IfOk result (λ look. LooksFor key.now ticket reader.old reader.new look) }
         ensures gone { IfOk result (λ look. look ≡ Gone → HasNoAsk call key.now ticket self.old) }
         ensures grown { IsGrown key.now reader.old reader.new }
     {
         self.meet(key, reader)?;
         if !self.asks.is_at(call, key) {
-            return Ok(Look::Gone);
+            return Ok(AskState::Gone);
         }
         Ok(self.asks.look(call, ticket))
     }

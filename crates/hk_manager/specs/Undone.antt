@@ -3,8 +3,8 @@ use Rattle.std.specs.Prelude.{◌≡◌, ℕ, List, Option, IsSome, unwrap_or, R
 use Rattle.std.specs.Ordering.{nat_cmp}
 use Rattle.std.specs.BTreeMap.{is_at}
 use Rattle.std.specs.Map.{lookup}
-use Rattle.hk_lease.specs.Entries.{entry_given_back}
-use Rattle.hk_lease.specs.Grants.{noted_for, until_given_back}
+use Rattle.hk_lease.specs.Entries.{entry_rolled_back}
+use Rattle.hk_lease.specs.Grants.{noted_for, until_rolled_back}
 use Rattle.hk_manager.specs.declared.instance.Instance.{Instance}
 use Rattle.hk_manager.specs.declared.out.Replaced.{Replaced}
 use Rattle.hk_manager.specs.declared.out.Replaced.TheVariants.{Nothing, Clock, Until, Instance as OneInstance, Begun, Proposal, Held}
@@ -16,18 +16,18 @@ abbrev pub known_of : ℕ → List (ℕ × Instance) → Option Instance
 known_of epoch instances = lookup (is_at (nat_cmp epoch)) instances
 
 -- what was known of it before is given back
-abbrev pub instance_given_back : ℕ → Option Instance → List (ℕ × Instance) → List (ℕ × Instance)
-instance_given_back epoch instance instances = entry_given_back (is_at (nat_cmp epoch)) instance instances
+abbrev pub instance_rolled_back : ℕ → Option Instance → List (ℕ × Instance) → List (ℕ × Instance)
+instance_rolled_back epoch instance instances = entry_rolled_back (is_at (nat_cmp epoch)) instance instances
 
 -- the manager with a step undone that replaced this
-abbrev pub given_back : Replaced → ManagerState → ManagerState
-given_back Nothing m = m
-given_back (Clock clock) m = record m { clock = clock }
-given_back (Until node until) m = record m { untils = until_given_back m.untils node until }
-given_back (OneInstance epoch instance) m = record m { instances = instance_given_back epoch instance m.instances }
-given_back (Begun epoch instance proposal) m = record m { instances = instance_given_back epoch instance m.instances; proposal = proposal }
-given_back (Proposal proposal held) m = record m { proposal = proposal; held = unwrap_or held m.held }
-given_back (Held view) m = record m { held = view }
+abbrev pub rolled_back : Replaced → ManagerState → ManagerState
+rolled_back Nothing m = m
+rolled_back (Clock clock) m = record m { clock = clock }
+rolled_back (Until node until) m = record m { untils = until_rolled_back m.untils node until }
+rolled_back (OneInstance epoch instance) m = record m { instances = instance_rolled_back epoch instance m.instances }
+rolled_back (Begun epoch instance proposal) m = record m { instances = instance_rolled_back epoch instance m.instances; proposal = proposal }
+rolled_back (Proposal proposal held) m = record m { proposal = proposal; held = unwrap_or held m.held }
+rolled_back (Held view) m = record m { held = view }
 
 -- what took the place of an until, or of an instance, stands there
 abbrev pub IsThere : Replaced → ManagerState → Type 0
@@ -42,7 +42,7 @@ IsThere (Held view) m = ⊤
 -- A step that made `new` of `old` replaced this: with that given back the manager is as it was.
 pub record HasReplaced (replaced : Replaced) (old new : ManagerState) : Type 0 where
   pub there : IsThere replaced new
-  pub back : given_back replaced new ≡ old
+  pub back : rolled_back replaced new ≡ old
 
 -- so it is told of a step that was made
 abbrev pub TellsReplaced : {Fault : Type 0} → Result ManagerOut Fault → (old new : ManagerState) → Type 0

@@ -17,14 +17,14 @@ use Rattle.hk_merge.specs.Reads.{IsServing}
 use Rattle.hk_merge.specs.Aside.{LetterIsAside, IsAside, AreAside, AsidesKeepReads}
 use Rattle.hk_journal.specs.declared.step_entry.JournalEntry.{JournalEntry}
 use Rattle.hk_merge.specs.declared.note.Note.{Note}
-use Rattle.hk_merge.specs.Merged.{JournalList, Item, Step, Look, journal_of, entry_place, note_place, place_of, place_cmp, In, Rises, IsItem, IsEventOf, IsOf, tickets_after, Goes, StandsBetween, NotesAreKept}
+use Rattle.hk_merge.specs.Merged.{JournalList, Item, Step, LocalRead, journal_of, entry_place, note_place, place_of, place_cmp, In, Rises, IsItem, IsEventOf, IsOf, tickets_after, Goes, StandsBetween, NotesAreKept}
 use Rattle.hk_merge.proofs.Between.{by_head, less_from, le_both, never_both, notes_stand_between}
 use Rattle.hk_merge.proofs.Asides.{same_number}
 
 -- ---- an item that is aside
 abbrev ItemIsAside : NodeId → List ℕ → Item → Type 0
 ItemIsAside id key (Step node entry) = (node ≢ id) ⊎ (key_of entry.event ≢ Some key)
-ItemIsAside id key (Look listed note) = ⊤
+ItemIsAside id key (LocalRead listed note) = ⊤
 
 other_key : (n id : NodeId) (k key : List ℕ) → (n ≢ id) ⊎ (Some k ≢ Some key) → (n ≢ id) ⊎ (k ≢ key)
 other_key n id k key (inl ne) = inl ne
@@ -39,7 +39,7 @@ event_is_aside w tickets ticket id key n made event far is = absurd is
 
 item_is_aside : (w : WorldState) (tickets : List ℕ) (id : NodeId) (key : List ℕ) (item : Item) (event : Event) (shown : Shown) → ItemIsAside id key item → IsOf item w.letters tickets event shown → IsAside w id key event
 item_is_aside w tickets id key (Step n entry) event shown far (is, letters, replies) = event_is_aside w tickets entry.ticket id key n entry.event event far is
-item_is_aside w tickets id key (Look listed note) event shown far is = subst (λ (e : Event). IsAside w id key e) (sym is) (inl refl)
+item_is_aside w tickets id key (LocalRead listed note) event shown far is = subst (λ (e : Event). IsAside w id key e) (sym is) (inl refl)
 
 pub items_are_aside : (w last : WorldState) (tickets : List ℕ) (id : NodeId) (key : List ℕ) (items : List Item) (events : List Event) → AllByRecursion (ItemIsAside id key) items → Goes w tickets items events last → AreAside id key w events last
 items_are_aside w last tickets id key [] [] all goes = goes
@@ -86,9 +86,9 @@ module _ (journals : JournalList) (notes : List Note) where
       by_less false t = by_more (ltb b.ticket a.ticket) refl (ltb-false a.ticket b.ticket t)
 
   module _ (rises : (n : NodeId) → Rises (journal_of journals n)) (entry : JournalEntry) (listed : ℕ) (note : Note) (snap : entry.ticket ≡ note.ticket) where
-    one_is_aside : (m : Item) → place_cmp (entry_place note.node entry) (place_of journals m) ≡ Less → place_cmp (place_of journals m) (place_of journals (Look listed note)) ≡ Less → IsItem journals notes m →
+    one_is_aside : (m : Item) → place_cmp (entry_place note.node entry) (place_of journals m) ≡ Less → place_cmp (place_of journals m) (place_of journals (LocalRead listed note)) ≡ Less → IsItem journals notes m →
         ItemIsAside note.node note.key m
-    one_is_aside (Look i other) after before is = tt
+    one_is_aside (LocalRead i other) after before is = tt
     one_is_aside (Step n e) after before is = by_node (eqb n.0 note.node.0) refl
       where
         not_of : n ≡ note.node → key_of e.event ≡ Some note.key → ⊥
@@ -104,21 +104,21 @@ module _ (journals : JournalList) (notes : List Note) where
         by_node true t = inr (not_of (same_number n note.node (eqb-true n.0 note.node.0 t)))
         by_node false t = inl (λ same. eqb-false n.0 note.node.0 t (ap (λ (i : NodeId). i.0) same))
 
-    pub middle_is_aside : (middle back : List Item) → Below (entry_place note.node entry) (middle ++ (Look listed note ∷ back)) → Sorted (middle ++ (Look listed note ∷ back)) →
-        AllByRecursion (IsItem journals notes) (middle ++ (Look listed note ∷ back)) → AllByRecursion (ItemIsAside note.node note.key) middle
+    pub middle_is_aside : (middle back : List Item) → Below (entry_place note.node entry) (middle ++ (LocalRead listed note ∷ back)) → Sorted (middle ++ (LocalRead listed note ∷ back)) →
+        AllByRecursion (IsItem journals notes) (middle ++ (LocalRead listed note ∷ back)) → AllByRecursion (ItemIsAside note.node note.key) middle
     middle_is_aside [] back below sorted only = tt
     middle_is_aside (m ∷ middle) back below sorted only = (
-      one_is_aside m below.0 (below_last (place_of journals m) middle (Look listed note) back (sorted_head place_cmp (place_of journals m) (map (place_of journals) (middle ++ (Look listed note ∷ back))) sorted)) only.0,
-      middle_is_aside middle back below.1 (sorted_tail place_cmp (place_of journals m) (map (place_of journals) (middle ++ (Look listed note ∷ back))) sorted) only.1,
+      one_is_aside m below.0 (below_last (place_of journals m) middle (LocalRead listed note) back (sorted_head place_cmp (place_of journals m) (map (place_of journals) (middle ++ (LocalRead listed note ∷ back))) sorted)) only.0,
+      middle_is_aside middle back below.1 (sorted_tail place_cmp (place_of journals m) (map (place_of journals) (middle ++ (LocalRead listed note ∷ back))) sorted) only.1,
     )
 
 pub notes_are_kept : AsidesKeepReads → NotesAreKept
 notes_are_kept keep journals notes front middle back entry listed note rises merged snap world last tickets events node goes there serving =
-    let rest : List Item = middle ++ (Look listed note ∷ back) in
-    let sorted : IsStrictlySortedBy place_cmp (map (place_of journals) (Step note.node entry ∷ (middle ++ (Look listed note ∷ back)))) =
-    sorted_rest journals notes front (Step note.node entry ∷ (middle ++ (Look listed note ∷ back))) merged.ordered in
-    let only : AllByRecursion (IsItem journals notes) (Step note.node entry ∷ (middle ++ (Look listed note ∷ back))) = only_rest journals notes front (Step note.node entry ∷ (middle ++ (Look listed note ∷ back))) merged.only in
+    let rest : List Item = middle ++ (LocalRead listed note ∷ back) in
+    let sorted : IsStrictlySortedBy place_cmp (map (place_of journals) (Step note.node entry ∷ (middle ++ (LocalRead listed note ∷ back)))) =
+    sorted_rest journals notes front (Step note.node entry ∷ (middle ++ (LocalRead listed note ∷ back))) merged.ordered in
+    let only : AllByRecursion (IsItem journals notes) (Step note.node entry ∷ (middle ++ (LocalRead listed note ∷ back))) = only_rest journals notes front (Step note.node entry ∷ (middle ++ (LocalRead listed note ∷ back))) merged.only in
     let aside = middle_is_aside journals notes rises entry listed note snap middle back
-    (sorted_head place_cmp (entry_place note.node entry) (map (place_of journals) (middle ++ (Look listed note ∷ back))) sorted)
-    (sorted_tail place_cmp (entry_place note.node entry) (map (place_of journals) (middle ++ (Look listed note ∷ back))) sorted) only.1 in
+    (sorted_head place_cmp (entry_place note.node entry) (map (place_of journals) (middle ++ (LocalRead listed note ∷ back))) sorted)
+    (sorted_tail place_cmp (entry_place note.node entry) (map (place_of journals) (middle ++ (LocalRead listed note ∷ back))) sorted) only.1 in
     keep world last events note.node note.key node (items_are_aside world last tickets note.node note.key middle events aside goes) there serving

@@ -11,7 +11,7 @@ use Rattle.std.proofs.lemmas.Map.Keys.{sorted_head, sorted_tail}
 use Rattle.hk_base.specs.declared.stamp.NodeId.{NodeId}
 use Rattle.hk_journal.specs.declared.step_entry.JournalEntry.{JournalEntry}
 use Rattle.hk_merge.specs.declared.note.Note.{Note}
-use Rattle.hk_merge.specs.Merged.{JournalList, Item, Step, Look, In, Rises, IsFounded, IsItem, AreMerged, journal_or, journal_of, next_entry, entry_place, place_before, place_behind, note_place_at, note_place, place_of, place_cmp}
+use Rattle.hk_merge.specs.Merged.{JournalList, Item, Step, LocalRead, In, Rises, IsFounded, IsItem, AreMerged, journal_or, journal_of, next_entry, entry_place, place_before, place_behind, note_place_at, note_place, place_of, place_cmp}
 use Rattle.hk_merge.specs.Placed.{Places, put_item, put_entries, put_journals, is_founded, with_note, put_notes, merged, MergedAreMerged}
 use Rattle.hk_merge.proofs.Entries.{list_equal}
 
@@ -144,12 +144,12 @@ module _ (journals : JournalList) (notes : List Note) (rises : (n : NodeId) → 
           let there : In (journal_of journals m) e = subst (λ (i : NodeId). In (journal_of journals i) e) en ix in
           let ef : e ≡ f = one_entry (journal_of journals m) e f (rises m) there iy (sym (ticket_at n e) ∙ (ap first same ∙ ticket_at m f)) in
           ap (λ (i : NodeId). Step i e) en ∙ ap (λ (z : JournalEntry). Step m z) ef
-  one_item (Look i a) (Look j b) ix iy same = by_number (sym (listed_at (journal_of journals a.node) i a) ∙ (ap sixth same ∙ listed_at (journal_of journals b.node) j b))
+  one_item (LocalRead i a) (LocalRead j b) ix iy same = by_number (sym (listed_at (journal_of journals a.node) i a) ∙ (ap sixth same ∙ listed_at (journal_of journals b.node) j b))
     where
-      by_number : i ≡ j → Look i a ≡ Look j b
-      by_number e = ap (λ (n : ℕ). Look n a) e ∙ ap (λ (z : Note). Look j z) (some_is a b (sym ix.0 ∙ (ap (λ (n : ℕ). slice_get notes n) e ∙ iy.0)))
-  one_item (Step n e) (Look j b) ix iy same = absurd (not_both (fourth (note_place (journal_of journals b.node) j b)) (fourth (entry_place n e)) (note_at (journal_of journals b.node) j b) (entry_at n e) (ap fourth (sym same)))
-  one_item (Look i a) (Step m f) ix iy same = absurd (not_both (fourth (note_place (journal_of journals a.node) i a)) (fourth (entry_place m f)) (note_at (journal_of journals a.node) i a) (entry_at m f) (ap fourth same))
+      by_number : i ≡ j → LocalRead i a ≡ LocalRead j b
+      by_number e = ap (λ (n : ℕ). LocalRead n a) e ∙ ap (λ (z : Note). LocalRead j z) (some_is a b (sym ix.0 ∙ (ap (λ (n : ℕ). slice_get notes n) e ∙ iy.0)))
+  one_item (Step n e) (LocalRead j b) ix iy same = absurd (not_both (fourth (note_place (journal_of journals b.node) j b)) (fourth (entry_place n e)) (note_at (journal_of journals b.node) j b) (entry_at n e) (ap fourth (sym same)))
+  one_item (LocalRead i a) (Step m f) ix iy same = absurd (not_both (fourth (note_place (journal_of journals a.node) i a)) (fourth (entry_place m f)) (note_at (journal_of journals a.node) i a) (entry_at m f) (ap fourth same))
 
   -- ---- items in their places
   abbrev Fits : List ℕ × Item → Type 0
@@ -270,17 +270,17 @@ module _ (journals : JournalList) (notes : List Note) (rises : (n : NodeId) → 
       either_true false b e = e
 
   note_put : (n : ℕ) (note : Note) (es : Places) → slice_get notes n ≡ Some note → AllByRecursion Fits es → IsStrictlySortedBy place_cmp (keys_of es) →
-      Put es (with_note journals n note es) × (IsFounded journals note → Has (with_note journals n note es) (Look n note))
+      Put es (with_note journals n note es) × (IsFounded journals note → Has (with_note journals n note es) (LocalRead n note))
   note_put n note es lists fits sorted = by_test (is_founded (journal_of journals note.node) note.ticket) refl
     where
       by_test : (b : Bool) → is_founded (journal_of journals note.node) note.ticket ≡ b →
-          Put es (if b then put_item es (note_place (journal_of journals note.node) n note) (Look n note) else es)
-          × (IsFounded journals note → Has (if b then put_item es (note_place (journal_of journals note.node) n note) (Look n note) else es) (Look n note))
-      by_test true t = (put_one es (Look n note) (lists, founded_from (journal_of journals note.node) note.ticket t) fits sorted, λ founded. put_has es (Look n note) (note_place (journal_of journals note.node) n note))
+          Put es (if b then put_item es (note_place (journal_of journals note.node) n note) (LocalRead n note) else es)
+          × (IsFounded journals note → Has (if b then put_item es (note_place (journal_of journals note.node) n note) (LocalRead n note) else es) (LocalRead n note))
+      by_test true t = (put_one es (LocalRead n note) (lists, founded_from (journal_of journals note.node) note.ticket t) fits sorted, λ founded. put_has es (LocalRead n note) (note_place (journal_of journals note.node) n note))
       by_test false t = (record { fits = fits; sorted = sorted; keeps = λ y has. has }, λ founded. absurd (true≢false (sym (founded_test (journal_of journals note.node) note.ticket founded.0 founded.1 founded.2) ∙ t)))
 
   notes_put : (k : ℕ) (es : Places) (ns : List Note) → ((i : ℕ) → slice_get ns i ≡ slice_get notes (k + i)) → AllByRecursion Fits es → IsStrictlySortedBy place_cmp (keys_of es) →
-      Put es (put_notes journals k es ns) × ((i : ℕ) (note : Note) → slice_get ns i ≡ Some note → IsFounded journals note → Has (put_notes journals k es ns) (Look (k + i) note))
+      Put es (put_notes journals k es ns) × ((i : ℕ) (note : Note) → slice_get ns i ≡ Some note → IsFounded journals note → Has (put_notes journals k es ns) (LocalRead (k + i) note))
   notes_put k es [] from fits sorted = (record { fits = fits; sorted = sorted; keeps = λ y has. has }, λ i note is. absurd (none_not i note is))
     where
       none_not : (i : ℕ) (note : Note) → slice_get [] i ≡ Some note → ⊥
@@ -297,15 +297,15 @@ module _ (journals : JournalList) (notes : List Note) (rises : (n : NodeId) → 
       next_is : (k i : ℕ) → (k + 1) + i ≡ k + suc i
       next_is k i = omega arith
 
-      has_all : (IsFounded journals x → Has (with_note journals k x es) (Look k x)) →
+      has_all : (IsFounded journals x → Has (with_note journals k x es) (LocalRead k x)) →
           Put (with_note journals k x es) (put_notes journals (k + 1) (with_note journals k x es) ns)
-          × ((i : ℕ) (note : Note) → slice_get ns i ≡ Some note → IsFounded journals note → Has (put_notes journals (k + 1) (with_note journals k x es) ns) (Look ((k + 1) + i) note)) →
-          (i : ℕ) (note : Note) → slice_get (x ∷ ns) i ≡ Some note → IsFounded journals note → Has (put_notes journals (k + 1) (with_note journals k x es) ns) (Look (k + i) note)
+          × ((i : ℕ) (note : Note) → slice_get ns i ≡ Some note → IsFounded journals note → Has (put_notes journals (k + 1) (with_note journals k x es) ns) (LocalRead ((k + 1) + i) note)) →
+          (i : ℕ) (note : Note) → slice_get (x ∷ ns) i ≡ Some note → IsFounded journals note → Has (put_notes journals (k + 1) (with_note journals k x es) ns) (LocalRead (k + i) note)
       has_all one more zero note is founded =
           let same : x ≡ note = some_is x note is in
-          subst (λ (n : ℕ). Has (put_notes journals (k + 1) (with_note journals k x es) ns) (Look n note)) (sym (at_zero k))
-          (subst (λ (z : Note). Has (put_notes journals (k + 1) (with_note journals k x es) ns) (Look k z)) same (more.0.keeps (Look k x) (one (subst (IsFounded journals) (sym same) founded))))
-      has_all one more (suc i) note is founded = subst (λ (n : ℕ). Has (put_notes journals (k + 1) (with_note journals k x es) ns) (Look n note)) (next_is k i) (more.1 i note is founded)
+          subst (λ (n : ℕ). Has (put_notes journals (k + 1) (with_note journals k x es) ns) (LocalRead n note)) (sym (at_zero k))
+          (subst (λ (z : Note). Has (put_notes journals (k + 1) (with_note journals k x es) ns) (LocalRead k z)) same (more.0.keeps (LocalRead k x) (one (subst (IsFounded journals) (sym same) founded))))
+      has_all one more (suc i) note is founded = subst (λ (n : ℕ). Has (put_notes journals (k + 1) (with_note journals k x es) ns) (LocalRead n note)) (next_is k i) (more.1 i note is founded)
 
   only_items : (es : Places) → AllByRecursion Fits es → AllByRecursion Is (values_of es)
   only_items [] all = tt
@@ -331,11 +331,11 @@ module _ (journals : JournalList) (notes : List Note) (rises : (n : NodeId) → 
 
       has_item : Put [] (put_journals 0 [] journals) × ((i : ℕ) (e : JournalEntry) → In (journal_or (slice_get journals i)) e → Has (put_journals 0 [] journals) (Step (record { 0 = 0 + i }) e)) →
           Put (put_journals 0 [] journals) (put_notes journals 0 (put_journals 0 [] journals) notes)
-          × ((i : ℕ) (note : Note) → slice_get notes i ≡ Some note → IsFounded journals note → Has (put_notes journals 0 (put_journals 0 [] journals) notes) (Look (0 + i) note)) →
+          × ((i : ℕ) (note : Note) → slice_get notes i ≡ Some note → IsFounded journals note → Has (put_notes journals 0 (put_journals 0 [] journals) notes) (LocalRead (0 + i) note)) →
           (item : Item) → IsItem journals notes item → In (merged journals notes) item
       has_item js ns (Step n e) is =
           ns.0.keeps (Step n e) (subst (λ (m : ℕ). Has (put_journals 0 [] journals) (Step (record { 0 = m }) e)) (zero_plus n.0) (js.1 n.0 e is))
-      has_item js ns (Look i note) is = subst (λ (m : ℕ). Has (put_notes journals 0 (put_journals 0 [] journals) notes) (Look m note)) (zero_plus i) (ns.1 i note is.0 is.1)
+      has_item js ns (LocalRead i note) is = subst (λ (m : ℕ). Has (put_notes journals 0 (put_journals 0 [] journals) notes) (LocalRead m note)) (zero_plus i) (ns.1 i note is.0 is.1)
 
 pub merged_are_merged : MergedAreMerged
 merged_are_merged journals notes rises = are_merged journals notes rises

@@ -22,7 +22,7 @@ use Rattle.hk_world.specs.World.{WorldState, by_number, process_at, numbered}
 use Rattle.hk_world.specs.Start.{counted, founding_view, founding_process}
 use Rattle.hk_world.specs.Steps.{Accepted, live, live_at, live_actor, takes, acts, manager_acts, calls_at, world_step}
 use Rattle.hk_merge.specs.Aside.{LetterIsAside, IsAside, Runs, EventsKeepAside}
-use Rattle.hk_merge.specs.Merged.{Item, Step, Look, IsEventOf, IsOf, tickets_after, Goes}
+use Rattle.hk_merge.specs.Merged.{Item, Step, LocalRead, IsEventOf, IsOf, tickets_after, Goes}
 use Rattle.hk_merge.specs.Serving.{Serves, IsTo, ServingStays, FoundersServe, MergedAreAccepted}
 use Rattle.hk_merge.proofs.Asides.{equal_numbers}
 
@@ -61,7 +61,7 @@ event_is_aside w tickets id n ticket made event is = absurd is
 item_is_aside : (w : WorldState) (tickets : List ℕ) (id : NodeId) (item : Item) (event : Event) (shown : Shown) → IsOf item w.letters tickets event shown → AsideOfSome w id event
 unfolding AsideOfSome
 item_is_aside w tickets id (Step n entry) event shown (is, l, r) = event_is_aside w tickets id n entry.ticket entry.event event is
-item_is_aside w tickets id (Look listed note) event shown is = (0 ∷ note.key, subst (λ (e : Event). IsAside w id (0 ∷ note.key) e) (sym is) (inl refl))
+item_is_aside w tickets id (LocalRead listed note) event shown is = (0 ∷ note.key, subst (λ (e : Event). IsAside w id (0 ∷ note.key) e) (sym is) (inl refl))
 
 stays : EventsKeepAside → (w : WorldState) (event : Event) (a : Accepted) (id : NodeId) → AsideOfSome w id event → world_step w event ≡ Ok a → Serves w id → Serves a.world id
 unfolding AsideOfSome

@@ -18,7 +18,7 @@ use Rattle.hk_world.specs.Start.{start}
 use Rattle.hk_world.specs.Steps.{Accepted, live_at, calls_at, world_step}
 use Rattle.hk_merge.specs.Reads.{read_answer, ReadsAreAnswered}
 use Rattle.hk_merge.specs.Aside.{alive}
-use Rattle.hk_merge.specs.Merged.{Item, Step, Look, In, journal_of, entry_place, note_place, place_of, place_cmp, AreMerged, answers_of, tickets_after, tickets_of, Goes, StandsBetween, NotesAreKept}
+use Rattle.hk_merge.specs.Merged.{Item, Step, LocalRead, In, journal_of, entry_place, note_place, place_of, place_cmp, AreMerged, answers_of, tickets_after, tickets_of, Goes, StandsBetween, NotesAreKept}
 use Rattle.hk_merge.specs.Serving.{Serves, ServingStays, FoundersServe}
 use Rattle.hk_merge.specs.Shows.{IsKeptAt, ReadShows, KeptIsShown}
 use Rattle.hk_merge.proofs.Between.{never_both, notes_stand_between}
@@ -78,8 +78,8 @@ shows_behind w middle tickets [] rest (event ∷ first) more listed answer goes 
 shows_behind w middle tickets (x ∷ front) rest [] more listed answer goes shows = absurd goes
 shows_behind w middle tickets (Step n e ∷ front) rest (event ∷ first) more listed answer (a, accepted, is, goes) shows =
     (a, accepted, shows_behind a.world middle (tickets_after tickets (Step n e)) front rest first more listed answer goes shows)
-shows_behind w middle tickets (Look i note ∷ front) rest (event ∷ first) more listed answer (a, accepted, is, goes) shows =
-    (a, accepted, inr (shows_behind a.world middle (tickets_after tickets (Look i note)) front rest first more listed answer goes shows))
+shows_behind w middle tickets (LocalRead i note ∷ front) rest (event ∷ first) more listed answer (a, accepted, is, goes) shows =
+    (a, accepted, inr (shows_behind a.world middle (tickets_after tickets (LocalRead i note)) front rest first more listed answer goes shows))
 
 -- ---- a Read in a world
 shown_answers : Result Accepted Refused → List Answer
@@ -96,48 +96,48 @@ read_shown reads w id key node a event is there accepted =
 
 pub kept_is_shown : ReadsAreAnswered → FoundersServe → ServingStays → NotesAreKept → KeptIsShown
 kept_is_shown reads founders stays keeps header journals notes items events last listed note rises merged goes lists (entry, has, snap) managers within =
-    by_split (split_at items (Step note.node entry) (merged.whole (Step note.node entry) has)) (merged.whole (Look listed note) (lists, (entry, has, snap)))
+    by_split (split_at items (Step note.node entry) (merged.whole (Step note.node entry) has)) (merged.whole (LocalRead listed note) (lists, (entry, has, snap)))
   where
     -- the list as it is split at the entry and at the note
-    by_places : (front middle back : List Item) → items ≡ front ++ (Step note.node entry ∷ (middle ++ (Look listed note ∷ back))) → (answer : Answer) × IsKeptAt header items note answer × ReadShows (start header) items events listed answer
+    by_places : (front middle back : List Item) → items ≡ front ++ (Step note.node entry ∷ (middle ++ (LocalRead listed note ∷ back))) → (answer : Answer) × IsKeptAt header items note answer × ReadShows (start header) items events listed answer
     by_places front middle back is =
         let x : Item = Step note.node entry in
-        let y : Item = Look listed note in
-        let same : items ≡ (front ++ (Step note.node entry ∷ [])) ++ (middle ++ (Look listed note ∷ back)) = is ∙ sym (append_assoc front (Step note.node entry ∷ []) (middle ++ (Look listed note ∷ back))) in
-        let p : Parts (start header) [] (front ++ (Step note.node entry ∷ [])) (middle ++ (Look listed note ∷ back)) events last =
-        parts (start header) [] (front ++ (Step note.node entry ∷ [])) (middle ++ (Look listed note ∷ back)) events last (subst (λ (l : List Item). Goes (start header) [] l events last) same goes) in
-        let q : Parts p.middle (tickets_of [] (front ++ (Step note.node entry ∷ []))) middle (Look listed note ∷ back) p.more last =
-        parts p.middle (tickets_of [] (front ++ (Step note.node entry ∷ []))) middle (Look listed note ∷ back) p.more last p.on in
+        let y : Item = LocalRead listed note in
+        let same : items ≡ (front ++ (Step note.node entry ∷ [])) ++ (middle ++ (LocalRead listed note ∷ back)) = is ∙ sym (append_assoc front (Step note.node entry ∷ []) (middle ++ (LocalRead listed note ∷ back))) in
+        let p : Parts (start header) [] (front ++ (Step note.node entry ∷ [])) (middle ++ (LocalRead listed note ∷ back)) events last =
+        parts (start header) [] (front ++ (Step note.node entry ∷ [])) (middle ++ (LocalRead listed note ∷ back)) events last (subst (λ (l : List Item). Goes (start header) [] l events last) same goes) in
+        let q : Parts p.middle (tickets_of [] (front ++ (Step note.node entry ∷ []))) middle (LocalRead listed note ∷ back) p.more last =
+        parts p.middle (tickets_of [] (front ++ (Step note.node entry ∷ []))) middle (LocalRead listed note ∷ back) p.more last p.on in
         let up : Serves p.middle note.node = stays (start header) p.middle [] (front ++ (Step note.node entry ∷ [])) p.first note.node p.goes (founders header note.node managers within) in
         let later = keeps journals notes front middle back entry listed note rises (subst (λ (l : List Item). AreMerged journals notes l) is merged) snap p.middle q.middle (tickets_of [] (front ++ (Step note.node entry ∷ []))) q.first up.node q.goes up.runs up.serving in
-        let shown : ReadShows q.middle (Look listed note ∷ back) q.more listed (read_answer up.node note.key) = at_look q.middle (tickets_of (tickets_of [] (front ++ (Step note.node entry ∷ []))) middle) back q.more later.0 later.1 (read_answer up.node note.key) later.3 q.on in
-        let behind : ReadShows p.middle (middle ++ (Look listed note ∷ back)) (q.first ++ q.more) listed (read_answer up.node note.key) =
-        shows_behind p.middle q.middle (tickets_of [] (front ++ (Step note.node entry ∷ []))) middle (Look listed note ∷ back) q.first q.more listed (read_answer up.node note.key) q.goes shown in
-        let whole : ReadShows (start header) ((front ++ (Step note.node entry ∷ [])) ++ (middle ++ (Look listed note ∷ back))) (p.first ++ p.more) listed (read_answer up.node note.key) =
-        shows_behind (start header) p.middle [] (front ++ (Step note.node entry ∷ [])) (middle ++ (Look listed note ∷ back)) p.first p.more listed (read_answer up.node note.key) p.goes
-        (subst (λ (l : List Event). ReadShows p.middle (middle ++ (Look listed note ∷ back)) l listed (read_answer up.node note.key)) (sym q.is) behind) in (
+        let shown : ReadShows q.middle (LocalRead listed note ∷ back) q.more listed (read_answer up.node note.key) = at_look q.middle (tickets_of (tickets_of [] (front ++ (Step note.node entry ∷ []))) middle) back q.more later.0 later.1 (read_answer up.node note.key) later.3 q.on in
+        let behind : ReadShows p.middle (middle ++ (LocalRead listed note ∷ back)) (q.first ++ q.more) listed (read_answer up.node note.key) =
+        shows_behind p.middle q.middle (tickets_of [] (front ++ (Step note.node entry ∷ []))) middle (LocalRead listed note ∷ back) q.first q.more listed (read_answer up.node note.key) q.goes shown in
+        let whole : ReadShows (start header) ((front ++ (Step note.node entry ∷ [])) ++ (middle ++ (LocalRead listed note ∷ back))) (p.first ++ p.more) listed (read_answer up.node note.key) =
+        shows_behind (start header) p.middle [] (front ++ (Step note.node entry ∷ [])) (middle ++ (LocalRead listed note ∷ back)) p.first p.more listed (read_answer up.node note.key) p.goes
+        (subst (λ (l : List Event). ReadShows p.middle (middle ++ (LocalRead listed note ∷ back)) l listed (read_answer up.node note.key)) (sym q.is) behind) in (
           read_answer up.node note.key,
-          record { front = front; entry = entry; back = middle ++ (Look listed note ∷ back); split = same; snapshot = snap; events = p.first; world = p.middle; goes = p.goes; node = up.node; runs = up.runs; is = refl },
+          record { front = front; entry = entry; back = middle ++ (LocalRead listed note ∷ back); split = same; snapshot = snap; events = p.first; world = p.middle; goes = p.goes; node = up.node; runs = up.runs; is = refl },
           subst (λ (l : List Item). ReadShows (start header) l events listed (read_answer up.node note.key)) (sym same)
-              (subst (λ (l : List Event). ReadShows (start header) ((front ++ (Step note.node entry ∷ [])) ++ (middle ++ (Look listed note ∷ back))) l listed (read_answer up.node note.key)) (sym p.is) whole),
+              (subst (λ (l : List Event). ReadShows (start header) ((front ++ (Step note.node entry ∷ [])) ++ (middle ++ (LocalRead listed note ∷ back))) l listed (read_answer up.node note.key)) (sym p.is) whole),
         )
       where
         at_look : (w : WorldState) (tickets : List ℕ) (back : List Item) (events : List Event) (node : NodeState) → process_at note.node w.processes ≡ Some (alive node) → (answer : Answer) → read_answer node note.key ≡ answer →
-            Goes w tickets (Look listed note ∷ back) events last → ReadShows w (Look listed note ∷ back) events listed answer
+            Goes w tickets (LocalRead listed note ∷ back) events last → ReadShows w (LocalRead listed note ∷ back) events listed answer
         at_look w tickets back [] node there answer same goes = absurd goes
         at_look w tickets back (event ∷ events) node there answer same (a, accepted, is, goes) =
             (a, accepted, inl (refl, read_shown reads w note.node note.key node a event is there accepted ∙ ap (λ (x : Answer). x ∷ []) same))
 
-    by_split : Split items (Step note.node entry) → In items (Look listed note) → (answer : Answer) × IsKeptAt header items note answer × ReadShows (start header) items events listed answer
-    by_split s look = by_part (in_parts s.front (Step note.node entry ∷ s.back) (Look listed note) (subst (λ (l : List Item). In l (Look listed note)) s.is look))
+    by_split : Split items (Step note.node entry) → In items (LocalRead listed note) → (answer : Answer) × IsKeptAt header items note answer × ReadShows (start header) items events listed answer
+    by_split s look = by_part (in_parts s.front (Step note.node entry ∷ s.back) (LocalRead listed note) (subst (λ (l : List Item). In l (LocalRead listed note)) s.is look))
       where
-        by_part : In s.front (Look listed note) ⊎ In (Step note.node entry ∷ s.back) (Look listed note) → (answer : Answer) × IsKeptAt header items note answer × ReadShows (start header) items events listed answer
+        by_part : In s.front (LocalRead listed note) ⊎ In (Step note.node entry ∷ s.back) (LocalRead listed note) → (answer : Answer) × IsKeptAt header items note answer × ReadShows (start header) items events listed answer
         by_part (inl early) =
             let sorted : IsStrictlySortedBy place_cmp (map (place_of journals) (s.front ++ (Step note.node entry ∷ s.back))) = subst (λ (l : List Item). IsStrictlySortedBy place_cmp (map (place_of journals) l)) s.is merged.ordered in
             let stands : StandsBetween (journal_of journals note.node) listed note = notes_stand_between (journal_of journals note.node) listed note (rises note.node) in
             absurd (never_both (entry_place note.node entry) (note_place (journal_of journals note.node) listed note) (stands.behind entry snap)
-            (in_front (place_of journals) s.front (Step note.node entry) s.back (Look listed note) sorted early))
+            (in_front (place_of journals) s.front (Step note.node entry) s.back (LocalRead listed note) sorted early))
         by_part (inr (inl wrong)) = cc
         by_part (inr (inr more)) =
-            let t : Split s.back (Look listed note) = split_at s.back (Look listed note) more in
+            let t : Split s.back (LocalRead listed note) = split_at s.back (LocalRead listed note) more in
             by_places s.front t.front t.back (s.is ∙ ap (λ (l : List Item). s.front ++ (Step note.node entry ∷ l)) t.is)

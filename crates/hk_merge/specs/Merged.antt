@@ -35,7 +35,7 @@ JournalList = List (List JournalEntry)
 -- an entry of a node, or a note with its place in the list of notes
 pub data Item : Type 0 where
   Step : (node : NodeId) (entry : JournalEntry) → Item
-  Look : (listed : ℕ) (note : Note) → Item
+  LocalRead : (listed : ℕ) (note : Note) → Item
 
 -- ---- places
 abbrev pub is_named : Option (List ℕ) → List ℕ → Bool
@@ -80,7 +80,7 @@ note_place journal listed note = note_place_at (next_entry note.key note.ticket 
 
 abbrev pub place_of : JournalList → Item → List ℕ
 place_of journals (Step node entry) = entry_place node entry
-place_of journals (Look listed note) = note_place (journal_of journals note.node) listed note
+place_of journals (LocalRead listed note) = note_place (journal_of journals note.node) listed note
 
 abbrev pub place_cmp : List ℕ → List ℕ → Ordering
 place_cmp = slice_cmp nat_cmp
@@ -102,7 +102,7 @@ IsFounded journals note = (entry : JournalEntry) × In (journal_of journals note
 -- an entry of a journal, or a note that is founded
 abbrev pub IsItem : JournalList → List Note → Item → Type 0
 IsItem journals notes (Step node entry) = In (journal_of journals node) entry
-IsItem journals notes (Look listed note) = (slice_get notes listed ≡ Some note) × IsFounded journals note
+IsItem journals notes (LocalRead listed note) = (slice_get notes listed ≡ Some note) × IsFounded journals note
 
 -- Merged: each entry and each founded note, and nothing else, in the order of their places.
 pub record AreMerged (journals : JournalList) (notes : List Note) (items : List Item) : Type 0 where
@@ -134,12 +134,12 @@ answers_of replies = map (λ (r : Reply). r.answer) replies
 abbrev pub IsOf : Item → List Letter → List ℕ → Event → Shown → Type 0
 IsOf (Step node entry) letters tickets event shown =
     IsEventOf letters tickets node entry.ticket entry.event event × (shown.letters ≡ entry.letters) × (answers_of shown.replies ≡ answers_of entry.replies)
-IsOf (Look listed note) letters tickets event shown = event ≡ Call note.node note.key Read
+IsOf (LocalRead listed note) letters tickets event shown = event ≡ Call note.node note.key Read
 
 -- the tickets of the letters that were sent, after an item
 abbrev pub tickets_after : List ℕ → Item → List ℕ
 tickets_after tickets (Step node entry) = tickets ++ map (λ (l : Letter). entry.ticket) entry.letters
-tickets_after tickets (Look listed note) = tickets
+tickets_after tickets (LocalRead listed note) = tickets
 
 abbrev pub tickets_of : List ℕ → List Item → List ℕ
 tickets_of tickets [] = tickets
@@ -165,6 +165,6 @@ NotesStandBetween = (journal : List JournalEntry) (listed : ℕ) (note : Note) �
 -- A note's Read at its place is answered as one directly behind its snapshot's entry would be.
 abbrev pub NotesAreKept : Type 0
 NotesAreKept = (journals : JournalList) (notes : List Note) (front middle back : List Item) (entry : JournalEntry) (listed : ℕ) (note : Note) →
-    ((n : NodeId) → Rises (journal_of journals n)) → AreMerged journals notes (front ++ (Step note.node entry ∷ (middle ++ (Look listed note ∷ back)))) → entry.ticket ≡ note.ticket →
+    ((n : NodeId) → Rises (journal_of journals n)) → AreMerged journals notes (front ++ (Step note.node entry ∷ (middle ++ (LocalRead listed note ∷ back)))) → entry.ticket ≡ note.ticket →
     (world last : WorldState) (tickets : List ℕ) (events : List Event) (node : NodeState) → Goes world tickets middle events last → process_at note.node world.processes ≡ Some (alive node) → IsServing node →
     (later : NodeState) × (process_at note.node last.processes ≡ Some (alive later)) × IsServing later × (read_answer later note.key ≡ read_answer node note.key)

@@ -8,7 +8,7 @@ use Rattle.hk_journal.specs.declared.step_entry.JournalEntry.{JournalEntry}
 use Rattle.hk_merge.specs.declared.note.Note.{Note}
 use Rattle.hk_merge.specs.declared.slot.Slot.{Slot}
 use Rattle.hk_merge.specs.declared.slot.Slot.TheVariants as slots
-use Rattle.hk_merge.specs.Merged.{JournalList, Item, Step, Look, Rises, journal_of, entry_place, note_place, place_cmp, AreMerged}
+use Rattle.hk_merge.specs.Merged.{JournalList, Item, Step, LocalRead, Rises, journal_of, entry_place, note_place, place_cmp, AreMerged}
 
 -- items, each with its place, in the order of the places
 abbrev pub Places : Type 0
@@ -34,7 +34,7 @@ is_founded journal ticket = list_any (λ entry. entry.ticket == ticket) journal
 abbrev pub with_note : JournalList → ℕ → Note → Places → Places
 with_note journals listed note places =
     if is_founded (journal_of journals note.node) note.ticket
-    then put_item places (note_place (journal_of journals note.node) listed note) (Look listed note)
+    then put_item places (note_place (journal_of journals note.node) listed note) (LocalRead listed note)
     else places
 
 -- the notes from this number on
@@ -52,7 +52,7 @@ MergedAreMerged = (journals : JournalList) (notes : List Note) → ((n : NodeId)
 -- ---- what the code has of it
 abbrev pub item_of : Slot → Item
 item_of (slots.Step node entry) = Step node entry.now
-item_of (slots.Look listed note) = Look listed note.now
+item_of (slots.LocalRead listed note) = LocalRead listed note.now
 
 abbrev pub placed : List (List ℕ × Slot) → Places
 placed entries = map (λ e. (e.0, item_of e.1)) entries

@@ -12,7 +12,7 @@ use Rattle.hk_world.specs.Steps.{Accepted, world_step}
 use Rattle.hk_merge.specs.declared.note.Note.{Note}
 use Rattle.hk_merge.specs.Reads.{read_answer}
 use Rattle.hk_merge.specs.Aside.{alive}
-use Rattle.hk_merge.specs.Merged.{JournalList, Item, Step, Look, Rises, journal_of, IsFounded, AreMerged, answers_of, Goes}
+use Rattle.hk_merge.specs.Merged.{JournalList, Item, Step, LocalRead, Rises, journal_of, IsFounded, AreMerged, answers_of, Goes}
 
 -- What is kept of a note: what a Read of its key is answered directly behind its snapshot's entry, in the run of the items so far.
 pub record IsKeptAt (header : Header) (items : List Item) (note : Note) (answer : Answer) : Type 0 where
@@ -30,7 +30,7 @@ pub record IsKeptAt (header : Header) (items : List Item) (note : Note) (answer 
 
 -- the Read of the note that is listed there was answered this
 abbrev pub ReadShows : WorldState → List Item → List Event → ℕ → Answer → Type 0
-ReadShows world (Look i note ∷ items) (event ∷ events) listed answer =
+ReadShows world (LocalRead i note ∷ items) (event ∷ events) listed answer =
     (a : Accepted) × (world_step world event ≡ Ok a) × (((i ≡ listed) × (answers_of a.shown.replies ≡ answer ∷ [])) ⊎ ReadShows a.world items events listed answer)
 ReadShows world (Step node entry ∷ items) (event ∷ events) listed answer = (a : Accepted) × (world_step world event ≡ Ok a) × ReadShows a.world items events listed answer
 ReadShows world items events listed answer = ⊥

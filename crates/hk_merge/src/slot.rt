@@ -25,7 +25,7 @@ pub enum Slot<'a> {
         node: NodeId,
         entry: &'a JournalEntry,
     },
-    Look {
+    LocalRead {
         listed: u64,
         note: &'a Note,
     },
@@ -103,7 +103,7 @@ fn put_note<'a>(
     };
     if journal.is_founded(note.ticket) {
         let place = note_place(journal, listed, note);
-        return put(slots, place, Slot::Look { listed, note });
+        return put(slots, place, Slot::LocalRead { listed, note });
     }
     Ok(())
 }

@@ -14,7 +14,7 @@ use Rattle.hk_node.specs.declared.out.NodeOut.{NodeOut}
 use Rattle.hk_node.specs.Rows.{Rows, find_row, row_at, with_row}
 use Rattle.hk_node.specs.Node.{NodeState, members_of}
 use Rattle.hk_node.specs.Stepped.{Stepped, idle, row_step}
-use Rattle.hk_node.specs.declared.report.Beside.TheVariants.{Nothing}
+use Rattle.hk_node.specs.declared.report.Undo.TheVariants.{Nothing}
 use Rattle.hk_node.specs.Sends.{at_view, sent}
 use Rattle.hk_base.specs.declared.call.CallNo.{CallNo}
 use Rattle.hk_base.specs.declared.call.Op.{Op}
@@ -122,13 +122,13 @@ module _ (inside node : NodeState) (view : View) (at : Inside inside node view) 
 
 -- what is told of an update that is sent again
 pub resent_told : (inside node : NodeState) (view : View) (key : List ℕ) (row : Row) (out : NodeOut) → Inside inside node view → find_row key node.rows ≡ Some row →
-    out.letters ≡ sent (at_view inside.id view) key row (resend row).out.send → out.replies ≡ [] → out.installed ≡ None → out.beside ≡ Nothing → out.report ≡ rows_report inside [] →
+    out.letters ≡ sent (at_view inside.id view) key row (resend row).out.send → out.replies ≡ [] → out.installed ≡ None → out.undo ≡ Nothing → out.report ≡ rows_report inside [] →
     IsOutOf out node (resent node key)
-resent_told inside node view key row out at found letters replies installed beside reports =
+resent_told inside node view key row out at found letters replies installed undo reports =
     subst (λ (s : Stepped). IsOutOf out node s) (sym (resent_is node key row (subst IsNode at.same at.ok).ordered found))
     (out_of_still node (tells node key row) out (subst IsNode at.same at.ok) refl
     (letters ∙ sent_alike inside.id view node key row (resend row).out.send (sym (ap (λ (n : NodeState). n.id) at.same)) (sym (ap (λ (n : NodeState). n.view) at.same) ∙ at.seen))
-    replies installed beside (reports ∙ ap (λ (n : NodeState). rows_report n []) at.same))
+    replies installed undo (reports ∙ ap (λ (n : NodeState). rows_report n []) at.same))
 
 -- ---- what becomes of a call at the row that is there
 pub found_within : (inside node : NodeState) (key : List ℕ) (row : Row) → IsNode inside → inside ≡ node → find_row key node.rows ≡ Some row → IsWithin row.stamp

@@ -12,7 +12,7 @@ use Rattle.hk_key.specs.declared.row.Row.{Row}
 use Rattle.hk_node.specs.Rows.{Rows, find_row}
 use Rattle.hk_base.specs.declared.letter.Body.TheVariants.{CopyAsk, CopyGive}
 use Rattle.hk_node.specs.declared.out.NodeOut.{NodeOut}
-use Rattle.hk_node.specs.declared.report.Beside.TheVariants.{Nothing}
+use Rattle.hk_node.specs.declared.report.Undo.TheVariants.{Nothing}
 use Rattle.hk_node.specs.Node.{NodeState, is_other}
 use Rattle.hk_node.specs.Sends.{letters_to, at_view}
 use Rattle.hk_base.specs.declared.call.Content.{Content}
@@ -62,11 +62,11 @@ pub letters_alike : (id : NodeId) (view : View) (node : NodeState) (body : Body)
 letters_alike id view node body to same seen = rw (same, seen) refl
 
 pub told_out : (inside node : NodeState) (view : View) (body : Body) (to : NodeId) (out : NodeOut) → inside ≡ node → inside.view ≡ Some view →
-    out.letters ≡ letters_to (at_view inside.id view) body (to ∷ []) → out.replies ≡ [] → out.installed ≡ None → out.beside ≡ Nothing → out.report ≡ rows_report inside [] → IsNode inside →
+    out.letters ≡ letters_to (at_view inside.id view) body (to ∷ []) → out.replies ≡ [] → out.installed ≡ None → out.undo ≡ Nothing → out.report ≡ rows_report inside [] → IsNode inside →
     IsOutOf out node (told node body to)
-told_out inside node view body to out same seen letters replies installed beside reports ok = out_of_still node (told node body to) out (subst IsNode same ok) refl
+told_out inside node view body to out same seen letters replies installed undo reports ok = out_of_still node (told node body to) out (subst IsNode same ok) refl
     (letters ∙ letters_alike inside.id view node body (to ∷ []) (sym (ap (λ (n : NodeState). n.id) same)) (sym (ap (λ (n : NodeState). n.view) same) ∙ seen))
-    replies installed beside (reports ∙ ap (λ (n : NodeState). rows_report n []) same)
+    replies installed undo (reports ∙ ap (λ (n : NodeState). rows_report n []) same)
 
 pub asks_told : (node : NodeState) (from : NodeId) (room : ℕ) → node.ready ≡ false → is_other node from ≡ true → asks_copy node from room ≡ told node (CopyAsk node.cursor room) from
 asks_told node from room unready other = rw (unready, other) refl

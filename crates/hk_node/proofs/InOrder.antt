@@ -17,7 +17,7 @@ use Rattle.hk_node.specs.Sound.{IsNode}
 use Rattle.hk_node.specs.Laws.{key_of, ToldInOrder}
 use Rattle.hk_node.proofs.Order.{Rising, Lt}
 use Rattle.hk_node.proofs.Keeps.{begun}
-use Rattle.hk_node.proofs.Ways.{CallWays, Ways, by_call, by_event}
+use Rattle.hk_node.proofs.StepCases.{CallCases, StepCases, by_call, by_event}
 
 abbrev Told : Type 0
 Told = List (List ℕ × Reply)
@@ -56,7 +56,7 @@ none_in_order : InOrder []
 unfolding IsStrictlySortedBy
 none_in_order = tt
 
-ways : (node : NodeState) (named : Option (List ℕ)) → IsNode node → Ways (λ stepped. InOrder stepped.told) node named
+ways : (node : NodeState) (named : Option (List ℕ)) → IsNode node → StepCases (λ stepped. InOrder stepped.told) node named
 ways node named ok = record {
   quiet = λ clock granted ends activated. none_in_order;
   sends = λ letters within. none_in_order;
@@ -65,7 +65,7 @@ ways node named ok = record {
   installs = λ view activated none acts. all_in_order (on_view node.id view.members) node.rows ok.ordered;
 }
 
-call_ways : (node : NodeState) (call : CallNo) (key : List ℕ) (op : Op) → CallWays (λ stepped. InOrder stepped.told) node call key op
+call_ways : (node : NodeState) (call : CallNo) (key : List ℕ) (op : Op) → CallCases (λ stepped. InOrder stepped.told) node call key op
 call_ways node call key op = record {
   answered = λ answer. one_in_order key (Some (record { call = call; answer = answer }));
   begins = λ s ready valid next. one_in_order key (begun node call op (row_at key node.rows) s).out.reply;

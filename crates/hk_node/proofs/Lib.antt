@@ -16,14 +16,14 @@ pub mod Received
 pub mod Copied
 pub mod Placing
 pub mod Behind
-pub mod Laid
+pub mod PutRows
 pub mod Merged
 pub mod Taken
 pub mod Installed
 pub mod Activations
 pub mod Acts
 pub mod Batched
-pub mod Ways
+pub mod StepCases
 pub mod Ranged
 pub mod OneRow
 pub mod Stamps

@@ -30,7 +30,7 @@ use Rattle.hk_node.specs.Copies.{merged}
 use Rattle.hk_node.specs.Copying.{IsQuiet, IsMerge, change_of, put_change, row_now, put_rows}
 use Rattle.hk_node.proofs.Order.{Key, Rising, AreTouched, with_touched, with_itself, cases_key, holds_at, find-put_same, find-put_other, rising_put}
 use Rattle.hk_node.proofs.Parts.{copy_pends_none}
-use Rattle.hk_node.proofs.Laid.{row_over, put_over, rising_over}
+use Rattle.hk_node.proofs.PutRows.{row_over, put_over, rising_over}
 
 -- ---- what a copied row makes of a row
 -- The row has a higher stamp, or became Valid: it never goes back.

@@ -18,9 +18,9 @@ use Rattle.hk_copy.specs.Batches.{key_cmp}
 use Rattle.hk_key.specs.declared.row.Row.{Row}
 use Rattle.hk_key.specs.Table.{first_row}
 use Rattle.hk_key.specs.Same.{is_same_row}
-use Rattle.hk_node.specs.declared.report.Former.{Former}
+use Rattle.hk_node.specs.declared.report.PriorRow.{PriorRow}
 use Rattle.hk_node.specs.Rows.{Rows, find_row, row_at, put_row, with_row}
-use Rattle.hk_node.specs.Report.{AreChanged, IsMade, row_given_back, rows_given_back, changed_by}
+use Rattle.hk_node.specs.Report.{AreChanged, IsMade, row_rolled_back, rows_rolled_back, changed_by}
 use Rattle.hk_node.proofs.Order.{Key, same_key, Lt, Rising, same_true, same_of, lt_ne_back, find_here, find_next, find-put_same, find-put_other, with_made}
 
 none_there : {X : Type 0} (o : Option X) → o ≡ None → IsSome o → ⊥
@@ -99,17 +99,17 @@ put_put key row old (r ∷ rs) sorted there = by_order (key_cmp key r.0) refl th
     by_order Greater e at more = rw e (ap (λ l. r ∷ l) (more at))
 
 -- what a row that is put takes the place of, given back, is what was there
-pub put_undone : (key : Key) (row : Row) (rs : Rows) → Rising rs → row_given_back key (find_row key rs) (put_row key row rs) ≡ rs
+pub put_undone : (key : Key) (row : Row) (rs : Rows) → Rising rs → row_rolled_back key (find_row key rs) (put_row key row rs) ≡ rs
 put_undone key row rs sorted = by_found (find_row key rs) refl
   where
-    by_found : (o : Option Row) → find_row key rs ≡ o → row_given_back key o (put_row key row rs) ≡ rs
+    by_found : (o : Option Row) → find_row key rs ≡ o → row_rolled_back key o (put_row key row rs) ≡ rs
     by_found None e = remove_put key row rs e
     by_found (Some old) e = put_put key row old rs sorted e
 
-pub made_undone : (key : Key) (row : Row) (rs : Rows) → Rising rs → IsMade rs key row → rows_given_back (changed_by key row rs) (with_row key row rs) ≡ rs
-made_undone key row rs sorted made = ap (rows_given_back (changed_by key row rs)) (with_made key row rs sorted made) ∙ by_test (is_same_row (row_at key rs) row)
+pub made_undone : (key : Key) (row : Row) (rs : Rows) → Rising rs → IsMade rs key row → rows_rolled_back (changed_by key row rs) (with_row key row rs) ≡ rs
+made_undone key row rs sorted made = ap (rows_rolled_back (changed_by key row rs)) (with_made key row rs sorted made) ∙ by_test (is_same_row (row_at key rs) row)
   where
-    by_test : (b : Bool) → rows_given_back (cond b [] (record { key = key; row = find_row key rs } ∷ [])) (cond b rs (put_row key row rs)) ≡ rs
+    by_test : (b : Bool) → rows_rolled_back (cond b [] (record { key = key; row = find_row key rs } ∷ [])) (cond b rs (put_row key row rs)) ≡ rs
     by_test true = refl
     by_test false = put_undone key row rs sorted
 
@@ -128,7 +128,7 @@ put_replaced key row rs e = record {
   others = λ other apart. find-put_other other key row rs (λ s. false≢true (sym apart ∙ passes other s));
 }
   where
-    passes : (other : Key) → other ≡ key → list_any (λ (f : Former). is_eq (key_cmp other f.key)) (record { key = key; row = find_row key rs } ∷ []) ≡ true
+    passes : (other : Key) → other ≡ key → list_any (λ (f : PriorRow). is_eq (key_cmp other f.key)) (record { key = key; row = find_row key rs } ∷ []) ≡ true
     passes other s = rw (same_of other key s) refl
 
 pub made_changed : (key : Key) (row : Row) (rs : Rows) → Rising rs → IsMade rs key row → AreChanged (changed_by key row rs) rs (with_row key row rs)

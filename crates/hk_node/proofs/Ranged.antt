@@ -20,7 +20,7 @@ use Rattle.hk_node.proofs.Leaving.{act_leaves}
 use Rattle.hk_node.proofs.Parts.{next_is_next}
 use Rattle.hk_node.proofs.Keeps.{begun}
 use Rattle.hk_node.proofs.Acts.{SendsWithin, Acts, begin_sends}
-use Rattle.hk_node.proofs.Ways.{CallWays, Ways, letters_within, by_call, by_event}
+use Rattle.hk_node.proofs.StepCases.{CallCases, StepCases, letters_within, by_call, by_event}
 
 sent_within : (node : NodeState) (key : List ℕ) (done : Done) → SendsWithin key done → AllByRecursion IsLetter (sent node key done.row done.out.send)
 sent_within node key done h = by_send done.out.send h
@@ -46,7 +46,7 @@ each_view : (new : NodeState) (rows : Rows) → AllByRecursion (λ r. Acts r.0 r
 each_view new [] all = tt
 each_view new (r ∷ rows) all = (sent_within new r.0 (viewed new r) all.0.sends, each_view new rows all.1)
 
-ways : (node : NodeState) (named : Option (List ℕ)) → Ways Within node named
+ways : (node : NodeState) (named : Option (List ℕ)) → StepCases Within node named
 ways node named = record {
   quiet = λ clock granted ends activated. tt;
   sends = λ letters within. within;
@@ -56,7 +56,7 @@ ways node named = record {
       all_parts IsLetter (λ r. sent new r.0 (viewed new r).row (viewed new r).out.send) node.rows (each_view new node.rows acts);
 }
 
-call_ways : (node : NodeState) (call : CallNo) (key : List ℕ) (op : Op) → CallWays Within node call key op
+call_ways : (node : NodeState) (call : CallNo) (key : List ℕ) (op : Op) → CallCases Within node call key op
 call_ways node call key op = record {
   answered = λ answer. tt;
   begins = λ s ready valid next. sent_within node key (begun node call op (row_at key node.rows) s)

@@ -27,7 +27,7 @@ use Rattle.hk_node.proofs.Finishing.{begins_made}
 use Rattle.hk_node.proofs.Order.{cases_key, find-put_same, row-with_other, row-with_touched}
 use Rattle.hk_node.proofs.Parts.{IsNext, next_is_next}
 use Rattle.hk_node.proofs.Keeps.{begun}
-use Rattle.hk_node.proofs.Ways.{CallWays, Ways, by_call, by_event}
+use Rattle.hk_node.proofs.StepCases.{CallCases, StepCases, by_call, by_event}
 
 -- the stamp of a row is at least that of another
 abbrev pub IsUp : Row → Row → Type 0
@@ -98,7 +98,7 @@ module _ (node : NodeState) (key : List ℕ) (small : (row_at key node.rows).sta
   abbrev Up : Stepped → Type 0
   Up stepped = IsUp (row_at key node.rows) (row_at key stepped.node.rows)
 
-  ways : (named : Option (List ℕ)) → Ways Up node named
+  ways : (named : Option (List ℕ)) → StepCases Up node named
   ways named = record {
     quiet = λ clock granted ends activated. up_itself (row_at key node.rows);
     sends = λ letters within. up_itself (row_at key node.rows);
@@ -107,7 +107,7 @@ module _ (node : NodeState) (key : List ℕ) (small : (row_at key node.rows).sta
     installs = λ view activated none acts. viewed_up node.id view.members key node.rows;
   }
 
-  call_ways : (call : CallNo) (k : List ℕ) (op : Op) → CallWays Up node call k op
+  call_ways : (call : CallNo) (k : List ℕ) (op : Op) → CallCases Up node call k op
   call_ways call k op = record {
     answered = λ answer. up_itself (row_at key node.rows);
     begins = λ s ready valid next. ⊎_elim

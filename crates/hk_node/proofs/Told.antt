@@ -18,7 +18,7 @@ use Rattle.hk_node.specs.Laws.{Tells, ToldWereWaiting}
 use Rattle.hk_node.proofs.Order.{Rising, Lt, same_key, same_true, same_of, lt_ne_back, find_here, find_next}
 use Rattle.hk_node.proofs.Acts.{Acts}
 use Rattle.hk_node.proofs.Ranged.{all_parts}
-use Rattle.hk_node.proofs.Ways.{by_event}
+use Rattle.hk_node.proofs.StepCases.{by_event}
 
 -- ---- the rows of a list that rises are those that are found by their keys
 abbrev IsFoundIn : Rows → List ℕ × Row → Type 0

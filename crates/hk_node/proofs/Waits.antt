@@ -31,7 +31,7 @@ use Rattle.hk_node.proofs.Keeps.{begun, sound_at, none_pending_at}
 use Rattle.hk_node.proofs.Acts.{Acts, acts_make, view_acts}
 use Rattle.hk_node.proofs.Stamps.{row_mapped, begun_touched}
 use Rattle.hk_node.proofs.Told.{IsSilentAt, tells_row, tells_among, silent_other, silent_among}
-use Rattle.hk_node.proofs.Ways.{CallWays, Ways, by_call, by_event}
+use Rattle.hk_node.proofs.StepCases.{CallCases, StepCases, by_call, by_event}
 
 -- a sound row whose pending update has a call's reply is in Write or in Trans
 in_write_or_trans : (state : State) (o : Option Pending) (s : Stamp) (p : Pending) (reply : Reply) → Holds state o s → Waits state o → o ≡ Some p →
@@ -103,7 +103,7 @@ module _ (node : NodeState) (ok : IsNode node) (key : List ℕ) (p : Pending) (r
       (silent_among (on_view node.id view.members) key row node.rows ok.ordered is.1.0)
       ((view_acts key node.id (members_of node) row sound view.members).waits p reply is.1.1 own)
 
-  ways : (named : Option (List ℕ)) → Ways Goes node named
+  ways : (named : Option (List ℕ)) → StepCases Goes node named
   ways named = record {
     quiet = λ clock granted ends activated. inl (waiting, tt);
     sends = λ letters within. inl (waiting, tt);
@@ -113,7 +113,7 @@ module _ (node : NodeState) (ok : IsNode node) (key : List ℕ) (p : Pending) (r
   }
 
   -- a call changes a row only where none is pending
-  call_ways : (call : CallNo) (k : List ℕ) (op : Op) → CallWays (λ stepped. IsWaiting (row_at key stepped.node.rows) p.stamp reply) node call k op
+  call_ways : (call : CallNo) (k : List ℕ) (op : Op) → CallCases (λ stepped. IsWaiting (row_at key stepped.node.rows) p.stamp reply) node call k op
   call_ways call k op = record {
     answered = λ answer. waiting;
     begins = λ s ready valid next. ⊎_elim

@@ -37,7 +37,7 @@ use Rattle.hk_node.specs.Viewed.{IsFitRow, view_done, view_letters, view_told, v
 use Rattle.hk_node.proofs.Order.{holds_found}
 use Rattle.hk_node.proofs.Stamps.{row_mapped}
 use Rattle.hk_node.proofs.Placed.{below_first, each_found}
-use Rattle.hk_node.proofs.Laid.{find_over}
+use Rattle.hk_node.proofs.PutRows.{find_over}
 
 abbrev pub Entry : Type 0
 Entry = Key × Row

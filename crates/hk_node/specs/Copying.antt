@@ -11,7 +11,7 @@ use Rattle.hk_base.specs.declared.call.State.TheVariants.{Invalid}
 use Rattle.hk_key.specs.declared.row.Row.{Row}
 use Rattle.hk_key.specs.Table.{first_row, on_copy}
 use Rattle.hk_key.specs.Same.{is_same_row}
-use Rattle.hk_node.specs.declared.report.Former.{Former}
+use Rattle.hk_node.specs.declared.report.PriorRow.{PriorRow}
 use Rattle.hk_node.specs.Rows.{Rows, find_row, row_at, put_row, is_touched}
 
 -- what the item makes of the row, where it changes it
@@ -33,9 +33,9 @@ put_rows [] rows = rows
 put_rows (c ∷ changes) rows = put_rows changes (put_row c.0 c.1 rows)
 
 -- what they take the place of
-abbrev pub former_of : Rows → Rows → List Former
-former_of [] rows = []
-former_of (c ∷ changes) rows = record { key = c.0; row = find_row c.0 rows } ∷ former_of changes (put_row c.0 c.1 rows)
+abbrev pub prior_of : Rows → Rows → List PriorRow
+prior_of [] rows = []
+prior_of (c ∷ changes) rows = record { key = c.0; row = find_row c.0 rows } ∷ prior_of changes (put_row c.0 c.1 rows)
 
 -- A row that may take a copied one: no update is pending, and one that is Invalid was touched.
 pub record IsQuiet (row : Row) : Type 0 where

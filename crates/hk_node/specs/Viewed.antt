@@ -8,7 +8,7 @@ use Rattle.hk_base.specs.Range.{IsWithin}
 use Rattle.hk_key.specs.declared.row.Row.{Row}
 use Rattle.hk_key.specs.Same.{is_same_row}
 use Rattle.hk_key.specs.Table.{Done, on_view}
-use Rattle.hk_node.specs.declared.report.Former.{Former}
+use Rattle.hk_node.specs.declared.report.PriorRow.{PriorRow}
 use Rattle.hk_node.specs.Sends.{at_view, sent}
 use Rattle.hk_node.specs.Stepped.{told_of}
 
@@ -29,8 +29,8 @@ module _ (id : NodeId) (view : View) where
   view_told r = told_of r.0 (view_done r).out.reply
 
   -- the row that is new, and the one that was there, where they differ
-  abbrev pub view_new : List ℕ × Row → List Former
+  abbrev pub view_new : List ℕ × Row → List PriorRow
   view_new r = if is_same_row r.1 (view_done r).row then [] else record { key = r.0; row = Some (view_done r).row } ∷ []
 
-  abbrev pub view_old : List ℕ × Row → List Former
+  abbrev pub view_old : List ℕ × Row → List PriorRow
   view_old r = if is_same_row r.1 (view_done r).row then [] else record { key = r.0; row = Some r.1 } ∷ []

@@ -6,9 +6,9 @@ ghost use Rattle.std.specs.List.Sorted.{IsStrictlySortedBy};
 ghost use Rattle.std.specs.Map.{keys_of};
 ghost use Rattle.hk_copy.specs.Batches.{key_cmp};
 ghost use Rattle.hk_node.specs.Rows.{find_row, put_row, with_row};
-ghost use Rattle.hk_node.specs.Report.{IsMade, row_given_back, rows_given_back, changed_by};
+ghost use Rattle.hk_node.specs.Report.{IsMade, row_rolled_back, rows_rolled_back, changed_by};
 
-use crate::report::{Former, FormerRows};
+use crate::report::{PriorRow, PriorRows};
 use hk_base::{Key, Memory};
 use hk_key::Row;
 use std::alloc::Global;
@@ -19,7 +19,7 @@ use std::mem;
 pub(crate) fn swap_row(rows: &mut BTreeMap<Key, Row>, key: &Key, row: Row) -> Row
     requires { IsSome (find_row key.now rows.old.entries) }
     ensures put { rows.new.entries ≡ put_row key.now row rows.old.entries }
-    ensures former { Some result ≡ find_row key.now rows.old.entries }
+    ensures prior { Some result ≡ find_row key.now rows.old.entries }
 {
     match rows.get_mut(key) {
         Some(place) => mem::replace(place, row),
@@ -33,20 +33,20 @@ fn replace_row(
     alloc: Global,
     key: &Key,
     row: Row,
-) -> Result<FormerRows, Memory>
+) -> Result<PriorRows, Memory>
     requires { IsSome (find_row key.now rows.old.entries) }
     ensures put { OnOk result (rows.new.entries ≡ put_row key.now row rows.old.entries) }
-    ensures former { IfOk result (λ former. former ≡ record { key = key.now; row = find_row key.now rows.old.entries } ∷ []) }
+    ensures prior { IfOk result (λ prior. prior ≡ record { key = key.now; row = find_row key.now rows.old.entries } ∷ []) }
     ensures err { OnErr result (rows.new.entries ≡ rows.old.entries) }
 {
     let name = key.share()?;
-    let mut former = Vec::with_capacity(alloc, 1)?;
+    let mut prior = Vec::with_capacity(alloc, 1)?;
     let row = swap_row(rows, key, row);
-    former.push_reserved(Former {
+    prior.push_reserved(PriorRow {
         key: name,
         row: Some(row),
     });
-    Ok(FormerRows::from_vec(former))
+    Ok(PriorRows::from_vec(prior))
 }
 
 // Puts a row at a key that has none.
@@ -55,21 +55,21 @@ fn add_row(
     alloc: Global,
     key: &Key,
     row: Row,
-) -> Result<FormerRows, Memory>
+) -> Result<PriorRows, Memory>
     requires { find_row key.now rows.old.entries ≡ None }
     ensures put { OnOk result (rows.new.entries ≡ put_row key.now row rows.old.entries) }
-    ensures former { IfOk result (λ former. former ≡ record { key = key.now; row = find_row key.now rows.old.entries } ∷ []) }
+    ensures prior { IfOk result (λ prior. prior ≡ record { key = key.now; row = find_row key.now rows.old.entries } ∷ []) }
     ensures err { OnErr result (rows.new.entries ≡ rows.old.entries) }
 {
-    let mut former = FormerRows::new(alloc);
+    let mut prior = PriorRows::new(alloc);
     let name = key.share()?;
-    former.push(Former {
+    prior.push(PriorRow {
         key: name,
         row: None,
     })?;
     let name = key.share()?;
     rows.insert(name, row)?;
-    Ok(former)
+    Ok(prior)
 }
 
 /// Puts a row that a step made at its key, where the same does not stand there. What it took the place of is given.
@@ -78,23 +78,23 @@ pub(crate) fn put_row(
     alloc: Global,
     key: &Key,
     row: Row,
-) -> Result<FormerRows, Memory>
+) -> Result<PriorRows, Memory>
     requires ordered { IsStrictlySortedBy key_cmp (keys_of rows.old.entries) }
     requires made { IsMade rows.old.entries key.now row }
     ensures put { OnOk result (rows.new.entries ≡ with_row key.now row rows.old.entries) }
-    ensures former { IfOk result (λ former. former ≡ changed_by key.now row rows.old.entries) }
+    ensures prior { IfOk result (λ prior. prior ≡ changed_by key.now row rows.old.entries) }
     ensures err { OnErr result (rows.new.entries ≡ rows.old.entries) }
 {
     match rows.get(key) {
         Some(now) => {
             if now.is_same(&row) {
-                return Ok(FormerRows::new(alloc));
+                return Ok(PriorRows::new(alloc));
             }
             replace_row(rows, alloc, key, row)
         }
         None => {
             if Row::first().is_same(&row) {
-                return Ok(FormerRows::new(alloc));
+                return Ok(PriorRows::new(alloc));
             }
             add_row(rows, alloc, key, row)
         }
@@ -102,11 +102,11 @@ pub(crate) fn put_row(
 }
 
 // Gives one row back.
-fn give_row_back(rows: &mut BTreeMap<Key, Row>, former: Former)
-    requires { IsSome (find_row former.key rows.old.entries) }
-    ensures { rows.new.entries ≡ row_given_back former.key former.row rows.old.entries }
+fn give_row_back(rows: &mut BTreeMap<Key, Row>, prior: PriorRow)
+    requires { IsSome (find_row prior.key rows.old.entries) }
+    ensures { rows.new.entries ≡ row_rolled_back prior.key prior.row rows.old.entries }
 {
-    let Former { key, row } = former;
+    let PriorRow { key, row } = prior;
     match row {
         Some(row) => {
             swap_row(rows, &key, row);
@@ -117,14 +117,14 @@ fn give_row_back(rows: &mut BTreeMap<Key, Row>, former: Former)
     }
 }
 
-/// Gives former rows back, from the last to the first.
-pub(crate) fn give_rows_back(rows: &mut BTreeMap<Key, Row>, former: Vec<Former>)
-    requires rising { IsStrictlySortedBy key_cmp (map (λ f. f.key) former.items) }
-    requires there { AllByRecursion (λ f. IsSome (find_row f.key rows.old.entries)) former.items }
-    ensures { rows.new.entries ≡ rows_given_back former.items rows.old.entries }
+/// Gives prior rows back, from the last to the first.
+pub(crate) fn give_rows_back(rows: &mut BTreeMap<Key, Row>, prior: Vec<PriorRow>)
+    requires rising { IsStrictlySortedBy key_cmp (map (λ f. f.key) prior.items) }
+    requires there { AllByRecursion (λ f. IsSome (find_row f.key rows.old.entries)) prior.items }
+    ensures { rows.new.entries ≡ rows_rolled_back prior.items rows.old.entries }
 {
-    let mut former = former;
-    while let Some(last) = former.pop() {
+    let mut prior = prior;
+    while let Some(last) = prior.pop() {
         give_row_back(rows, last);
     }
 }

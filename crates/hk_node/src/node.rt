@@ -24,7 +24,7 @@ use crate::event::NodeEvent;
 use crate::give::give_rows_back;
 use crate::heard::of_each;
 use crate::out::NodeOut;
-use crate::report::{Beside, Report};
+use crate::report::{Report, Undo};
 use hk_base::{CallNo, Key, Letter, Memory, NodeId, Op, Sequence, View};
 use hk_key::Row;
 use std::alloc::Global;
@@ -84,7 +84,7 @@ impl Node {
     ghost use Rattle.hk_node.specs.Copies.{asks_copy};
     ghost use Rattle.hk_node.specs.Steps.{node_step, receives, resent, replayed, installs, ticks, grants, asks_lease};
     ghost use Rattle.hk_node.specs.Sound.{IsNode, IsEvent};
-    ghost use Rattle.hk_node.specs.Report.{given_back};
+    ghost use Rattle.hk_node.specs.Report.{rolled_back};
     ghost use Rattle.hk_node.specs.Outs.{IsOutOf};
 
     /// A founder of the group: it is a member of the first view, is ready, and has a lease that ends at `lease_end`, from each
@@ -150,28 +150,28 @@ impl Node {
 
     /// Undoes a step, by what it reported and what it replaced beside rows: behind that step this makes the node as it was
     /// before. It takes no memory.
-    pub fn undo(&mut self, report: Report, beside: Beside)
+    pub fn undo(&mut self, report: Report, undo: Undo)
         requires rising { IsStrictlySortedBy key_cmp (map (λ f. f.key) report.rows) }
         requires there { AllByRecursion (λ f. IsSome (find_row f.key self.old.rows)) report.rows }
-        requires node { IsNode (given_back report.rows beside self.old) }
-        ensures { self.new ≡ given_back report.rows beside self.old }
+        requires node { IsNode (rolled_back report.rows undo self.old) }
+        ensures { self.new ≡ rolled_back report.rows undo self.old }
     {
         self.whole = false;
         give_rows_back(&mut self.rows, report.rows.into_vec());
-        match beside {
-            Beside::Nothing => {}
-            Beside::Clock(now) => self.clock = now,
-            Beside::Lease(end) => self.granted = end,
-            Beside::Granted { granted, ends } => {
+        match undo {
+            Undo::Nothing => {}
+            Undo::Clock(now) => self.clock = now,
+            Undo::Lease(end) => self.granted = end,
+            Undo::Granted { granted, ends } => {
                 self.granted = granted;
                 self.ends = ends;
             }
-            Beside::Activated(activated) => self.activated = activated,
-            Beside::View { view, activated } => {
+            Undo::Activated(activated) => self.activated = activated,
+            Undo::View { view, activated } => {
                 self.view = view;
                 self.activated = activated;
             }
-            Beside::Cursor(cursor) => {
+            Undo::Cursor(cursor) => {
                 self.ready = false;
                 self.cursor = cursor;
             }

@@ -1,6 +1,6 @@
 //! What a step of a node gives.
 
-use crate::report::{Beside, Report};
+use crate::report::{Report, Undo};
 use hk_base::{Letters, Replies};
 
 /// What a step gives to whoever makes it.
@@ -15,5 +15,5 @@ pub struct NodeOut {
     /// What the step did to its node.
     pub report: Report,
     /// What it replaced beside rows. With the report it undoes the step: [`crate::Node::undo`].
-    pub beside: Beside,
+    pub undo: Undo,
 }

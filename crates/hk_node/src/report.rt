@@ -5,13 +5,13 @@ use hk_key::Row;
 
 /// A key whose row changed, and the row that it had, if it had one.
 #[derive(Drop)]
-pub struct Former {
+pub struct PriorRow {
     pub key: Key,
     pub row: Option<Row>,
 }
 
 /// The keys whose rows changed, in their order.
-pub type FormerRows = Sequence<Former>;
+pub type PriorRows = Sequence<PriorRow>;
 
 /// What a step did to its node, for whoever watches it.
 #[derive(Drop)]
@@ -21,12 +21,12 @@ pub struct Report {
     /// Whether the step made the node ready.
     pub readied: bool,
     /// The keys whose rows changed, in their order, each with the row that it had, if it had one.
-    pub rows: FormerRows,
+    pub rows: PriorRows,
 }
 
-/// What an event may replace beside rows.
+/// What an event replaced beside rows, for whoever takes its step back.
 #[derive(Drop)]
-pub enum Beside {
+pub enum Undo {
     Nothing,
     /// The clock.
     Clock(u64),

@@ -11,7 +11,7 @@ ghost use Rattle.hk_node.specs.Index.{at_key, HasOpen};
 ghost use Rattle.hk_node.specs.Viewed.{IsFitRow, view_letters, view_told, view_new, view_old};
 
 use crate::letters::post_sent;
-use crate::report::{Former, FormerRows};
+use crate::report::{PriorRow, PriorRows};
 use hk_base::{Key, Letters, Memory, NodeId, Replies, View};
 use hk_key::Row;
 use std::alloc::Global;
@@ -23,9 +23,9 @@ pub(crate) struct Viewed {
     pub letters: Letters,
     pub replies: Replies,
     /// The rows that are new.
-    pub fresh: FormerRows,
+    pub fresh: PriorRows,
     /// Those in whose places they go.
-    pub former: FormerRows,
+    pub prior: PriorRows,
 }
 
 // Notes a row that is new, where it is.
@@ -39,19 +39,19 @@ fn note_row(
     ensures letters { viewed.new.letters ≡ viewed.old.letters }
     ensures replies { viewed.new.replies ≡ viewed.old.replies }
     ensures fresh { OnOk result (viewed.new.fresh ≡ viewed.old.fresh ++ (if is_same_row before.now after then [] else record { key = key.now; row = Some after } ∷ [])) }
-    ensures former { OnOk result (viewed.new.former ≡ viewed.old.former ++ (if is_same_row before.now after then [] else record { key = key.now; row = Some before.now } ∷ [])) }
+    ensures prior { OnOk result (viewed.new.prior ≡ viewed.old.prior ++ (if is_same_row before.now after then [] else record { key = key.now; row = Some before.now } ∷ [])) }
 {
     if before.is_same(&after) {
         return Ok(());
     }
     let name = key.share()?;
-    viewed.fresh.push(Former {
+    viewed.fresh.push(PriorRow {
         key: name,
         row: Some(after),
     })?;
     let name = key.share()?;
     let row = before.copy(alloc)?;
-    viewed.former.push(Former {
+    viewed.prior.push(PriorRow {
         key: name,
         row: Some(row),
     })
@@ -70,7 +70,7 @@ fn view_row(
     ensures letters { OnOk result (viewed.new.letters ≡ viewed.old.letters ++ view_letters id view.now (key.now, row.now)) }
     ensures replies { OnOk result (viewed.new.replies ≡ viewed.old.replies ++ map (λ t. t.1) (view_told id view.now (key.now, row.now))) }
     ensures fresh { OnOk result (viewed.new.fresh ≡ viewed.old.fresh ++ view_new id view.now (key.now, row.now)) }
-    ensures former { OnOk result (viewed.new.former ≡ viewed.old.former ++ view_old id view.now (key.now, row.now)) }
+    ensures prior { OnOk result (viewed.new.prior ≡ viewed.old.prior ++ view_old id view.now (key.now, row.now)) }
 {
     if row.pending.is_none() {
         return Ok(());
@@ -97,7 +97,7 @@ fn view_at(
     ensures letters { OnOk result (viewed.new.letters ≡ viewed.old.letters ++ at_key (view_letters id view.now) rows.now.entries key.now) }
     ensures replies { OnOk result (viewed.new.replies ≡ viewed.old.replies ++ map (λ t. t.1) (at_key (view_told id view.now) rows.now.entries key.now)) }
     ensures fresh { OnOk result (viewed.new.fresh ≡ viewed.old.fresh ++ at_key (view_new id view.now) rows.now.entries key.now) }
-    ensures former { OnOk result (viewed.new.former ≡ viewed.old.former ++ at_key (view_old id view.now) rows.now.entries key.now) }
+    ensures prior { OnOk result (viewed.new.prior ≡ viewed.old.prior ++ at_key (view_old id view.now) rows.now.entries key.now) }
 {
     match rows.get(key) {
         Some(row) => view_row(viewed, alloc, id, view, key, row),
@@ -118,13 +118,13 @@ fn view_keys(
     ensures letters { IfOk result (λ viewed. viewed.letters ≡ flat_map (at_key (view_letters id view.now) rows.now.entries) keys.now.keys) }
     ensures replies { IfOk result (λ viewed. viewed.replies ≡ map (λ t. t.1) (flat_map (at_key (view_told id view.now) rows.now.entries) keys.now.keys)) }
     ensures fresh { IfOk result (λ viewed. viewed.fresh ≡ flat_map (at_key (view_new id view.now) rows.now.entries) keys.now.keys) }
-    ensures former { IfOk result (λ viewed. viewed.former ≡ flat_map (at_key (view_old id view.now) rows.now.entries) keys.now.keys) }
+    ensures prior { IfOk result (λ viewed. viewed.prior ≡ flat_map (at_key (view_old id view.now) rows.now.entries) keys.now.keys) }
 {
     let mut viewed = Viewed {
         letters: Letters::new(alloc),
         replies: Replies::new(alloc),
-        fresh: FormerRows::new(alloc),
-        former: FormerRows::new(alloc),
+        fresh: PriorRows::new(alloc),
+        prior: PriorRows::new(alloc),
     };
     for key in keys.iter() {
         view_at(&mut viewed, alloc, id, view, rows, key)?;
@@ -147,7 +147,7 @@ pub(crate) fn view_rows(
     ensures letters { IfOk result (λ viewed. viewed.letters ≡ flat_map (view_letters id view.now) rows.now.entries) }
     ensures replies { IfOk result (λ viewed. viewed.replies ≡ map (λ t. t.1) (flat_map (view_told id view.now) rows.now.entries)) }
     ensures fresh { IfOk result (λ viewed. viewed.fresh ≡ flat_map (view_new id view.now) rows.now.entries) }
-    ensures former { IfOk result (λ viewed. viewed.former ≡ flat_map (view_old id view.now) rows.now.entries) }
+    ensures prior { IfOk result (λ viewed. viewed.prior ≡ flat_map (view_old id view.now) rows.now.entries) }
 {
     view_keys(rows, keys, alloc, id, view)
 }

@@ -11,11 +11,11 @@ use Rattle.hk_world.specs.declared.event.Header.{Header}
 use Rattle.hk_world.specs.Start.{counted}
 use Rattle.hk_world.specs.Steps.{Accepted, world_step}
 use Rattle.hk_world.specs.Sound.{IsHeader, IsEvent}
-use Rattle.hk_effects.specs.View.{Trace, view, traced}
+use Rattle.hk_effects.specs.Projection.{Trace, project, traced}
 use Rattle.hk_effects.specs.Runs.{start_trace, Follows, IsKept, RunsKeepParts}
 use Rattle.hk_effects.proofs.Events.{event_is_effects}
 use Rattle.hk_effects.proofs.Frames.{itself}
-use Rattle.hk_effects.proofs.Owed.{all_owed}
+use Rattle.hk_effects.proofs.Obligations.{all_owed}
 use Rattle.hk_parts.specs.Facts.{members_at, IsSettled}
 use Rattle.hk_parts.proofs.Moments.{always, marks_kept}
 use Rattle.hk_parts.proofs.Acks.{AcksTold, effects_acks}
@@ -33,14 +33,14 @@ some_counted zero one = absurd (omega arith)
 some_counted (suc k) one = inl refl
 
 module _ (runs : RunsKeepParts) (key : List ℕ) (h : Header) (header : IsHeader h) where
-  acks_kept : (past : List Event) (t : Trace) (event : Event) (a : Accepted) → Follows key (start_trace h) past t → world_step t.world event ≡ Ok a → IsEvent event → AcksTold (view key t) → AcksTold (view key (traced key t event a))
+  acks_kept : (past : List Event) (t : Trace) (event : Event) (a : Accepted) → Follows key (start_trace h) past t → world_step t.world event ≡ Ok a → IsEvent event → AcksTold (project key t) → AcksTold (project key (traced key t event a))
   acks_kept past t event a f e event_ok told =
       let ok : IsKept key t = runs h header key past t f in
-      effects_acks (members_at t) (view key t) (view key (traced key t event a)) (parts_at key t ok)
+      effects_acks (members_at t) (project key t) (project key (traced key t event a)) (parts_at key t ok)
       (event_is_effects all_owed (members_at t) key t event a e event_ok ok.own (agreed key t ok) ok.trace (parts_at key t ok)) told
 
-  pub acks_told : (events : List Event) (last : Trace) → Follows key (start_trace h) events last → AcksTold (view key last)
-  acks_told events last f = always key h (λ (past : List Event) (t : Trace). AcksTold (view key t)) acks_kept (λ m e s top none. absurd none) events last f
+  pub acks_told : (events : List Event) (last : Trace) → Follows key (start_trace h) events last → AcksTold (project key last)
+  acks_told events last f = always key h (λ (past : List Event) (t : Trace). AcksTold (project key t)) acks_kept (λ m e s top none. absurd none) events last f
 
   pub zero_settled : (events : List Event) (last : Trace) → Follows key (start_trace h) events last → IsSettled key last 0
   zero_settled events last f = (
@@ -60,8 +60,8 @@ module _ (runs : RunsKeepParts) (key : List ℕ) (h : Header) (header : IsHeader
       founders : (n : ℕ) → In (members_at last 1) n → In (member_numbers (counted 0 h.nodes)) n
       founders n inside = rw stays.first at inside
 
-      marked : (n : ℕ) → In (member_numbers (counted 0 h.nodes)) n → Marked (view key last) (row_mark n founder)
+      marked : (n : ℕ) → In (member_numbers (counted 0 h.nodes)) n → Marked (project key last) (row_mark n founder)
       marked n inside = (row_mark n founder, itself (row_mark n founder), marks_kept key events (start_trace h) last f (row_mark n founder) (founder_marked (counted 0 h.nodes) n inside))
 
-      exact : (n : ℕ) → In (member_numbers (counted 0 h.nodes)) n → Exact (view key last) n 1 0
+      exact : (n : ℕ) → In (member_numbers (counted 0 h.nodes)) n → Exact (project key last) n 1 0
       exact n inside = record { mark = row_mark n founder; marked = marked n inside; who = refl; epoch = refl; stamp = refl; exact = refl }

@@ -8,7 +8,7 @@ use Rattle.hk_register.specs.Machine.{In, Marked, Mark, Update, State}
 use Rattle.hk_register.specs.Machine.Letter.{Inv, Ack, Val, Give}
 use Rattle.hk_register.specs.Facts.{Exact}
 use Rattle.hk_register.specs.Effects.{Effect, Happens, done, row_mark}
-use Rattle.hk_register.specs.Effects.Effect.{Begin, TakeInv, AckInv, CounterInv, NoteAck, Settle, FinishValid, FinishInvalid, TakeVal, KeepVal, StartReplay, Resend, Install, InstallPending, GiveRow, CopyRow, PassRow, CopyValid, GetReady, Look, Refuse, Quiet}
+use Rattle.hk_register.specs.Effects.Effect.{Begin, TakeInv, AckInv, CounterInv, NoteAck, Settle, FinishValid, FinishInvalid, TakeVal, KeepVal, StartReplay, Resend, Install, InstallPending, GiveRow, CopyRow, PassRow, CopyValid, GetReady, Serve, Refuse, Quiet}
 use Rattle.hk_register.specs.Parts.{Parts}
 use Rattle.hk_register.proofs.Grow.{in_right}
 use Rattle.hk_register.proofs.Runs.{effect_kept}
@@ -103,7 +103,7 @@ module _ (V : ℕ → List ℕ) (old new : State) (parts : Parts V old) where
   new_ack (PassRow n from c kind content valid) h m e s top i = absurd i
   new_ack (CopyValid n from c kind content) h m e s top i = absurd i
   new_ack (GetReady n) h m e s top i = absurd i
-  new_ack (Look n call op answer) h m e s top i = absurd i
+  new_ack (Serve n call op answer) h m e s top i = absurd i
   new_ack (Refuse n call op answer) h m e s top i = absurd i
   new_ack (Quiet n) h m e s top i = absurd i
 

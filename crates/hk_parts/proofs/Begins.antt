@@ -21,7 +21,7 @@ use Rattle.hk_world.specs.declared.event.Header.{Header}
 use Rattle.hk_world.specs.World.{WorldState, node_of}
 use Rattle.hk_world.specs.Steps.{acting_of, Accepted, calls_at, world_step}
 use Rattle.hk_world.specs.Sound.{IsHeader, IsEvent}
-use Rattle.hk_effects.specs.View.{Trace, traced, traced_by, key_node, node_at, phase_of, is_same_key, told_at, pending_stamp, reply_item, look_item, call_items, items_of, updates_of}
+use Rattle.hk_effects.specs.Projection.{Trace, traced, traced_by, key_node, node_at, phase_of, is_same_key, told_at, pending_stamp, reply_item, read_only_item, call_items, items_of, updates_of}
 use Rattle.hk_effects.specs.Runs.{start_trace, Follows, RunsKeepParts}
 use Rattle.hk_effects.proofs.Accepting.{alive, live_step}
 use Rattle.hk_effects.proofs.Frames.{accepted}
@@ -87,7 +87,7 @@ module _ (key : List ℕ) (w : WorldState) (x : NodeState) where
 
     of_call : (i : NodeId) (k : List ℕ) (op : Op) (y : NodeState) → y ≡ (called x (record { 0 = w.calls + 1 }) k op).node → key ≡ k → (b : Bool) → eqb (key_node key (Some y)).stamp Was.stamp ≡ b →
         In (updates_of id Was (call_items b n op Was (key_node key (Some y)) rs)) u → Begins (Call i k op) y
-    of_call i k op y now same true e h = not_in (Call i k op) y (updates_of id Was (map (look_item n op Was) rs)) (looks_begin_none id Was n op Was rs) h
+    of_call i k op y now same true e h = not_in (Call i k op) y (updates_of id Was (map (read_only_item n op Was) rs)) (looks_begin_none id Was n op Was rs) h
     of_call i k op y now same false e h =
         ⊎_elim
         (λ (is : (row_at k x.rows).state ≡ R.Valid).

@@ -24,7 +24,7 @@ use Rattle.hk_world.specs.declared.event.Event.TheVariants.{Call, Take, Tick, Ti
 use Rattle.hk_world.specs.World.{WorldState, Processes, process_at, put_process, node_of, numbered, last_view}
 use Rattle.hk_world.specs.declared.process.Process.{Process}
 use Rattle.hk_world.specs.declared.process.ManagerProcess.{ManagerProcess}
-use Rattle.hk_effects.specs.View.{key_node, node_at}
+use Rattle.hk_effects.specs.Projection.{key_node, node_at}
 use Rattle.hk_world.specs.Steps.{acting_of, Accepted, acts, aside, nothing, live, live_manager, manager_acts, with_manager_step, manager_shown, calls_at, ticks_at, manager_ticks_at, process_ticked, crashes_at, manager_crashes_at, joining, agreed_on, agrees, installs_at, leases_at, world_step}
 use Rattle.hk_effects.proofs.Accepting.{alive, makes, with_processes, with_managers, live_manager_step, makes_manager_step, unmanaged_step, live_step, any_actor_step, any_takes_step, ticks_step, any_tick_step, manager_ticks_step, manager_crashes_step, crashes_step, any_starts_step, changes_step, installs_step, leases_step}
 use Rattle.hk_effects.proofs.Frames.{accepted}

@@ -32,7 +32,7 @@ use Rattle.hk_node.specs.Steps.{on_found, installed_in, received, is_addressed, 
 use Rattle.hk_world.specs.declared.event.Event.{Event}
 use Rattle.hk_world.specs.declared.event.Event.TheVariants.{Call, Take, Tick, TickAll, Crash, Resend, Replay, Copy, Start, Agree, Install, Lease, AskLease, Propose, Activate as ActivateEvent}
 use Rattle.hk_world.specs.World.{WorldState, numbered}
-use Rattle.hk_effects.specs.View.{is_behind, has_copied, item_at, first_item, covers}
+use Rattle.hk_effects.specs.Projection.{is_behind, has_copied, item_at, first_item, covers}
 use Rattle.hk_effects.specs.Own.{IsTold}
 use Rattle.hk_node.proofs.Order.{AreTouched}
 use Rattle.hk_effects.proofs.Batches.{merged_at}

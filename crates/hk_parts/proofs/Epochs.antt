@@ -14,13 +14,13 @@ use Rattle.hk_node.specs.Rows.{row_at}
 use Rattle.hk_node.specs.Sound.{IsViewOf}
 use Rattle.hk_world.specs.Steps.{acting_of}
 use Rattle.hk_world.specs.World.{WorldState}
-use Rattle.hk_effects.specs.View.{Trace, view, traced, node_at, key_node}
+use Rattle.hk_effects.specs.Projection.{Trace, project, traced, node_at, key_node}
 use Rattle.hk_effects.specs.Own.{Ended, Agrees}
 use Rattle.hk_world.specs.Sound.{IsHeader}
 use Rattle.hk_effects.specs.Runs.{IsKept, RunsKeepParts}
 use Rattle.hk_effects.proofs.Processes.{in_members, member_of}
 use Rattle.hk_effects.proofs.Rests.{node_holds, in_some}
-use Rattle.hk_effects.proofs.Two.{append_three}
+use Rattle.hk_effects.proofs.TwoEffects.{append_three}
 use Rattle.hk_effects.proofs.Worlds.{all_in}
 use Rattle.hk_parts.specs.Moments.{Run, Ends, Moment}
 use Rattle.hk_parts.specs.Facts.{members_at}
@@ -29,7 +29,7 @@ use Rattle.hk_parts.proofs.Moments.{later_of, moment_marks_kept, world_is}
 use Rattle.hk_parts.proofs.Givers.{AllBelow, rows_rest}
 use Rattle.hk_parts.proofs.Resting.{Below}
 use Rattle.hk_parts.proofs.Origins.{agreed, parts_at, risen}
-use Rattle.hk_parts.proofs.Says.{BodyTells}
+use Rattle.hk_parts.proofs.LettersTell.{BodyTells}
 use Rattle.hk_parts.proofs.Sending.{Told, letters_told}
 use Rattle.hk_parts.proofs.Updates.{kept_here, kept_then}
 use Rattle.hk_parts.proofs.Views.{views_stay}
@@ -80,7 +80,7 @@ module _ (runs : RunsKeepParts) (key : List ℕ) (run : Run) (header : IsHeader 
 
     sender : SentInEpoch key run t l
     sender =
-        let node_is : ((view key (traced key o.sent.at.was o.sent.at.event o.sent.at.accepted)).node o.sent.id.0).epoch ≡ epoch_of o.sent.node = ap (λ (z : Option NodeState). (key_node key z).epoch) there in
+        let node_is : ((project key (traced key o.sent.at.was o.sent.at.event o.sent.at.accepted)).node o.sent.id.0).epoch ≡ epoch_of o.sent.node = ap (λ (z : Option NodeState). (key_node key z).epoch) there in
         let member = ((kept_after.parts (members_at t) agreed_after).nodes o.sent.id.0).member (rw node_is in_epoch) in
         record { sent = o.sent; member = subst (λ (e : ℕ). In (members_at t e) o.sent.id.0) (node_is ∙ sym o.sent.epoch) member }
 
@@ -89,7 +89,7 @@ module _ (runs : RunsKeepParts) (key : List ℕ) (run : Run) (header : IsHeader 
       let tells : BodyTells o.sent.node (CopyGive after done items) = subst (λ (b : Body). BodyTells o.sent.node b) is o.says.tells in
       record { sent = o.sent; ready = tells.0; row = λ i h. all_in (λ (i : CopyItem). i ≡ copy_of (i.key, row_at i.key o.sent.node.rows)) items i tells.1 h }
 
-  guard : (p : Trace) → Moment key run p → (n : ℕ) → 1 ≤ ((view key p).node n).epoch → Ended t.world ((view key p).node n).epoch
+  guard : (p : Trace) → Moment key run p → (n : ℕ) → 1 ≤ ((project key p).node n).epoch → Ended t.world ((project key p).node n).epoch
   guard p m n some =
       let before = kept_then runs key run header t ends p m in
       let k = ((parts_at key p before).nodes n).marked some in
@@ -118,8 +118,8 @@ module _ (runs : RunsKeepParts) (key : List ℕ) (run : Run) (header : IsHeader 
         own_view = has_view;
         epochs_rise = λ p m n. (risen key t ok p (kept_then runs key run header t ends p m) (moment_marks_kept key run p t m ends) n).1;
         senders = λ l h of. sender l (told l h of);
-        ready_not_below = λ n ready e one below. not_below e n ((view key t).node n).stamp (rests.node n ((parts.nodes n).copied ready) e one below);
-        copied_not_below = λ n copied e one below. not_below e n ((view key t).node n).stamp (rests.node n copied e one below);
+        ready_not_below = λ n ready e one below. not_below e n ((project key t).node n).stamp (rests.node n ((parts.nodes n).copied ready) e one below);
+        copied_not_below = λ n copied e one below. not_below e n ((project key t).node n).stamp (rests.node n copied e one below);
         given_not_below = λ m f s kind content valid h e one below. not_below e m s (rests.letter m f s kind content valid h e one below);
         batches_tell = λ l after done items h is. batch l after done items is (told l h (subst IsOfReplicas (sym is) tt));
         guarded = guard;

@@ -10,7 +10,7 @@ use Rattle.hk_base.specs.Stamp.{tag_of}
 use Rattle.hk_register.specs.Machine.{In, Letter}
 use Rattle.hk_register.specs.Machine.Letter.{Inv, Ack, Val, Give}
 use Rattle.hk_register.proofs.Grow.{in_either}
-use Rattle.hk_effects.specs.View.{number_of, letter_of, letters_of, item_at, covers, is_same_key}
+use Rattle.hk_effects.specs.Projection.{number_of, letter_of, letters_of, item_at, covers, is_same_key}
 
 -- the letter of a copied row is a batch's
 pub record Given (key : List ℕ) (l : Wire) (b : Body) (m f s : ℕ) : Type 0 where

@@ -20,7 +20,7 @@ use Rattle.hk_world.specs.declared.event.Header.{Header}
 use Rattle.hk_world.specs.Steps.{acting_of, Accepted, world_step}
 use Rattle.hk_world.specs.Sound.{IsHeader, IsEvent}
 use Rattle.hk_world.specs.World.{WorldState, last_view, node_of}
-use Rattle.hk_effects.specs.View.{Trace, view, traced, key_node, node_at, has_copied, number_of, letters_of, item_at}
+use Rattle.hk_effects.specs.Projection.{Trace, project, traced, key_node, node_at, has_copied, number_of, letters_of, item_at}
 use Rattle.hk_effects.specs.Own.{IsChain, Agrees}
 use Rattle.hk_effects.specs.Runs.{start_trace, Follows, IsKept, RunsKeepParts}
 use Rattle.hk_effects.proofs.Accepting.{alive}
@@ -33,7 +33,7 @@ use Rattle.hk_parts.proofs.Cases.{Stepping, Beside, event_case}
 use Rattle.hk_parts.proofs.Given.{given_of, wire_of}
 use Rattle.hk_parts.proofs.Copied.{Took, step_copies}
 use Rattle.hk_parts.proofs.Resting.{Below, rises, below_later}
-use Rattle.hk_parts.proofs.Says.{BodyTells, Says}
+use Rattle.hk_parts.proofs.LettersTell.{BodyTells, Says}
 use Rattle.hk_parts.proofs.Steps.{step_said, of_replicas}
 use Rattle.hk_parts.proofs.Views.{views_stay}
 
@@ -45,8 +45,8 @@ in_cases n (x ∷ xs) = ⊎_elim
 
 -- of a key so far
 pub record AllBelow (key : List ℕ) (run : Run) (V : ℕ → List ℕ) (t : Trace) : Type 0 where
-  pub node : (n : ℕ) → ((view key t).node n).copied ≡ true → (e : ℕ) → 1 ≤ e → e < ((view key t).node n).epoch → Below key run V t e n ((view key t).node n).stamp
-  pub letter : (m f s : ℕ) (kind : Kind) (content : Option Content) (valid : Bool) → In (view key t).letters (Give m f s kind content valid) → (e : ℕ) → 1 ≤ e → e < f → Below key run V t e m s
+  pub node : (n : ℕ) → ((project key t).node n).copied ≡ true → (e : ℕ) → 1 ≤ e → e < ((project key t).node n).epoch → Below key run V t e n ((project key t).node n).stamp
+  pub letter : (m f s : ℕ) (kind : Kind) (content : Option Content) (valid : Bool) → In (project key t).letters (Give m f s kind content valid) → (e : ℕ) → 1 ≤ e → e < f → Below key run V t e m s
 
 -- a member of an earlier view and of a later one is one of each between
 between : (w : WorldState) (V : ℕ → List ℕ) → IsChain w.views → Agrees w V → (p e q n : ℕ) → 1 ≤ p → p ≤ e → e ≤ q → q ≤ (last_view w.views).epoch → In (V p) n → In (V q) n → In (V e) n
@@ -73,17 +73,17 @@ module _ (runs : RunsKeepParts) (key : List ℕ) (h : Header) (header : IsHeader
     agreed_before : Agrees t.world V
     agreed_before v i = agrees v (views_stay key (event ∷ []) t (traced key t event a) (a, e, event_ok, refl) v i)
 
-    parts : Parts V (view key t)
+    parts : Parts V (project key t)
     parts = before.parts V agreed_before
 
-    parts_now : Parts V (view key (traced key t event a))
+    parts_now : Parts V (project key (traced key t event a))
     parts_now = now.parts V agrees
 
     abbrev Was : ℕ → Node
-    Was n = (view key t).node n
+    Was n = (project key t).node n
 
     abbrev Now : ℕ → Node
-    Now n = (view key (traced key t event a)).node n
+    Now n = (project key (traced key t event a)).node n
 
     abbrev Rested : ℕ → ℕ → ℕ → Type 0
     Rested i n s = Below key Longer V (traced key t event a) i n s
@@ -209,7 +209,7 @@ module _ (runs : RunsKeepParts) (key : List ℕ) (h : Header) (header : IsHeader
         let who : m ≡ c.id.0 = o.who ∙ (ap number_of says.from ∙ ap (λ (k : NodeId). k.0) id) in
         rw (who, ← stamp) (node_rests c.id.0 copied i one (rw epoch below))
 
-    letter_rests : (m g s : ℕ) (kind : Kind) (content : Option Content) (valid : Bool) → In (view key (traced key t event a)).letters (Give m g s kind content valid) → (i : ℕ) → 1 ≤ i → i < g → Rested i m s
+    letter_rests : (m g s : ℕ) (kind : Kind) (content : Option Content) (valid : Bool) → In (project key (traced key t event a)).letters (Give m g s kind content valid) → (i : ℕ) → 1 ≤ i → i < g → Rested i m s
     letter_rests m g s kind content valid there i one below = by_case (event_case t.world event a e) (subst (λ (w : WorldState). In (letters_of key w.letters) (Give m g s kind content valid)) (world_is key t event a (acting_of a)) there)
       where
         old : In (letters_of key t.world.letters) (Give m g s kind content valid) → Rested i m s
@@ -235,10 +235,10 @@ module _ (runs : RunsKeepParts) (key : List ℕ) (h : Header) (header : IsHeader
       kept : IsKept key (start_trace h)
       kept = runs h header key [] (start_trace h) refl
 
-      none : (n e : ℕ) → 1 ≤ e → e < ((view key (start_trace h)).node n).epoch → ⊥
+      none : (n e : ℕ) → 1 ≤ e → e < ((project key (start_trace h)).node n).epoch → ⊥
       none n e one below =
           let j = ((kept.parts V agrees).nodes n).marked (omega arith) in
-          let top : ((view key (start_trace h)).node n).epoch ≤ 1 = rw (sym j.1.epoch) at (kept.trace.guarded j.0 j.2).upto in
+          let top : ((project key (start_trace h)).node n).epoch ≤ 1 = rw (sym j.1.epoch) at (kept.trace.guarded j.0 j.2).upto in
           omega arith
 
   pub rows_rest : (events : List Event) (last : Trace) → Follows key (start_trace h) events last → Agrees last.world V → AllBelow key (record { header = h; events = events }) V last

@@ -2,7 +2,7 @@ pub mod Moments
 pub mod Origins
 pub mod Acks
 pub mod Cases
-pub mod Says
+pub mod LettersTell
 pub mod Steps
 pub mod Sending
 pub mod Views

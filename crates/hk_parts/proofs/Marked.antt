@@ -15,7 +15,7 @@ use Rattle.hk_world.specs.declared.event.Header.{Header}
 use Rattle.hk_world.specs.Start.{counted}
 use Rattle.hk_world.specs.Steps.{acting_of, Accepted, world_step}
 use Rattle.hk_world.specs.World.{WorldState}
-use Rattle.hk_effects.specs.View.{Trace, view, traced, traced_by, key_node, node_at, letters_of, step_marks}
+use Rattle.hk_effects.specs.Projection.{Trace, project, traced, traced_by, key_node, node_at, letters_of, step_marks}
 use Rattle.hk_world.specs.Sound.{IsHeader}
 use Rattle.hk_effects.specs.Runs.{start_trace, Follows, IsKept, RunsKeepParts}
 use Rattle.hk_effects.proofs.Frames.{itself}
@@ -43,7 +43,7 @@ module _ (runs : RunsKeepParts) (key : List ℕ) (h : Header) (header : IsHeader
   kept = runs h header key [] (start_trace h) refl
 
   -- a founder's row
-  bare_row : (n : ℕ) → ((view key (start_trace h)).node n).stamp ≡ 0
+  bare_row : (n : ℕ) → ((project key (start_trace h)).node n).stamp ≡ 0
   bare_row n = by_node (node_at n (start_trace h).world.processes) refl
     where
       by_node : (o : Option NodeState) → node_at n (start_trace h).world.processes ≡ o → (key_node key o).stamp ≡ 0
@@ -54,9 +54,9 @@ module _ (runs : RunsKeepParts) (key : List ℕ) (h : Header) (header : IsHeader
   begins k i =
       let f = from_founders (counted 0 h.nodes) k i in
       let m = (parts_at key (start_trace h) kept).marks k (k, itself k, i) in
-      let low : 1 ≤ ((view key (start_trace h)).node f.0).epoch = rw f.1 at m.epoch in
+      let low : 1 ≤ ((project key (start_trace h)).node f.0).epoch = rw f.1 at m.epoch in
       let j = ((parts_at key (start_trace h) kept).nodes f.0).marked low in
-      let top : ((view key (start_trace h)).node f.0).epoch ≤ 1 = rw (sym j.1.epoch) at (kept.trace.guarded j.0 j.2).upto in
+      let top : ((project key (start_trace h)).node f.0).epoch ≤ 1 = rw (sym j.1.epoch) at (kept.trace.guarded j.0 j.2).upto in
       let o : RowWas key (record { header = h; events = [] }) f.0 1 0 = record {
         when = start_trace h;
         moment = record { past = []; later = []; split = refl; follows = refl };
@@ -73,13 +73,13 @@ module _ (runs : RunsKeepParts) (run : Run) (header : IsHeader run.header) (key 
   meant : (k : Mark) → In last.marks k → MarkWas key run k
   meant k i = all_meant runs key run.header header run.events last ends k i
 
-  marked_now : (p : Trace) → Moment key run p → (k : Mark) → Marked (view key p) k → Marked (view key last) k
+  marked_now : (p : Trace) → Moment key run p → (k : Mark) → Marked (project key p) k → Marked (project key last) k
   marked_now p m k there = (there.0, there.1, moment_marks_kept key run p last m ends there.0 there.2)
 
   row_exact : RowWas key run n e s → WasExact key last n e s
   row_exact o =
       let before = kept_then runs key run header last ends o.when o.moment in
-      let x = (view key o.when).node n in
+      let x = (project key o.when).node n in
       record { mark = row_mark n x; marked = marked_now o.when o.moment (row_mark n x) (((parts_at key o.when before).nodes n).marked (rw o.epoch o.some)); who = refl; epoch = o.epoch; stamp = o.stamp; exact = refl }
 
   exact_row : WasExact key last n e s → RowWas key run n e s
@@ -106,7 +106,7 @@ module _ (runs : RunsKeepParts) (run : Run) (header : IsHeader run.header) (key 
       let epoch : z.epoch ≡ e = sym (ap (λ (w : WorldState). (key_node key (node_at n w.processes)).epoch) (world_is key at.was at.event at.accepted (acting_of at.accepted))) ∙ o.epoch in
       let k = cover_mark n z o.pending.stamp in
       let made : In (traced_by key at.was at.event at.accepted (Some (record { 0 = n }))).marks k =
-      in_left (step_marks n ((view key at.was).node n) z (letters_of key at.accepted.shown.letters)) at.was.marks k (install_mark n ((view key at.was).node n) z (letters_of key at.accepted.shown.letters) o.pending o.has (rw epoch o.before)) in
+      in_left (step_marks n ((project key at.was).node n) z (letters_of key at.accepted.shown.letters)) at.was.marks k (install_mark n ((project key at.was).node n) z (letters_of key at.accepted.shown.letters) o.pending o.has (rw epoch o.before)) in
       let there : In (traced key at.was at.event at.accepted).marks k = subst (λ (i : Option NodeId). In (traced_by key at.was at.event at.accepted i).marks k) (sym o.acts) made in
       record { mark = k; marked = (k, itself k, marks_kept key at.later (traced key at.was at.event at.accepted) last rest k there); who = refl; epoch = epoch; stamp = o.stamp }
 
@@ -114,7 +114,7 @@ module _ (runs : RunsKeepParts) (run : Run) (header : IsHeader run.header) (key 
   was_covered (inl o) = let c = row_exact o in record { mark = c.mark; marked = c.marked; who = c.who; epoch = c.epoch; stamp = c.stamp }
   was_covered (inr (inl o)) =
       let before = kept_then runs key run header last ends o.when o.moment in
-      let c = (pending_of (members_at o.when) (view key o.when) n ((view key o.when).node n) ((view key o.when).node n).phase o.pending o.has ((parts_at key o.when before).nodes n).phase).covers in
+      let c = (pending_of (members_at o.when) (project key o.when) n ((project key o.when).node n) ((project key o.when).node n).phase o.pending o.has ((parts_at key o.when before).nodes n).phase).covers in
       record { mark = c.mark; marked = marked_now o.when o.moment c.mark c.marked; who = c.who; epoch = c.epoch ∙ o.epoch; stamp = c.stamp ∙ o.stamp }
   was_covered (inr (inr (inl o))) = installed o
   was_covered (inr (inr (inr o))) =

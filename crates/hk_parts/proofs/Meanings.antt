@@ -14,20 +14,20 @@ use Rattle.hk_world.specs.declared.event.Header.{Header}
 use Rattle.hk_world.specs.Steps.{acting_of, Accepted, world_step}
 use Rattle.hk_world.specs.Sound.{IsHeader, IsEvent}
 use Rattle.hk_world.specs.World.{WorldState, node_of}
-use Rattle.hk_effects.specs.View.{Trace, view, traced, traced_by, key_node, node_at, number_of, letter_of, letters_of, step_marks, item_at, covers, is_same_key}
+use Rattle.hk_effects.specs.Projection.{Trace, project, traced, traced_by, key_node, node_at, number_of, letter_of, letters_of, step_marks, item_at, covers, is_same_key}
 use Rattle.hk_effects.specs.Runs.{start_trace, Follows, IsKept, RunsKeepParts}
 use Rattle.hk_effects.proofs.Accepting.{alive}
 use Rattle.hk_effects.proofs.Processes.{numbered_node, node-put_same}
 use Rattle.hk_effects.proofs.Rests.{letters_append, node_holds}
 use Rattle.hk_node.specs.Node.{NodeState}
-use Rattle.hk_effects.proofs.Two.{append_three}
+use Rattle.hk_effects.proofs.TwoEffects.{append_three}
 use Rattle.hk_effects.proofs.Worlds.{the_some}
 use Rattle.hk_parts.specs.Meaning.{RowWas, CoverWas}
 use Rattle.hk_parts.specs.Moments.{Run, Moment}
 use Rattle.hk_parts.proofs.Moments.{follows_then, world_is}
 use Rattle.hk_parts.proofs.Cases.{Stepping, Beside, event_case}
 use Rattle.hk_parts.proofs.Given.{wire_of}
-use Rattle.hk_parts.proofs.Says.{Says}
+use Rattle.hk_parts.proofs.LettersTell.{Says}
 use Rattle.hk_parts.proofs.Sending.{event_later}
 use Rattle.hk_parts.proofs.Sources.{Source, source_of}
 use Rattle.hk_parts.proofs.Steps.{step_said, of_replicas}
@@ -104,15 +104,15 @@ module _ (runs : RunsKeepParts) (key : List ℕ) (h : Header) (header : IsHeader
     moment : Moment key Longer (traced key t event a)
     moment = record { past = past ++ event ∷ []; later = []; split = sym (append-nil (past ++ event ∷ [])); follows = now_follows }
 
-    now_is : (n : ℕ) → (view key (traced key t event a)).node n ≡ key_node key (node_at n a.world.processes)
+    now_is : (n : ℕ) → (project key (traced key t event a)).node n ≡ key_node key (node_at n a.world.processes)
     now_is n = ap (λ (w : WorldState). key_node key (node_at n w.processes)) (world_is key t event a (acting_of a))
 
     -- an ACK of the step is the acting node's, in its epoch
     acked : (id : NodeId) → acting_of a ≡ Some id → (from c s top : ℕ) → In (letters_of key a.shown.letters) (Ack from c s top) →
-        In (view key (traced key t event a)).letters (Ack id.0 (key_node key (node_at id.0 a.world.processes)).epoch s top)
+        In (project key (traced key t event a)).letters (Ack id.0 (key_node key (node_at id.0 a.world.processes)).epoch s top)
     acked id acts from c s top there = by_case (event_case t.world event a e)
       where
-        by_case : Stepping t.world event a ⊎ Beside t.world a → In (view key (traced key t event a)).letters (Ack id.0 (key_node key (node_at id.0 a.world.processes)).epoch s top)
+        by_case : Stepping t.world event a ⊎ Beside t.world a → In (project key (traced key t event a)).letters (Ack id.0 (key_node key (node_at id.0 a.world.processes)).epoch s top)
         by_case (inl k) =
             let same : k.id ≡ id = the_some k.id id (sym (ap acting_of k.is) ∙ acts) in
             let mine : In (letters_of key k.s.letters) (Ack from c s top) = subst (λ (b : Accepted). In (letters_of key b.shown.letters) (Ack from c s top)) k.is there in
@@ -128,8 +128,8 @@ module _ (runs : RunsKeepParts) (key : List ℕ) (h : Header) (header : IsHeader
             let epoch : c ≡ (key_node key (node_at id.0 a.world.processes)).epoch = o.1 ∙ (says.epoch ∙ (sym (ap (λ (z : Option NodeState). (key_node key z).epoch) at) ∙ ap (λ (i : NodeId). (key_node key (node_at i.0 a.world.processes)).epoch) same)) in
             let all : In (letters_of key (t.world.letters ++ k.s.letters)) (Ack from c s top) = rw (letters_append key t.world.letters k.s.letters) (in_right (letters_of key t.world.letters) (letters_of key k.s.letters) (Ack from c s top) mine) in
             let sent : In (letters_of key a.world.letters) (Ack from c s top) = subst (λ (b : Accepted). In (letters_of key b.world.letters) (Ack from c s top)) (sym k.is) all in
-            let sent' : In (view key (traced key t event a)).letters (Ack from c s top) = subst (λ (w : WorldState). In (letters_of key w.letters) (Ack from c s top)) (sym (world_is key t event a (acting_of a))) sent in
-            subst (λ (i : ℕ). In (view key (traced key t event a)).letters (Ack i (key_node key (node_at id.0 a.world.processes)).epoch s top)) who (subst (λ (i : ℕ). In (view key (traced key t event a)).letters (Ack from i s top)) epoch sent')
+            let sent' : In (project key (traced key t event a)).letters (Ack from c s top) = subst (λ (w : WorldState). In (letters_of key w.letters) (Ack from c s top)) (sym (world_is key t event a (acting_of a))) sent in
+            subst (λ (i : ℕ). In (project key (traced key t event a)).letters (Ack i (key_node key (node_at id.0 a.world.processes)).epoch s top)) who (subst (λ (i : ℕ). In (project key (traced key t event a)).letters (Ack from i s top)) epoch sent')
         by_case (inr b) = absurd (none_acts (sym b.acting ∙ acts))
           where
             none_acts : None ≡ Some id → ⊥

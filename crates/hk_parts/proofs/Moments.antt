@@ -7,9 +7,9 @@ use Rattle.hk_world.specs.declared.event.Event.{Event}
 use Rattle.hk_world.specs.declared.event.Header.{Header}
 use Rattle.hk_world.specs.Steps.{acting_of, Accepted, world_step}
 use Rattle.hk_world.specs.Sound.{IsEvent}
-use Rattle.hk_effects.specs.View.{Trace, view, traced, traced_by}
+use Rattle.hk_effects.specs.Projection.{Trace, project, traced, traced_by}
 use Rattle.hk_effects.specs.Runs.{start_trace, Follows}
-use Rattle.hk_effects.proofs.Two.{append_three}
+use Rattle.hk_effects.proofs.TwoEffects.{append_three}
 use Rattle.hk_effects.proofs.Worlds.{the_accepted}
 use Rattle.hk_parts.specs.Moments.{Run, Ends, Moment}
 
@@ -46,7 +46,7 @@ module _ (key : List ℕ) where
   marks_kept [] s t same k h = subst (λ (z : Trace). In z.marks k) same h
   marks_kept (x ∷ xs) s t f k h = marks_kept xs (traced key s x f.0) t f.3 k (mark_kept s x f.0 (acting_of f.0) k h)
 
-  pub still_marked : (s t : Trace) → ((k : Mark) → In s.marks k → In t.marks k) → (k : Mark) → Marked (view key s) k → Marked (view key t) k
+  pub still_marked : (s t : Trace) → ((k : Mark) → In s.marks k → In t.marks k) → (k : Mark) → Marked (project key s) k → Marked (project key t) k
   still_marked s t keeps k m = (m.0, m.1, keeps m.0 m.2)
 
   -- ---- moments of a run

@@ -34,7 +34,7 @@ use Rattle.hk_node.specs.Steps.{on_found, installed_in, installs, installs_by_ma
 use Rattle.hk_world.specs.declared.event.Event.{Event}
 use Rattle.hk_world.specs.declared.event.Event.TheVariants.{Call, Take, Tick, TickAll, Crash, Resend, Replay, Copy, Start, Agree, Install, Lease, AskLease, Propose, Activate as ActivateEvent}
 use Rattle.hk_world.specs.World.{WorldState}
-use Rattle.hk_effects.specs.View.{number_of, letters_of}
+use Rattle.hk_effects.specs.Projection.{number_of, letters_of}
 use Rattle.hk_effects.proofs.Order.{same_of}
 use Rattle.hk_effects.proofs.Rests.{letter_sent, found_row, numbered_in}
 use Rattle.hk_effects.proofs.Viewed.{row-viewed}

@@ -17,7 +17,7 @@ use Rattle.hk_register.specs.Parts.{Known, Holds, MarkBegun, Parts}
 use Rattle.hk_register.proofs.Orders.{above_base}
 use Rattle.hk_node.specs.Node.{NodeState, members_of}
 use Rattle.hk_node.specs.Rows.{row_at}
-use Rattle.hk_effects.specs.View.{Trace, view, node_at, note_of, pending_of, phase_of, key_node}
+use Rattle.hk_effects.specs.Projection.{Trace, project, node_at, note_of, pending_of, phase_of, key_node}
 use Rattle.hk_effects.specs.Own.{Agrees}
 use Rattle.hk_effects.specs.Runs.{IsKept}
 use Rattle.hk_effects.proofs.Legality.{own_agrees}
@@ -56,7 +56,7 @@ module _ (key : List ℕ) (t : Trace) (ok : IsKept key t) where
   pub agreed : Agrees t.world (members_at t)
   agreed = own_agrees t.world ok.own
 
-  pub parts_at : Parts (members_at t) (view key t)
+  pub parts_at : Parts (members_at t) (project key t)
   parts_at = ok.parts (members_at t) agreed
 
   abbrev pub begun_at : (u : Update) → In t.begun u → (s : ℕ) → u.stamp ≡ s → IsBegun key t s
@@ -66,34 +66,34 @@ module _ (key : List ℕ) (t : Trace) (ok : IsKept key t) where
     stamp = e;
     only = λ v k same. parts_at.once v u k h (same ∙ sym e);
     next = sym e ∙ (parts_at.updates u h).next;
-    above = subst (λ (x : ℕ). u.base < x) e (above_base (members_at t) (view key t) parts_at u h);
+    above = subst (λ (x : ℕ). u.base < x) e (above_base (members_at t) (project key t) parts_at u h);
     node = (parts_at.updates u h).node;
     base = (parts_at.updates u h).base;
   }
 
-  pub known_begun : (s : ℕ) (kind : Kind) (content : Option Content) → Known (view key t) s kind content → IsBegunAs key t s kind content
+  pub known_begun : (s : ℕ) (kind : Kind) (content : Option Content) → Known (project key t) s kind content → IsBegunAs key t s kind content
   known_begun s kind content k = record { one = begun_at k.update k.begun s k.stamp; same_kind = k.same_kind; same_content = k.same_content }
 
-  pub holds_begun : (s : ℕ) (kind : Kind) (content : Option Content) → Holds (view key t) s kind content → FromUpdateAs key t s kind content
+  pub holds_begun : (s : ℕ) (kind : Kind) (content : Option Content) → Holds (project key t) s kind content → FromUpdateAs key t s kind content
   holds_begun s kind content (inl e) = inl e.0
   holds_begun s kind content (inr k) = inr (known_begun s kind content k)
 
-  mark_begun : (k : Mark) → Marked (view key t) k → (s : ℕ) → k.stamp ≡ s → FromUpdate key t s
+  mark_begun : (k : Mark) → Marked (project key t) k → (s : ℕ) → k.stamp ≡ s → FromUpdate key t s
   mark_begun k h s e = ⊎_elim
       (λ (zero_is : k.stamp ≡ 0). inl (sym e ∙ zero_is))
-      (λ (b : MarkBegun (members_at t) (view key t) k). inr (begun_at b.update b.begun s (b.stamp ∙ e))) (parts_at.marks k h).begun
+      (λ (b : MarkBegun (members_at t) (project key t) k). inr (begun_at b.update b.begun s (b.stamp ∙ e))) (parts_at.marks k h).begun
 
   pub covers_begun : (n e s : ℕ) → HasCovered key t n e s → FromUpdate key t s
   covers_begun n e s c = mark_begun c.mark c.marked s c.stamp
 
-  pub exact_begun : (n e s : ℕ) → Exact (view key t) n e s → FromUpdate key t s
+  pub exact_begun : (n e s : ℕ) → Exact (project key t) n e s → FromUpdate key t s
   exact_begun n e s c = mark_begun c.mark c.marked s c.stamp
 
   pub settled_begun : (s : ℕ) → IsSettled key t s → FromUpdate key t s
   settled_begun s c = mark_begun c.1.one_ready.mark c.1.one_ready.marked s c.1.one_ready.stamp
 
   -- ---- rows
-  pub not_below : (n e s : ℕ) → HasCovered key t n e s → s ≤ ((view key t).node n).stamp
+  pub not_below : (n e s : ℕ) → HasCovered key t n e s → s ≤ ((project key t).node n).stamp
   not_below n e s c = let top = (parts_at.marks c.mark c.marked).top in rw (sym c.who, sym c.stamp) top
 
   pub row_shape : (n : ℕ) (x : NodeState) → node_at n t.world.processes ≡ Some x → HasShape (row_at key x.rows).state (row_at key x.rows).pending (row_at key x.rows).stamp
@@ -103,7 +103,7 @@ module _ (key : List ℕ) (t : Trace) (ok : IsKept key t) where
       shape_of row.state row.pending row.stamp s.holds s.waits
 
   -- of another node than this one
-  pub other_noted : (n : ℕ) (p : Pending) → Has ((view key t).node n).phase p → (k : Note) → In p.notes k → k.who ≢ n
+  pub other_noted : (n : ℕ) (p : Pending) → Has ((project key t).node n).phase p → (k : Note) → In p.notes k → k.who ≢ n
   other_noted n p has k h = by_node (node_at n t.world.processes) refl has
     where
       waiting : (x : NodeState) (o : Option Waits) → IfSome o (λ w. IsUpdate x.id (members_of x) w) → (w : Waits) → o ≡ Some w → IsUpdate x.id (members_of x) w
@@ -123,12 +123,12 @@ module _ (key : List ℕ) (t : Trace) (ok : IsKept key t) where
 
   -- ---- nothing falls
   pub risen : (p : Trace) → IsKept key p → ((k : Mark) → In p.marks k → In t.marks k) → (n : ℕ) →
-      (((view key p).node n).stamp ≤ ((view key t).node n).stamp) × (((view key p).node n).epoch ≤ ((view key t).node n).epoch)
+      (((project key p).node n).stamp ≤ ((project key t).node n).stamp) × (((project key p).node n).epoch ≤ ((project key t).node n).epoch)
   risen p before keeps n =
       let o = ((before.parts (members_at p) (own_agrees p.world before.own)).nodes n) in
       ⊎_elim
-      (λ (zero_is : ((view key p).node n).epoch ≡ 0). let r = (o.resting zero_is).0 in (omega arith, omega arith))
-      (λ (pos : 0 < ((view key p).node n).epoch).
+      (λ (zero_is : ((project key p).node n).epoch ≡ 0). let r = (o.resting zero_is).0 in (omega arith, omega arith))
+      (λ (pos : 0 < ((project key p).node n).epoch).
       let m = o.marked pos in
-      let k = parts_at.marks (row_mark n ((view key p).node n)) (m.0, m.1, keeps m.0 m.2) in
-      (k.top, k.epoch)) (eq-zero-or-pos ((view key p).node n).epoch)
+      let k = parts_at.marks (row_mark n ((project key p).node n)) (m.0, m.1, keeps m.0 m.2) in
+      (k.top, k.epoch)) (eq-zero-or-pos ((project key p).node n).epoch)

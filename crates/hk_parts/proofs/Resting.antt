@@ -9,7 +9,7 @@ use Rattle.hk_world.specs.declared.event.Event.{Event}
 use Rattle.hk_world.specs.declared.event.Header.{Header}
 use Rattle.hk_world.specs.Steps.{acting_of, Accepted}
 use Rattle.hk_world.specs.World.{WorldState}
-use Rattle.hk_effects.specs.View.{Trace, view, traced, traced_by, key_node, node_at, letters_of, pending_marks, moment_marks, install_marks, ack_marks, step_marks}
+use Rattle.hk_effects.specs.Projection.{Trace, project, traced, traced_by, key_node, node_at, letters_of, pending_marks, moment_marks, install_marks, ack_marks, step_marks}
 use Rattle.hk_effects.specs.Runs.{IsKept}
 use Rattle.hk_effects.proofs.Numbered.{step_epoch}
 use Rattle.hk_parts.specs.Moments.{Run}
@@ -53,7 +53,7 @@ step_who id was z ls k h =
 pub record Below (key : List ℕ) (run : Run) (V : ℕ → List ℕ) (t : Trace) (e n s : ℕ) : Type 0 where
   pub who : ℕ
   pub member : In (V e) who
-  pub later : e < ((view key t).node who).epoch
+  pub later : e < ((project key t).node who).epoch
   pub covered : (k : Mark) → In t.marks k → k.who ≡ who → k.epoch ≤ e → k.stamp ≤ s
   pub givers : List ℕ
   pub rests : RestsOn key run (V e) givers n who
@@ -85,11 +85,11 @@ rests_later key h past event members (g ∷ givers) n d r = (
 )
 
 module _ (key : List ℕ) (t : Trace) (event : Event) (a : Accepted) (before : IsKept key t) (now : IsKept key (traced key t event a)) where
-  pub rises : (n : ℕ) → (((view key t).node n).stamp ≤ ((view key (traced key t event a)).node n).stamp) × (((view key t).node n).epoch ≤ ((view key (traced key t event a)).node n).epoch)
+  pub rises : (n : ℕ) → (((project key t).node n).stamp ≤ ((project key (traced key t event a)).node n).stamp) × (((project key t).node n).epoch ≤ ((project key (traced key t event a)).node n).epoch)
   rises n = risen key (traced key t event a) now t before (λ k h. mark_kept key t event a (acting_of a) k h) n
 
   -- a node that has passed an epoch makes no new mark in it
-  old_mark : (acting : Option NodeId) → ((n : ℕ) → ((view key t).node n).epoch ≤ (key_node key (node_at n a.world.processes)).epoch) → (e : ℕ) (k : Mark) → In (traced_by key t event a acting).marks k → k.epoch ≤ e → e < ((view key t).node k.who).epoch → In t.marks k
+  old_mark : (acting : Option NodeId) → ((n : ℕ) → ((project key t).node n).epoch ≤ (key_node key (node_at n a.world.processes)).epoch) → (e : ℕ) (k : Mark) → In (traced_by key t event a acting).marks k → k.epoch ≤ e → e < ((project key t).node k.who).epoch → In t.marks k
   old_mark None up e k h low passed = h
   old_mark (Some id) up e k h low passed =
       let was = key_node key (node_at id.0 t.world.processes) in
@@ -98,13 +98,13 @@ module _ (key : List ℕ) (t : Trace) (event : Event) (a : Accepted) (before : I
       (λ (new : In (step_marks id.0 was z (letters_of key a.shown.letters)) k).
       let who = step_who id.0 was z (letters_of key a.shown.letters) k new in
       let epoch = step_epoch id.0 was z (letters_of key a.shown.letters) k new in
-      let passed' : e < ((view key t).node id.0).epoch = rw who at passed in
+      let passed' : e < ((project key t).node id.0).epoch = rw who at passed in
       let up' = up id.0 in
       absurd (omega arith))
       (λ (old : In t.marks k). old) (in_either (step_marks id.0 was z (letters_of key a.shown.letters)) t.marks k h)
 
-  epochs_up : (n : ℕ) → ((view key t).node n).epoch ≤ (key_node key (node_at n a.world.processes)).epoch
-  epochs_up n = subst (λ (w : WorldState). ((view key t).node n).epoch ≤ (key_node key (node_at n w.processes)).epoch) (world_is key t event a (acting_of a)) (rises n).1
+  epochs_up : (n : ℕ) → ((project key t).node n).epoch ≤ (key_node key (node_at n a.world.processes)).epoch
+  epochs_up n = subst (λ (w : WorldState). ((project key t).node n).epoch ≤ (key_node key (node_at n w.processes)).epoch) (world_is key t event a (acting_of a)) (rises n).1
 
   pub below_later : (h : Header) (past : List Event) (V : ℕ → List ℕ) (e n s c : ℕ) → s ≤ c → Below key (record { header = h; events = past }) V t e n s → Below key (record { header = h; events = past ++ event ∷ [] }) V (traced key t event a) e n c
   below_later h past V e n s c up o = record {

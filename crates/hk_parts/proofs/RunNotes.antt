@@ -21,7 +21,7 @@ use Rattle.hk_world.specs.Start.{counted, founding_process}
 use Rattle.hk_world.specs.World.{WorldState, Processes, node_of}
 use Rattle.hk_world.specs.Steps.{acting_of, Accepted, world_step}
 use Rattle.hk_world.specs.Sound.{IsHeader, IsEvent}
-use Rattle.hk_effects.specs.View.{Trace, view, traced, key_node, note_of, pending_of as waits_of, node_at, letters_of}
+use Rattle.hk_effects.specs.Projection.{Trace, project, traced, key_node, note_of, pending_of as waits_of, node_at, letters_of}
 use Rattle.hk_effects.specs.Runs.{start_trace, Follows, IsKept, RunsKeepParts}
 use Rattle.hk_effects.proofs.Accepting.{alive}
 use Rattle.hk_effects.proofs.Frames.{accepted}
@@ -58,11 +58,11 @@ module _ (runs : RunsKeepParts) (key : List ℕ) (h : Header) (header : IsHeader
           let row = row_at key x.rows in
           let shaped : IsShaped row.state (Some p) = rw (← is) (shaped_of_holds row.state row.pending row.stamp (row_sound x (node_holds t.world ok.own.sound n x at).1 key).holds) in
           let has : Has (key_node key (Some x)).phase (waits_of p) = rw is (shaped_has row.state p shaped) in
-          let has' : Has ((view key t).node n).phase (waits_of p) = rw at has in
-          let known = (pending_of (members_at t) (view key t) n ((view key t).node n) ((view key t).node n).phase (waits_of p) has' ((parts_at key t ok).nodes n).phase).known in
-          let told : AckTold (view key t) m e (tag_of s) (tag_of top) = acks_told runs key h header past t f m e (tag_of s) (tag_of top) letter in
+          let has' : Has ((project key t).node n).phase (waits_of p) = rw at has in
+          let known = (pending_of (members_at t) (project key t) n ((project key t).node n) ((project key t).node n).phase (waits_of p) has' ((parts_at key t ok).nodes n).phase).known in
+          let told : AckTold (project key t) m e (tag_of s) (tag_of top) = acks_told runs key h header past t f m e (tag_of s) (tag_of top) letter in
           let at_stamp : tag_of s ≡ known.update.stamp = same ∙ sym known.stamp in
-          top_is (members_at t) (view key t) (parts_at key t ok) known.update known.begun (known.same_kind ∙ rmw) m e (tag_of top) (subst (λ (c : ℕ). AckTold (view key t) m e c (tag_of top)) at_stamp told) ∙ sym at_stamp
+          top_is (members_at t) (project key t) (parts_at key t ok) known.update known.begun (known.same_kind ∙ rmw) m e (tag_of top) (subst (λ (c : ℕ). AckTold (project key t) m e c (tag_of top)) at_stamp told) ∙ sym at_stamp
 
   goes_on : (past : List Event) (t : Trace) (event : Event) (a : Accepted) → Follows key (start_trace h) past t → world_step t.world event ≡ Ok a → IsEvent event → AreNoted key t.world → AreNoted key (traced key t event a).world
   goes_on past t event a f e event_ok noted n y at = by_case (event_case t.world event a e) (subst (λ (w : WorldState). node_at n w.processes ≡ Some y) (world_is key t event a (acting_of a)) at)
@@ -97,7 +97,7 @@ module _ (runs : RunsKeepParts) (key : List ℕ) (h : Header) (header : IsHeader
   notes_exact events last f = always key h (λ (past : List Event) (t : Trace). AreNoted key t.world) goes_on
       (λ n y at. subst (λ (rs : Rows). IsNoted (row_at key rs).pending) (sym (founders (counted 0 h.nodes) n y at)) tt) events last f
 
-  pub pending_noted : (events : List Event) (last : Trace) → Follows key (start_trace h) events last → (n : ℕ) (p : Pending) → Has ((view key last).node n).phase p → p.kind ≡ Rmw → (k : Note) → In p.notes k → k.exact ≡ true
+  pub pending_noted : (events : List Event) (last : Trace) → Follows key (start_trace h) events last → (n : ℕ) (p : Pending) → Has ((project key last).node n).phase p → p.kind ≡ Rmw → (k : Note) → In p.notes k → k.exact ≡ true
   pending_noted events last f n p has rmw k i = by_node (node_at n last.world.processes) refl has
     where
       by_node : (o : Option NodeState) → node_at n last.world.processes ≡ o → Has (key_node key o).phase p → k.exact ≡ true

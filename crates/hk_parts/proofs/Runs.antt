@@ -1,7 +1,7 @@
 -- All parts hold in every run.
 use Rattle.std.proofs.Common.{ℕ, List, [], ◌∷◌, ◌++◌, sym, append-nil}
 use Rattle.hk_world.specs.declared.event.Event.{Event}
-use Rattle.hk_effects.specs.View.{Trace}
+use Rattle.hk_effects.specs.Projection.{Trace}
 use Rattle.hk_world.specs.Sound.{IsHeader}
 use Rattle.hk_effects.specs.Runs.{RunsKeepParts}
 use Rattle.hk_parts.specs.Moments.{Run, Ends, with_event}

@@ -10,18 +10,18 @@ use Rattle.hk_world.specs.declared.event.Header.{Header}
 use Rattle.hk_world.specs.World.{WorldState, node_of}
 use Rattle.hk_world.specs.Steps.{acting_of, Accepted, world_step}
 use Rattle.hk_world.specs.Sound.{IsHeader, IsEvent}
-use Rattle.hk_effects.specs.View.{Trace, traced, node_at}
+use Rattle.hk_effects.specs.Projection.{Trace, traced, node_at}
 use Rattle.hk_effects.specs.Runs.{start_trace, Follows, IsKept, RunsKeepParts}
 use Rattle.hk_effects.proofs.Accepting.{alive}
 use Rattle.hk_effects.proofs.Frames.{accepted}
 use Rattle.hk_effects.proofs.Processes.{node-put_same}
 use Rattle.hk_effects.proofs.Rests.{node_holds}
-use Rattle.hk_effects.proofs.Two.{append_three}
+use Rattle.hk_effects.proofs.TwoEffects.{append_three}
 use Rattle.hk_parts.specs.Moments.{Run, EventOf, Sent}
 use Rattle.hk_parts.proofs.Moments.{follows_then, world_is, always}
 use Rattle.hk_parts.proofs.Cases.{Stepping, Beside, event_case}
 use Rattle.hk_parts.specs.ViewPart.{IsOfReplicas}
-use Rattle.hk_parts.proofs.Says.{Says}
+use Rattle.hk_parts.proofs.LettersTell.{Says}
 use Rattle.hk_parts.proofs.Steps.{step_said}
 
 -- that it was sent, the moment after, and what it says

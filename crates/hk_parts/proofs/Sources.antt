@@ -5,7 +5,7 @@ use Rattle.hk_register.specs.Machine.{In, Mark, Node, Pending, Phase, Letter}
 use Rattle.hk_register.specs.Machine.Letter.{Inv, Ack, Val, Give}
 use Rattle.hk_register.specs.Effects.{Has, row_mark, cover_mark}
 use Rattle.hk_register.proofs.Grow.{in_either, in_left, in_right}
-use Rattle.hk_effects.specs.View.{pending_marks, moment_marks, install_marks, ack_marks, step_marks}
+use Rattle.hk_effects.specs.Projection.{pending_marks, moment_marks, install_marks, ack_marks, step_marks}
 
 -- ---- where a mark of a step comes from
 -- the row's mark, a pending update's, or an ACK's

@@ -40,12 +40,12 @@ use Rattle.hk_node.specs.Steps.{on_found, resent, replayed, asks_lease, viewed, 
 use Rattle.hk_world.specs.declared.event.Event.{Event}
 use Rattle.hk_world.specs.declared.event.Event.TheVariants.{Call, Take, Tick, TickAll, Crash, Resend, Replay, Copy, Start, Agree, Install, Lease, AskLease, Propose, Activate}
 use Rattle.hk_world.specs.World.{WorldState}
-use Rattle.hk_effects.specs.View.{letter_of}
+use Rattle.hk_effects.specs.Projection.{letter_of}
 use Rattle.hk_effects.proofs.Batches.{batch_tells}
 use Rattle.hk_effects.proofs.Processes.{in_members}
 use Rattle.hk_parts.specs.ViewPart.{IsOfReplicas}
 use Rattle.hk_parts.proofs.Cases.{Steps}
-use Rattle.hk_parts.proofs.Says.{Says, AreSaid, Aims, letters_said, sent_said, to_one, started_aims, inv_said, ack_aims, resend_aims, replay_aims, view_aims, batch_is}
+use Rattle.hk_parts.proofs.LettersTell.{Says, AreSaid, Aims, letters_said, sent_said, to_one, started_aims, inv_said, ack_aims, resend_aims, replay_aims, view_aims, batch_is}
 
 -- what tells of a key is a letter of replicas
 pub of_replicas : (key : List ℕ) (l : Letter) (body : Body) (x : KeyLetter) → In (letter_of key l body) x → IsOfReplicas body

@@ -10,7 +10,7 @@ use Rattle.hk_register.specs.Facts.{Covers}
 use Rattle.hk_register.specs.Parts.{Known, LetterOk}
 use Rattle.hk_register.proofs.Helps.{pending_of}
 use Rattle.hk_register.proofs.Orders.{base_not_below}
-use Rattle.hk_effects.specs.View.{Trace, view}
+use Rattle.hk_effects.specs.Projection.{Trace, project}
 use Rattle.hk_world.specs.Sound.{IsHeader}
 use Rattle.hk_effects.specs.Runs.{IsKept, RunsKeepParts}
 use Rattle.hk_parts.specs.Moments.{Run, Ends, Moment}
@@ -21,7 +21,7 @@ use Rattle.hk_parts.proofs.Moments.{moment_marks_kept}
 use Rattle.hk_parts.proofs.Origins.{parts_at, known_begun, holds_begun, covers_begun, exact_begun, settled_begun, not_below, row_shape, other_noted, risen}
 use Rattle.hk_parts.proofs.Acks.{AcksTold}
 use Rattle.hk_parts.proofs.Begins.{begun_at}
-use Rattle.hk_parts.proofs.Says.{BodyTells}
+use Rattle.hk_parts.proofs.LettersTell.{BodyTells}
 use Rattle.hk_parts.proofs.Sending.{Told, letters_told}
 use Rattle.hk_parts.proofs.Acked.{acks_told, zero_settled}
 
@@ -32,16 +32,16 @@ module _ (runs : RunsKeepParts) (key : List ℕ) (run : Run) (header : IsHeader 
   pub kept_then : (p : Trace) → Moment key run p → IsKept key p
   kept_then p m = runs run.header header key m.past p m.follows
 
-  acks : AcksTold (view key t)
+  acks : AcksTold (project key t)
   acks = acks_told runs key run.header header run.events t ends
 
-  letter_begun : (l : Letter) → In (view key t).letters l → LetterOk (members_at t) (view key t) l → LetterBegun key t l
+  letter_begun : (l : Letter) → In (project key t).letters l → LetterOk (members_at t) (project key t) l → LetterBegun key t l
   letter_begun (Inv m e s kind content) h o = inr (known_begun key t kept_here s kind content o.1)
   letter_begun (Ack m e s top) h o = (covers_begun key t kept_here m e s o.0, exact_begun key t kept_here m e top (acks m e s top h).exact)
   letter_begun (Val m e s) h o = settled_begun key t kept_here s o
-  letter_begun (Give m e s kind content valid) h o = ⊎_elim (λ (z : (s ≡ 0) × (content ≡ None)). inl z.0) (λ (c : Covers (view key t) m e s × Known (view key t) s kind content). inr (known_begun key t kept_here s kind content c.1)) o.0
+  letter_begun (Give m e s kind content valid) h o = ⊎_elim (λ (z : (s ≡ 0) × (content ≡ None)). inl z.0) (λ (c : Covers (project key t) m e s × Known (project key t) s kind content). inr (known_begun key t kept_here s kind content c.1)) o.0
 
-  letter_tells : (l : Letter) → In (view key t).letters l → LetterOk (members_at t) (view key t) l → LetterTells key t l
+  letter_tells : (l : Letter) → In (project key t).letters l → LetterOk (members_at t) (project key t) l → LetterTells key t l
   letter_tells (Inv m e s kind content) h o = o.0
   letter_tells (Ack m e s top) h o = (o.0, (acks m e s top h).exact)
   letter_tells (Val m e s) h o = o
@@ -55,8 +55,8 @@ module _ (runs : RunsKeepParts) (key : List ℕ) (run : Run) (header : IsHeader 
       let parts = parts_at key t kept_here in
       record {
         origin = record {
-          row = λ n. holds_begun key t kept_here ((view key t).node n).stamp ((view key t).node n).kind ((view key t).node n).content (parts.nodes n).known;
-          pending = λ n p has. inr (known_begun key t kept_here p.stamp p.kind p.content (pending_of (members_at t) (view key t) n ((view key t).node n) ((view key t).node n).phase p has (parts.nodes n).phase).known);
+          row = λ n. holds_begun key t kept_here ((project key t).node n).stamp ((project key t).node n).kind ((project key t).node n).content (parts.nodes n).known;
+          pending = λ n p has. inr (known_begun key t kept_here p.stamp p.kind p.content (pending_of (members_at t) (project key t) n ((project key t).node n) ((project key t).node n).phase p has (parts.nodes n).phase).known);
           letter = λ l h. letter_begun l h (parts.letters l h);
         };
         begun = begun_at runs key run.header header run.events t ends;
@@ -66,12 +66,12 @@ module _ (runs : RunsKeepParts) (key : List ℕ) (run : Run) (header : IsHeader 
         letters_tell = λ l h. letter_tells l h (parts.letters l h);
         acks_tell = λ l h s top is. ack_sent l s top is (letters_told runs key run.header header run.events t ends l h (subst IsOfReplicas (sym is) tt));
         notes_tell = λ n p has k h.
-            let o = (pending_of (members_at t) (view key t) n ((view key t).node n) ((view key t).node n).phase p has (parts.nodes n).phase).notes k h in
+            let o = (pending_of (members_at t) (project key t) n ((project key t).node n) ((project key t).node n).phase p has (parts.nodes n).phase).notes k h in
             record { member = o.member; other = other_noted key t kept_here n p has k h; covered = o.covers; exact = o.exact };
         valid_is_settled = λ n is. rw is at (parts.nodes n).phase;
         kept_is_settled = λ n is. ⊎_elim
-            (λ (zero_is : ((view key t).node n).stamp ≡ 0). subst (IsSettled key t) (sym zero_is) (zero_settled runs key run.header header run.events t ends))
-            (λ (s : IsSettled key t ((view key t).node n).stamp). s) ((parts.nodes n).kept is);
-        bases = λ u begun s e n f settled c upto below. base_not_below (members_at t) (view key t) parts u begun s e n f settled c upto below;
+            (λ (zero_is : ((project key t).node n).stamp ≡ 0). subst (IsSettled key t) (sym zero_is) (zero_settled runs key run.header header run.events t ends))
+            (λ (s : IsSettled key t ((project key t).node n).stamp). s) ((parts.nodes n).kept is);
+        bases = λ u begun s e n f settled c upto below. base_not_below (members_at t) (project key t) parts u begun s e n f settled c upto below;
         answered_is_complete = λ call s a h. (parts.items _ h).0;
       }

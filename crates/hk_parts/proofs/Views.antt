@@ -9,7 +9,7 @@ use Rattle.hk_world.specs.Start.{founding_view}
 use Rattle.hk_world.specs.World.{WorldState}
 use Rattle.hk_world.specs.Steps.{acting_of, Accepted, world_step}
 use Rattle.hk_world.specs.Sound.{IsEvent}
-use Rattle.hk_effects.specs.View.{Trace, traced}
+use Rattle.hk_effects.specs.Projection.{Trace, traced}
 use Rattle.hk_effects.specs.Runs.{start_trace, Follows}
 use Rattle.hk_parts.proofs.Moments.{world_is, always}
 use Rattle.hk_parts.proofs.Cases.{Stepping, OneMore, Beside, event_case}

@@ -4,7 +4,7 @@ use Rattle.hk_register.specs.Machine.{In, Pending}
 use Rattle.hk_register.specs.Machine.Letter.{Ack}
 use Rattle.hk_register.specs.Effects.{Has}
 use Rattle.hk_world.specs.Steps.{acting_of}
-use Rattle.hk_effects.specs.View.{Trace, view, traced}
+use Rattle.hk_effects.specs.Projection.{Trace, project, traced}
 use Rattle.hk_world.specs.Sound.{IsHeader}
 use Rattle.hk_parts.specs.Moments.{Run, Ends, Moment, EventOf}
 use Rattle.hk_parts.specs.Facts.{HasCovered, WasExact}
@@ -15,16 +15,16 @@ module _ (key : List ℕ) (run : Run) (n e s : ℕ) where
     pub when : Trace
     pub moment : Moment key run when
     pub some : 1 ≤ e
-    pub epoch : ((view key when).node n).epoch ≡ e
-    pub stamp : ((view key when).node n).stamp ≡ s
+    pub epoch : ((project key when).node n).epoch ≡ e
+    pub stamp : ((project key when).node n).stamp ≡ s
 
   -- at such a moment its pending update had it
   pub record PendingWas : Type 0 where
     pub when : Trace
     pub moment : Moment key run when
-    pub epoch : ((view key when).node n).epoch ≡ e
+    pub epoch : ((project key when).node n).epoch ≡ e
     pub pending : Pending
-    pub has : Has ((view key when).node n).phase pending
+    pub has : Has ((project key when).node n).phase pending
     pub stamp : pending.stamp ≡ s
 
   -- its pending update had it when it installed the epoch
@@ -32,17 +32,17 @@ module _ (key : List ℕ) (run : Run) (n e s : ℕ) where
     pub at : EventOf key run
     pub acts : acting_of at.accepted ≡ Some (record { 0 = n })
     pub pending : Pending
-    pub has : Has ((view key at.was).node n).phase pending
+    pub has : Has ((project key at.was).node n).phase pending
     pub stamp : pending.stamp ≡ s
-    pub before : ((view key at.was).node n).epoch < e
-    pub epoch : ((view key (traced key at.was at.event at.accepted)).node n).epoch ≡ e
+    pub before : ((project key at.was).node n).epoch < e
+    pub epoch : ((project key (traced key at.was at.event at.accepted)).node n).epoch ≡ e
 
   -- in the epoch it sent an ACK of it
   pub record Acknowledged : Type 0 where
     pub when : Trace
     pub moment : Moment key run when
     pub top : ℕ
-    pub sent : In (view key when).letters (Ack n e s top)
+    pub sent : In (project key when).letters (Ack n e s top)
 
   abbrev pub CoverWas : Type 0
   CoverWas = RowWas ⊎ PendingWas ⊎ InstalledWith ⊎ Acknowledged

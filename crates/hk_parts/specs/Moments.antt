@@ -10,7 +10,7 @@ use Rattle.hk_world.specs.declared.event.Header.{Header}
 use Rattle.hk_world.specs.declared.event.Event.{Event}
 use Rattle.hk_world.specs.declared.event.Event.TheVariants.{Call}
 use Rattle.hk_world.specs.Steps.{Accepted, world_step}
-use Rattle.hk_effects.specs.View.{Trace, view, traced, node_at}
+use Rattle.hk_effects.specs.Projection.{Trace, project, traced, node_at}
 use Rattle.hk_effects.specs.Runs.{start_trace, Follows}
 
 -- how a group begins, and what happens in it
@@ -60,6 +60,6 @@ pub record BegunAt (key : List ℕ) (run : Run) (u : Update) : Type 0 where
   pub at : EventOf key run
   pub event : at.event ≡ Call (record { 0 = u.who }) key u.op
   pub call : at.accepted.shown.call ≡ Some (record { 0 = u.call })
-  pub valid : ((view key at.was).node u.who).phase ≡ Valid
-  pub base : ((view key at.was).node u.who).stamp ≡ u.base
-  pub stamp : ((view key (traced key at.was at.event at.accepted)).node u.who).stamp ≡ u.stamp
+  pub valid : ((project key at.was).node u.who).phase ≡ Valid
+  pub base : ((project key at.was).node u.who).stamp ≡ u.base
+  pub stamp : ((project key (traced key at.was at.event at.accepted)).node u.who).stamp ≡ u.stamp

@@ -19,7 +19,7 @@ use Rattle.hk_register.specs.Machine.Item.{Answered}
 use Rattle.hk_register.specs.Effects.{Has, next_stamp}
 use Rattle.hk_node.specs.Node.{NodeState}
 use Rattle.hk_node.specs.Rows.{row_at}
-use Rattle.hk_effects.specs.View.{Trace, view, node_at}
+use Rattle.hk_effects.specs.Projection.{Trace, project, node_at}
 use Rattle.hk_parts.specs.Moments.{Run, Moment, Sent, BegunAt}
 use Rattle.hk_parts.specs.Facts.{members_at, HasCovered, WasExact, IsComplete, IsSettled, IsSettledThrough}
 
@@ -68,9 +68,9 @@ module _ (key : List ℕ) (t : Trace) where
   LetterBegun (Give m e s kind content valid) = FromUpdateAs s kind content
 
   pub record StampsBegun : Type 0 where
-    pub row : (n : ℕ) → FromUpdateAs ((view key t).node n).stamp ((view key t).node n).kind ((view key t).node n).content
-    pub pending : (n : ℕ) (p : Pending) → Has ((view key t).node n).phase p → FromUpdateAs p.stamp p.kind p.content
-    pub letter : (l : Letter) → In (view key t).letters l → LetterBegun l
+    pub row : (n : ℕ) → FromUpdateAs ((project key t).node n).stamp ((project key t).node n).kind ((project key t).node n).content
+    pub pending : (n : ℕ) (p : Pending) → Has ((project key t).node n).phase p → FromUpdateAs p.stamp p.kind p.content
+    pub letter : (l : Letter) → In (project key t).letters l → LetterBegun l
 
   -- An INV of epoch e from m tells a stamp that m covered in e. An ACK of s with top t tells that m covered s in e, and that
   -- its row had t: so with t equal to s it was exact for s. A VAL tells a settled stamp.
@@ -100,19 +100,19 @@ pub record UpdatePart (key : List ℕ) (run : Run) (t : Trace) : Type 0 where
   pub origin : StampsBegun key t
   pub begun : (u : Update) → In t.begun u → BegunAt key run u
   -- 2. A row's stamp never falls, and is at least every stamp that its node covered.
-  pub rows_rise : (past : Trace) → Moment key run past → (n : ℕ) → ((view key past).node n).stamp ≤ ((view key t).node n).stamp
-  pub rows_cover : (n e s : ℕ) → HasCovered key t n e s → s ≤ ((view key t).node n).stamp
+  pub rows_rise : (past : Trace) → Moment key run past → (n : ℕ) → ((project key past).node n).stamp ≤ ((project key t).node n).stamp
+  pub rows_cover : (n e s : ℕ) → HasCovered key t n e s → s ≤ ((project key t).node n).stamp
   -- 3. Valid and Invalid have no pending update. In Write and Replay its stamp is the row's. In Trans it is a plain write below the
   -- row. It is of a call in Write and Trans, and of none in Replay.
   pub shape : (n : ℕ) (x : NodeState) → node_at n t.world.processes ≡ Some x → HasShape (row_at key x.rows).state (row_at key x.rows).pending (row_at key x.rows).stamp
   -- 4. Letters tell what was so. An ACK's top was the row's stamp when it was sent.
-  pub letters_tell : (l : Letter) → In (view key t).letters l → LetterTells key t l
+  pub letters_tell : (l : Letter) → In (project key t).letters l → LetterTells key t l
   pub acks_tell : (l : Wire) → In t.world.letters l → (s top : Stamp) → l.body ≡ AckBody key s top → AckSent key run l top
   -- 5. Notes tell what was so.
-  pub notes_tell : (n : ℕ) (p : Pending) → Has ((view key t).node n).phase p → (k : Note) → In p.notes k → NoteTells key t n ((view key t).node n).epoch p.stamp k
+  pub notes_tell : (n : ℕ) (p : Pending) → Has ((project key t).node n).phase p → (k : Note) → In p.notes k → NoteTells key t n ((project key t).node n).epoch p.stamp k
   -- 6. A Valid row's stamp is 0.0 or settled. Where a VAL was kept, the row's stamp is settled.
-  pub valid_is_settled : (n : ℕ) → ((view key t).node n).phase ≡ Valid → (((view key t).node n).stamp ≡ 0) ⊎ IsSettled key t ((view key t).node n).stamp
-  pub kept_is_settled : (n : ℕ) → ((view key t).node n).kept_val ≡ true → IsSettled key t ((view key t).node n).stamp
+  pub valid_is_settled : (n : ℕ) → ((project key t).node n).phase ≡ Valid → (((project key t).node n).stamp ≡ 0) ⊎ IsSettled key t ((project key t).node n).stamp
+  pub kept_is_settled : (n : ℕ) → ((project key t).node n).kept_val ≡ true → IsSettled key t ((project key t).node n).stamp
   -- 7. Where a stamp is settled through an epoch, each update above it that any node covered in an epoch not lower has a base that is
   -- not below it.
   pub bases : (u : Update) → In t.begun u → (s e n f : ℕ) → IsSettledThrough key t s e → HasCovered key t n f u.stamp → e ≤ f → s < u.stamp → s ≤ u.base

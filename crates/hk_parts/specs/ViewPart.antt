@@ -16,7 +16,7 @@ use Rattle.hk_node.specs.Rows.{row_at}
 use Rattle.hk_node.specs.Copies.{copy_of}
 use Rattle.hk_world.specs.declared.event.Event.TheVariants.{Take}
 use Rattle.hk_world.specs.World.{numbered}
-use Rattle.hk_effects.specs.View.{Trace, view, traced, node_at, has_copied, covers}
+use Rattle.hk_effects.specs.Projection.{Trace, project, traced, node_at, has_copied, covers}
 use Rattle.hk_effects.specs.Own.{IsDropped, IsAdded, Ended}
 use Rattle.hk_parts.specs.Moments.{Run, Moment, EventOf, Sent}
 use Rattle.hk_parts.specs.Facts.{members_at, HasCovered}
@@ -65,7 +65,7 @@ pub record TookFrom (key : List ℕ) (run : Run) (n g : ℕ) : Type 0 where
   pub body : letter.body ≡ CopyGive node.cursor done items
   pub covered : covers key node.cursor done items ≡ true
   pub not_yet : has_copied node key ≡ false
-  pub now : ((view key (traced key at.was at.event at.accepted)).node n).copied ≡ true
+  pub now : ((project key (traced key at.was at.event at.accepted)).node n).copied ≡ true
 
 -- On whose covers a copied row rests, for a view with these members: on the node's own where it is a member, and else on those on
 -- which its giver's row rests.
@@ -78,7 +78,7 @@ RestsOn key run members (g ∷ givers) n d = (In members n → ⊥) × TookFrom 
 pub record IsNotBelow (key : List ℕ) (run : Run) (t : Trace) (e n s : ℕ) : Type 0 where
   pub who : ℕ
   pub member : In (members_at t e) who
-  pub later : e < ((view key t).node who).epoch
+  pub later : e < ((project key t).node who).epoch
   pub covered : (f c : ℕ) → f ≤ e → HasCovered key t who f c → c ≤ s
   pub givers : List ℕ
   pub rests : RestsOn key run (members_at t e) givers n who
@@ -91,16 +91,16 @@ pub record ViewPart (key : List ℕ) (run : Run) (t : Trace) : Type 0 where
   pub dropped_for_good : (u v w : View) → In t.world.views u → In t.world.views v → In t.world.views w → u.epoch ≤ v.epoch → v.epoch ≤ w.epoch →
       (n : ℕ) → In (member_numbers u.members) n → (In (member_numbers v.members) n → ⊥) → In (member_numbers w.members) n → ⊥
   pub own_view : (n : ℕ) (x : NodeState) → node_at n t.world.processes ≡ Some x → (v : View) → x.view ≡ Some v → HasView t n x v
-  pub epochs_rise : (past : Trace) → Moment key run past → (n : ℕ) → ((view key past).node n).epoch ≤ ((view key t).node n).epoch
+  pub epochs_rise : (past : Trace) → Moment key run past → (n : ℕ) → ((project key past).node n).epoch ≤ ((project key t).node n).epoch
   -- 2. Each INV, ACK, VAL, CopyAsk and CopyGive was sent by a member of the view of its epoch while it was in that epoch.
   pub senders : (l : Wire) → In t.world.letters l → IsOfReplicas l.body → SentInEpoch key run t l
   -- 3. For each view of an epoch e and each ready node in a later epoch: the node's row is not below what some member of view e, which
   -- has gone on, covered up to e. This is said of every ready node, whether it joined after e or before.
-  pub ready_not_below : (n : ℕ) → ((view key t).node n).ready ≡ true → (e : ℕ) → 1 ≤ e → e < ((view key t).node n).epoch → IsNotBelow key run t e n ((view key t).node n).stamp
+  pub ready_not_below : (n : ℕ) → ((project key t).node n).ready ≡ true → (e : ℕ) → 1 ≤ e → e < ((project key t).node n).epoch → IsNotBelow key run t e n ((project key t).node n).stamp
   -- 4. So it is of a node that is not ready, where its cursor has come to the key, and of a row in a batch.
-  pub copied_not_below : (n : ℕ) → ((view key t).node n).copied ≡ true → (e : ℕ) → 1 ≤ e → e < ((view key t).node n).epoch → IsNotBelow key run t e n ((view key t).node n).stamp
-  pub given_not_below : (m f s : ℕ) (kind : Kind) (content : Option Content) (valid : Bool) → In (view key t).letters (Give m f s kind content valid) → (e : ℕ) → 1 ≤ e → e < f → IsNotBelow key run t e m s
+  pub copied_not_below : (n : ℕ) → ((project key t).node n).copied ≡ true → (e : ℕ) → 1 ≤ e → e < ((project key t).node n).epoch → IsNotBelow key run t e n ((project key t).node n).stamp
+  pub given_not_below : (m f s : ℕ) (kind : Kind) (content : Option Content) (valid : Bool) → In (project key t).letters (Give m f s kind content valid) → (e : ℕ) → 1 ≤ e → e < f → IsNotBelow key run t e m s
   -- 5. Each item of a batch was its giver's row in that epoch, the giver being ready; an item marked valid was Valid there.
   pub batches_tell : (l : Wire) (after : Option (List ℕ)) (done : Bool) (items : List CopyItem) → In t.world.letters l → l.body ≡ CopyGive after done items → BatchTells key run l items
   -- 6. Of each view that any node has installed so far: a live node that it leaves out, and that was a member before, has no lease.
-  pub guarded : (past : Trace) → Moment key run past → (n : ℕ) → 1 ≤ ((view key past).node n).epoch → Ended t.world ((view key past).node n).epoch
+  pub guarded : (past : Trace) → Moment key run past → (n : ℕ) → 1 ≤ ((project key past).node n).epoch → Ended t.world ((project key past).node n).epoch

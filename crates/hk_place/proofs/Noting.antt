@@ -9,9 +9,9 @@ use Rattle.std.proofs.lemmas.Map.Text.{is_eq-slice_cmp}
 use Rattle.std.proofs.lemmas.Slice.Eq.{bytes_eq-Decides}
 use Rattle.hk_copy.specs.Batches.{key_cmp}
 use Rattle.hk_key.specs.declared.row.Row.{Row}
-use Rattle.hk_node.specs.declared.report.Former.{Former}
+use Rattle.hk_node.specs.declared.report.PriorRow.{PriorRow}
 use Rattle.hk_node.specs.Rows.{Rows}
-use Rattle.hk_node.specs.Report.{is_changed, former_at, changed_rows}
+use Rattle.hk_node.specs.Report.{is_changed, prior_at, changed_rows}
 use Rattle.hk_node.specs.Node.{NodeState}
 use Rattle.hk_journal.specs.declared.step_entry.JournalEntry.{JournalEntry}
 use Rattle.hk_journal.specs.Journal.{ShownRow, call_of, changed, after, shown_by, published}
@@ -54,16 +54,16 @@ noted m n key new ticket put is k = by_test (is_eq (key_cmp key k)) refl
 
 -- ---- the rows of a step
 module _ (k : List ℕ) (ticket : ℕ) where
-  pub told_both : (xs ys : List Former) → told_by k (xs ++ ys) ticket ≡ told_by k xs ticket ++ told_by k ys ticket
+  pub told_both : (xs ys : List PriorRow) → told_by k (xs ++ ys) ticket ≡ told_by k xs ticket ++ told_by k ys ticket
   told_both [] ys = refl
   told_both (f ∷ xs) ys = ap (λ (l : List ℕ). told_to k f.key ticket ++ l) (told_both xs ys) ∙ sym (append_assoc (told_to k f.key ticket) (told_by k xs ticket) (told_by k ys ticket))
 
 -- one row more
-pub told_more : (before now next : List ℕ) (k : List ℕ) (ticket : ℕ) (rows : List Former) (i : ℕ) (f : Former) → i < length rows → f ≡ get_or rows i f → now ≡ before ++ told_by k (take i rows) ticket
+pub told_more : (before now next : List ℕ) (k : List ℕ) (ticket : ℕ) (rows : List PriorRow) (i : ℕ) (f : PriorRow) → i < length rows → f ≡ get_or rows i f → now ≡ before ++ told_by k (take i rows) ticket
     → next ≡ now ++ told_to k f.key ticket → next ≡ before ++ told_by k (take (i + 1) rows) ticket
 told_more before now next k ticket rows i f lt at is more =
     let one : told_by k (take (i + 1) rows) ticket ≡ told_by k (take i rows) ticket ++ told_to k f.key ticket =
-    ap (λ (l : List Former). told_by k l ticket) (take_more rows i f lt ∙ ap (λ (x : Former). take i rows ++ x ∷ []) (sym at))
+    ap (λ (l : List PriorRow). told_by k l ticket) (take_more rows i f lt ∙ ap (λ (x : PriorRow). take i rows ++ x ∷ []) (sym at))
     ∙ (told_both k ticket (take i rows) (f ∷ []) ∙ ap (λ (l : List ℕ). told_by k (take i rows) ticket ++ l) (append-nil (told_to k f.key ticket))) in
     more ∙ (ap (λ (l : List ℕ). l ++ told_to k f.key ticket) is
     ∙ (append_assoc before (told_by k (take i rows) ticket) (told_to k f.key ticket) ∙ ap (λ (l : List ℕ). before ++ l) (sym one)))
@@ -89,14 +89,14 @@ module _ (k : List ℕ) (entry : JournalEntry) (old : Rows) where
       at false more = more
 
       by_test : (b : Bool) → map ticket_of (filter (is_key k) (map (shown entry) (changed old new))) ≡ told_by k (changed_rows old new) entry.ticket →
-          map ticket_of (filter (is_key k) (map (shown entry) (cond b (r ∷ changed old new) (changed old new)))) ≡ told_by k (cond b (former_at old r.0 ∷ []) [] ++ changed_rows old new) entry.ticket
+          map ticket_of (filter (is_key k) (map (shown entry) (cond b (r ∷ changed old new) (changed old new)))) ≡ told_by k (cond b (prior_at old r.0 ∷ []) [] ++ changed_rows old new) entry.ticket
       by_test true more = at (is_eq (key_cmp r.0 k)) more
       by_test false more = more
 
 -- what the report of a step tells is what the journal shows of it
-pub step_told : (k : List ℕ) (node : NodeState) (entry : JournalEntry) (rows : List Former) → rows ≡ changed_rows node.rows (after node entry).rows →
+pub step_told : (k : List ℕ) (node : NodeState) (entry : JournalEntry) (rows : List PriorRow) → rows ≡ changed_rows node.rows (after node entry).rows →
     told_by k rows entry.ticket ≡ map ticket_of (filter (is_key k) (shown_by node entry))
-step_told k node entry rows is = ap (λ (l : List Former). told_by k l entry.ticket) is ∙ sym (rows_told k entry node.rows (after node entry).rows)
+step_told k node entry rows is = ap (λ (l : List PriorRow). told_by k l entry.ticket) is ∙ sym (rows_told k entry node.rows (after node entry).rows)
 
 -- ---- the entries of a journal
 -- the tickets so far, and those of the entries that are left

@@ -12,7 +12,7 @@ ghost use Rattle.hk_place.specs.Noted.{told_to, told_by};
 
 use hk_base::{Key, Memory, Sequence};
 use hk_journal::{Journal, JournalEntry};
-use hk_node::{Former, Node};
+use hk_node::{Node, PriorRow};
 use std::alloc::Global;
 use std::collections::BTreeMap;
 use std::marker::Model;
@@ -47,13 +47,13 @@ fn note(kept: &mut KeyTickets, alloc: Global, key: &Key, ticket: u64) -> Result<
 fn note_all(
     kept: &mut KeyTickets,
     alloc: Global,
-    rows: &[Former],
+    rows: &[PriorRow],
     ticket: u64,
 ) -> Result<(), Memory>
     ensures { OnOk result ((k : List ℕ) → tickets_in kept.new.entries k ≡ tickets_in kept.old.entries k ++ told_by k rows.now ticket) }
 {
-    for former in rows {
-        note(kept, alloc, &former.key, ticket)?;
+    for prior in rows {
+        note(kept, alloc, &prior.key, ticket)?;
     }
     Ok(())
 }

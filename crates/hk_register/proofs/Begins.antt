@@ -6,9 +6,9 @@ use Rattle.hk_base.specs.declared.stamp.Kind.{Kind}
 use Rattle.hk_base.specs.declared.stamp.Kind.TheVariants.{Write as Plain, Rmw}
 use Rattle.hk_register.specs.Machine.Phase.{Valid, Write}
 use Rattle.hk_register.specs.Machine.Letter.{Inv}
-use Rattle.hk_register.specs.Machine.Item.{Called, Answered, Looked}
+use Rattle.hk_register.specs.Machine.Item.{Called, Answered, ReadOnly}
 use Rattle.hk_register.specs.Facts.{ReadyCovers, Complete, Rests, Bound, PassesOver}
-use Rattle.hk_register.specs.Effects.Effect.{Begin, Look}
+use Rattle.hk_register.specs.Effects.Effect.{Begin, Serve}
 use Rattle.hk_register.specs.Laws.{served_at}
 use Rattle.hk_register.specs.Effects.{Effect, Allowed, IsBlind, Changes, reply_of, Fresh, Change, Leased, fresh_pending, next_stamp}
 use Rattle.hk_register.specs.Parts.{Known, PendingOk, Parts}
@@ -137,11 +137,11 @@ module _ (V : ℕ → List ℕ) where
         once = λ v v' h h'. ⊎_elim (λ (e : v ≡ u). ⊎_elim (λ (e' : v' ≡ u). e ∙ sym e') (λ (no : ⊥). absurd no) h') (λ (no : ⊥). absurd no) h;
         unlike = λ v v' h begun' same. ⊎_elim (λ (e : v ≡ u). let o = parts.updates v' begun' in let s : u.stamp ≡ v'.stamp = sym (ap (λ (z : Update). z.stamp) e) ∙ same in let me : n ≡ v'.who = same_node u.kind v'.kind u.base v'.base n v'.who small o.node (sym next ∙ s ∙ o.next) in let b : v'.stamp ≤ x.stamp = rw (← me) at o.below in omega arith) (λ (no : ⊥). no) h;
         items = (tt, tt);
-        timely = (record { answered = λ c a w h. let f = fresh_row old parts n a ready leased (parts.items (Answered c a w) h).0 in omega arith; looked = λ c a op held w h. let f = fresh_rests old parts n a ready leased (parts.items (Looked c a op held w) h).0 in omega arith }, parts.timely);
+        timely = (record { answered = λ c a w h. let f = fresh_row old parts n a ready leased (parts.items (Answered c a w) h).0 in omega arith; looked = λ c a op held w h. let f = fresh_rests old parts n a ready leased (parts.items (ReadOnly c a op held w) h).0 in omega arith }, parts.timely);
       })
 
   -- wherever a call is served, the row is fresh
   pub served_fresh : (st : State) → Parts V st → (e : Effect) → Allowed V st e → (n : ℕ) → served_at e ≡ Some n → (s : ℕ) → Complete V st s → s ≤ (st.node n).stamp
   served_fresh st parts (Begin m u) a n is s c = rw (some_is m n is) at (fresh_row st parts m s a.0 a.2 c)
-  served_fresh st parts (Look m call op answer) a n is s c = rw (some_is m n is) at (fresh_row st parts m s a.0 a.2 c)
+  served_fresh st parts (Serve m call op answer) a n is s c = rw (some_is m n is) at (fresh_row st parts m s a.0 a.2 c)
   served_fresh st parts e a n is s c = absurd (none_is n is)

@@ -8,9 +8,9 @@ use Rattle.hk_base.specs.declared.call.Reply.{Reply}
 use Rattle.hk_history.specs.History.{is_unsure}
 use Rattle.hk_register.specs.Machine.{In, Mark, Note, Pending, Phase, Node, Letter, Update, Item, State, call_of}
 use Rattle.hk_register.specs.Machine.Phase.{Valid, Invalid, Write, Replay, Trans}
-use Rattle.hk_register.specs.Machine.Item.{Called, Answered, Dropped, Looked, Missed}
+use Rattle.hk_register.specs.Machine.Item.{Called, Answered, Dropped, ReadOnly, Rejected}
 use Rattle.hk_register.specs.Effects.{Change, Effect, Happens, Fresh, Has, answer_of, dropped, drop_of, overtaken, with_notes, fresh_pending, reply_of}
-use Rattle.hk_register.specs.Effects.Effect.{Begin, TakeInv, AckInv, CounterInv, NoteAck, Settle, FinishValid, FinishInvalid, TakeVal, KeepVal, StartReplay, Resend, Install, InstallPending, GiveRow, CopyRow, PassRow, CopyValid, GetReady, Look, Refuse, Quiet}
+use Rattle.hk_register.specs.Effects.Effect.{Begin, TakeInv, AckInv, CounterInv, NoteAck, Settle, FinishValid, FinishInvalid, TakeVal, KeepVal, StartReplay, Resend, Install, InstallPending, GiveRow, CopyRow, PassRow, CopyValid, GetReady, Serve, Refuse, Quiet}
 use Rattle.hk_register.specs.Parts.{Parts}
 use Rattle.hk_register.specs.Calls.{IsStart, IsReply, PendCall, CallItem, OneStart, OneReply, CallParts}
 use Rattle.hk_register.proofs.Grow.{in_left, in_right, in_either}
@@ -27,8 +27,8 @@ abbrev stamp_in : Item → ℕ
 stamp_in (Called c s op) = s
 stamp_in (Answered c s a) = s
 stamp_in (Dropped c s a) = s
-stamp_in (Looked c s op held a) = s
-stamp_in (Missed c op a) = 0
+stamp_in (ReadOnly c s op held a) = s
+stamp_in (Rejected c op a) = 0
 
 module _ (V : ℕ → List ℕ) (st : State) (parts : Parts V st) (cp : CallParts st) where
   -- two updates of one call are one
@@ -48,8 +48,8 @@ module _ (V : ℕ → List ℕ) (old new : State) (parts : Parts V old) (cp : Ca
   item_grows (Called c s op) o = (o.0, begun_grows o.0 o.1, o.2, o.3, o.4)
   item_grows (Answered c s a) o = (o.0, begun_grows o.0 o.1, o.2, o.3, o.4)
   item_grows (Dropped c s a) o = ((o.0.0, begun_grows o.0.0 o.0.1, o.0.2), o.1)
-  item_grows (Looked c s op held a) o = o
-  item_grows (Missed c op a) o = o
+  item_grows (ReadOnly c s op held a) o = o
+  item_grows (Rejected c op a) o = o
 
   -- a pending update goes on, where no reply that is new is its call's
   pend_grows : (m : ℕ) (p q : Pending) (r : Reply) → p.stamp ≡ q.stamp → PendCall old m p r → ((i : Item) → In hs i → IsReply i → call_of i ≢ r.call.0) → PendCall new m q r
@@ -211,6 +211,6 @@ module _ (V : ℕ → List ℕ) (old new : State) (parts : Parts V old) (cp : Ca
   effect_calls (PassRow n m s kind content valid) happens = silent n _ _ _ happens.change (kept_pending n _ refl)
   effect_calls (CopyValid n m s kind content) happens = silent n _ _ _ happens.change (λ q h. absurd h)
   effect_calls (GetReady n) happens = silent n _ _ _ happens.change (kept_pending n _ refl)
-  effect_calls (Look n call op answer) happens = at_once n _ _ _ (Looked call (old.node n).stamp op (old.node n).content answer) happens.allowed.4 happens.change refl happens.allowed.5
-  effect_calls (Refuse n call op answer) happens = at_once n _ _ _ (Missed call op answer) happens.allowed.1 happens.change refl happens.allowed.0
+  effect_calls (Serve n call op answer) happens = at_once n _ _ _ (ReadOnly call (old.node n).stamp op (old.node n).content answer) happens.allowed.4 happens.change refl happens.allowed.5
+  effect_calls (Refuse n call op answer) happens = at_once n _ _ _ (Rejected call op answer) happens.allowed.1 happens.change refl happens.allowed.0
   effect_calls (Quiet n) happens = silent n _ _ _ happens.change (kept_pending n _ refl)

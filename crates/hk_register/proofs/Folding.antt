@@ -12,7 +12,7 @@ use Rattle.hk_history.specs.declared.event.Event.{Event}
 use Rattle.hk_history.specs.History.{op_of, answer_of, is_unsure, is_answered}
 use Rattle.hk_history.specs.Legal.{FitsCall, FitsFrom}
 use Rattle.hk_register.specs.Machine.{In, Update, Item, State, call_of}
-use Rattle.hk_register.specs.Machine.Item.{Called, Answered, Dropped, Looked, Missed}
+use Rattle.hk_register.specs.Machine.Item.{Called, Answered, Dropped, ReadOnly, Rejected}
 use Rattle.hk_register.specs.Facts.{Complete, Settled}
 use Rattle.hk_register.specs.Effects.{IsBlind, register_of}
 use Rattle.hk_register.specs.Parts.{Known, Holds, Parts}
@@ -95,7 +95,7 @@ module _ (V : ℕ → List ℕ) (st : State) (parts : Parts V st) (cp : CallPart
   own_answer u begun None r e = absurd (false≢true e)
   own_answer u begun (Some a) r e = by_item r.item (cp.items r.item r.there) r.there r.call r.answer
     where
-      clash : (x y : Item) → x ≡ y → IsStart x → (c s : ℕ) (op : Op) → x ≡ Called c s op → (d k : ℕ) (p : Op) (held : Option Content) (b : Answer) → (y ≡ Looked d k p held b) ⊎ (y ≡ Missed d p b) → ⊥
+      clash : (x y : Item) → x ≡ y → IsStart x → (c s : ℕ) (op : Op) → x ≡ Called c s op → (d k : ℕ) (p : Op) (held : Option Content) (b : Answer) → (y ≡ ReadOnly d k p held b) ⊎ (y ≡ Rejected d p b) → ⊥
       clash x y e st c s op is d k p held b (inl f) = cc
       clash x y e st c s op is d k p held b (inr f) = cc
 
@@ -103,8 +103,8 @@ module _ (V : ℕ → List ℕ) (st : State) (parts : Parts V st) (cp : CallPart
       by_item (Called c s op) w h call is = absurd is
       by_item (Answered c s b) w h call is = let same = own_call V st parts cp w.0 u w.1 begun (w.2 ∙ call) in ap (λ (x : Answer). Some x) (sym is ∙ (sym w.4 ∙ ap (λ (v : Update). v.answer) same))
       by_item (Dropped c s b) w h call is = absurd (unlike a e (subst (λ (x : Answer). is_unsure (Some x) ≡ true) is w.1))
-      by_item (Looked c s op held b) w h call is = absurd (clash (Called u.call u.stamp u.op) (Looked c s op held b) (one_start st.history cp.starts (Called u.call u.stamp u.op) (Looked c s op held b) (cp.called u begun) h tt tt (sym call)) tt u.call u.stamp u.op refl c s op held b (inl refl))
-      by_item (Missed c op b) w h call is = absurd (clash (Called u.call u.stamp u.op) (Missed c op b) (one_start st.history cp.starts (Called u.call u.stamp u.op) (Missed c op b) (cp.called u begun) h tt tt (sym call)) tt u.call u.stamp u.op refl c 0 op None b (inr refl))
+      by_item (ReadOnly c s op held b) w h call is = absurd (clash (Called u.call u.stamp u.op) (ReadOnly c s op held b) (one_start st.history cp.starts (Called u.call u.stamp u.op) (ReadOnly c s op held b) (cp.called u begun) h tt tt (sym call)) tt u.call u.stamp u.op refl c s op held b (inl refl))
+      by_item (Rejected c op b) w h call is = absurd (clash (Called u.call u.stamp u.op) (Rejected c op b) (one_start st.history cp.starts (Called u.call u.stamp u.op) (Rejected c op b) (cp.called u begun) h tt tt (sym call)) tt u.call u.stamp u.op refl c 0 op None b (inr refl))
 
   -- one entry, where the operation is known
   entry_fits : (h : List Event) (r : Register) (call : ℕ) (tag : Option ℕ) (more : List Rattle.hk_history.specs.declared.event.Entry.Entry) (op : Op) → op_of h call ≡ Some op → FitsCall (answer_of h call) tag (act op r (unwrap_or tag 0)) → FitsFrom h (act op r (unwrap_or tag 0)).register more →
@@ -157,8 +157,8 @@ module _ (V : ℕ → List ℕ) (st : State) (parts : Parts V st) (cp : CallPart
 
       look : (At us s c → FitsFrom (events_of st.history) (register_of c s) (entries us)) → 0 < x.place → FitsFrom (events_of st.history) (register_of c s) (entries (x ∷ us))
       look more pos =
-          let there = stands_in st.history x.place (Looked x.call x.stamp x.op x.content x.answer) (pr.look x mine pos) in
-          let o = parts.items (Looked x.call x.stamp x.op x.content x.answer) there in
+          let there = stands_in st.history x.place (ReadOnly x.call x.stamp x.op x.content x.answer) (pr.look x mine pos) in
+          let o = parts.items (ReadOnly x.call x.stamp x.op x.content x.answer) there in
           let not_update : (v : Slot) → v.place ≡ 0 → v ≡ x → ⊥ = λ v i e. let z = ap (λ (w : Slot). w.place) e in omega (arith, z, i) in
           let here : x.stamp ≡ s =
           ⊎_elim
@@ -176,8 +176,8 @@ module _ (V : ℕ → List ℕ) (st : State) (parts : Parts V st) (cp : CallPart
           (λ (upto : x.stamp ≤ s). let l = at.ahead x (inl refl) in omega arith) (cases_lt s x.stamp) in
           let held : x.content ≡ c = same_content (x ∷ us) s c at o.1 x.content x.stamp o.2 here in
           let stay : act x.op (register_of c s) 0 ≡ stays x.answer (register_of c s) = subst (λ (d : Option Content). act x.op (register_of d s) 0 ≡ stays x.answer (register_of d s)) held (subst (λ (t : ℕ). act x.op (register_of x.content t) 0 ≡ stays x.answer (register_of x.content t)) here (o.3 0)) in
-          let told : answer_of (events_of st.history) x.call ≡ Some x.answer = answer_is st.history cp.replies (Looked x.call x.stamp x.op x.content x.answer) x.answer there refl in
-          let is_told = cp.items (Looked x.call x.stamp x.op x.content x.answer) there in
+          let told : answer_of (events_of st.history) x.call ≡ Some x.answer = answer_is st.history cp.replies (ReadOnly x.call x.stamp x.op x.content x.answer) x.answer there refl in
+          let is_told = cp.items (ReadOnly x.call x.stamp x.op x.content x.answer) there in
           let next : At us s c = record {
             stands = at.stands;
             within = λ v h. at.within v (inr h);
@@ -187,7 +187,7 @@ module _ (V : ℕ → List ℕ) (st : State) (parts : Parts V st) (cp : CallPart
           } in
           let no_tag : tag_at x.place x.stamp ≡ None = untagged x.place x.stamp pos in
           subst (λ (o : Option ℕ). FitsFrom (events_of st.history) (register_of c s) (record { call = record { 0 = x.call }; tag = o } ∷ entries us)) (sym no_tag)
-          (entry_fits (events_of st.history) (register_of c s) x.call None (entries us) x.op (op_is st.history cp.starts (Looked x.call x.stamp x.op x.content x.answer) x.op there refl)
+          (entry_fits (events_of st.history) (register_of c s) x.call None (entries us) x.op (op_is st.history cp.starts (ReadOnly x.call x.stamp x.op x.content x.answer) x.op there refl)
           (record {
             answered = λ e. told ∙ ap (λ (z : Acted). Some z.answer) (sym stay);
             unsure = λ e. absurd (unlike x.answer is_told (subst (λ (o : Option Answer). is_unsure o ≡ true) told e));

@@ -7,7 +7,7 @@ use Rattle.hk_history.specs.declared.event.Event.{Event}
 use Rattle.hk_history.specs.declared.event.Event.TheVariants.{Call, Reply}
 use Rattle.hk_history.specs.History.{op_of, answer_of}
 use Rattle.hk_register.specs.Machine.{In, Item, call_of}
-use Rattle.hk_register.specs.Machine.Item.{Called, Answered, Dropped, Looked, Missed}
+use Rattle.hk_register.specs.Machine.Item.{Called, Answered, Dropped, ReadOnly, Rejected}
 use Rattle.hk_register.specs.Calls.{IsStart, IsReply, OneStart, OneReply}
 use Rattle.hk_register.specs.Printed.{item_events, events_of}
 
@@ -52,8 +52,8 @@ op_other : (i : Item) (n : ℕ) → call_of i ≢ n → op_of (item_events i) n 
 op_other (Called c s op) n ne = rw (ne_eqb c n ne) refl
 op_other (Answered c s a) n ne = refl
 op_other (Dropped c s a) n ne = refl
-op_other (Looked c s op held a) n ne = rw (ne_eqb c n ne) refl
-op_other (Missed c op a) n ne = rw (ne_eqb c n ne) refl
+op_other (ReadOnly c s op held a) n ne = rw (ne_eqb c n ne) refl
+op_other (Rejected c op a) n ne = rw (ne_eqb c n ne) refl
 
 pub no_op : (items : List Item) (n : ℕ) → ((j : Item) → In items j → IsStart j → call_of j ≢ n) → op_of (events_of items) n ≡ None
 no_op [] n none = refl
@@ -63,8 +63,8 @@ no_op (i ∷ items) n none = op_none (events_of items) (item_events i) n (no_op 
     by_item (Called c s op) ne = op_other (Called c s op) n (ne tt)
     by_item (Answered c s a) ne = refl
     by_item (Dropped c s a) ne = refl
-    by_item (Looked c s op held a) ne = op_other (Looked c s op held a) n (ne tt)
-    by_item (Missed c op a) ne = op_other (Missed c op a) n (ne tt)
+    by_item (ReadOnly c s op held a) ne = op_other (ReadOnly c s op held a) n (ne tt)
+    by_item (Rejected c op a) ne = op_other (Rejected c op a) n (ne tt)
 
 pub no_answer : (items : List Item) (n : ℕ) → ((j : Item) → In items j → IsReply j → call_of j ≢ n) → answer_of (events_of items) n ≡ None
 no_answer [] n none = refl
@@ -74,35 +74,35 @@ no_answer (i ∷ items) n none = answer_none (events_of items) (item_events i) n
     by_item (Called c s op) ne = refl
     by_item (Answered c s a) ne = rw (ne_eqb c n (ne tt)) refl
     by_item (Dropped c s a) ne = rw (ne_eqb c n (ne tt)) refl
-    by_item (Looked c s op held a) ne = rw (ne_eqb c n (ne tt)) refl
-    by_item (Missed c op a) ne = rw (ne_eqb c n (ne tt)) refl
+    by_item (ReadOnly c s op held a) ne = rw (ne_eqb c n (ne tt)) refl
+    by_item (Rejected c op a) ne = rw (ne_eqb c n (ne tt)) refl
 
 -- the operation of a start
 abbrev pub OpIn : Item → Op → Type 0
 OpIn (Called c s op) o = op ≡ o
-OpIn (Looked c s op held a) o = op ≡ o
-OpIn (Missed c op a) o = op ≡ o
+OpIn (ReadOnly c s op held a) o = op ≡ o
+OpIn (Rejected c op a) o = op ≡ o
 OpIn (Answered c s a) o = ⊥
 OpIn (Dropped c s a) o = ⊥
 
 abbrev pub AnswerIn : Item → Answer → Type 0
 AnswerIn (Called c s op) o = ⊥
-AnswerIn (Looked c s op held a) o = a ≡ o
-AnswerIn (Missed c op a) o = a ≡ o
+AnswerIn (ReadOnly c s op held a) o = a ≡ o
+AnswerIn (Rejected c op a) o = a ≡ o
 AnswerIn (Answered c s a) o = a ≡ o
 AnswerIn (Dropped c s a) o = a ≡ o
 
 op_here : (i : Item) (o : Op) → OpIn i o → op_of (item_events i) (call_of i) ≡ Some o
 op_here (Called c s op) o e = rw (eq-eqb c c refl) (ap (λ (x : Op). Some x) e)
-op_here (Looked c s op held a) o e = rw (eq-eqb c c refl) (ap (λ (x : Op). Some x) e)
-op_here (Missed c op a) o e = rw (eq-eqb c c refl) (ap (λ (x : Op). Some x) e)
+op_here (ReadOnly c s op held a) o e = rw (eq-eqb c c refl) (ap (λ (x : Op). Some x) e)
+op_here (Rejected c op a) o e = rw (eq-eqb c c refl) (ap (λ (x : Op). Some x) e)
 op_here (Answered c s a) o e = absurd e
 op_here (Dropped c s a) o e = absurd e
 
 start_of_op : (i : Item) (o : Op) → OpIn i o → IsStart i
 start_of_op (Called c s op) o e = tt
-start_of_op (Looked c s op held a) o e = tt
-start_of_op (Missed c op a) o e = tt
+start_of_op (ReadOnly c s op held a) o e = tt
+start_of_op (Rejected c op a) o e = tt
 start_of_op (Answered c s a) o e = absurd e
 start_of_op (Dropped c s a) o e = absurd e
 
@@ -116,15 +116,15 @@ op_is (x ∷ items) one i o (inr h) e = op_some (events_of items) (item_events x
 
 answer_here : (i : Item) (a : Answer) → AnswerIn i a → answer_of (item_events i) (call_of i) ≡ Some a
 answer_here (Called c s op) o e = absurd e
-answer_here (Looked c s op held a) o e = rw (eq-eqb c c refl) (ap (λ (x : Answer). Some x) e)
-answer_here (Missed c op a) o e = rw (eq-eqb c c refl) (ap (λ (x : Answer). Some x) e)
+answer_here (ReadOnly c s op held a) o e = rw (eq-eqb c c refl) (ap (λ (x : Answer). Some x) e)
+answer_here (Rejected c op a) o e = rw (eq-eqb c c refl) (ap (λ (x : Answer). Some x) e)
 answer_here (Answered c s a) o e = rw (eq-eqb c c refl) (ap (λ (x : Answer). Some x) e)
 answer_here (Dropped c s a) o e = rw (eq-eqb c c refl) (ap (λ (x : Answer). Some x) e)
 
 reply_of_answer : (i : Item) (a : Answer) → AnswerIn i a → IsReply i
 reply_of_answer (Called c s op) o e = absurd e
-reply_of_answer (Looked c s op held a) o e = tt
-reply_of_answer (Missed c op a) o e = tt
+reply_of_answer (ReadOnly c s op held a) o e = tt
+reply_of_answer (Rejected c op a) o e = tt
 reply_of_answer (Answered c s a) o e = tt
 reply_of_answer (Dropped c s a) o e = tt
 
@@ -163,15 +163,15 @@ replier_here (Dropped c s a) items n = by_test (eqb c n) refl
     by_test : (b : Bool) → eqb c n ≡ b → MaybeReplier (Dropped c s a ∷ items) n (cond b (Some a) None)
     by_test true e = record { item = Dropped c s a; there = inl refl; call = eqb-true c n e; answer = refl }
     by_test false e = tt
-replier_here (Looked c s op held a) items n = by_test (eqb c n) refl
+replier_here (ReadOnly c s op held a) items n = by_test (eqb c n) refl
   where
-    by_test : (b : Bool) → eqb c n ≡ b → MaybeReplier (Looked c s op held a ∷ items) n (cond b (Some a) None)
-    by_test true e = record { item = Looked c s op held a; there = inl refl; call = eqb-true c n e; answer = refl }
+    by_test : (b : Bool) → eqb c n ≡ b → MaybeReplier (ReadOnly c s op held a ∷ items) n (cond b (Some a) None)
+    by_test true e = record { item = ReadOnly c s op held a; there = inl refl; call = eqb-true c n e; answer = refl }
     by_test false e = tt
-replier_here (Missed c op a) items n = by_test (eqb c n) refl
+replier_here (Rejected c op a) items n = by_test (eqb c n) refl
   where
-    by_test : (b : Bool) → eqb c n ≡ b → MaybeReplier (Missed c op a ∷ items) n (cond b (Some a) None)
-    by_test true e = record { item = Missed c op a; there = inl refl; call = eqb-true c n e; answer = refl }
+    by_test : (b : Bool) → eqb c n ≡ b → MaybeReplier (Rejected c op a ∷ items) n (cond b (Some a) None)
+    by_test true e = record { item = Rejected c op a; there = inl refl; call = eqb-true c n e; answer = refl }
     by_test false e = tt
 
 pub replier : (items : List Item) (n : ℕ) → MaybeReplier items n (answer_of (events_of items) n)

@@ -6,7 +6,7 @@ use Rattle.hk_register.specs.Machine.{In, Each, Weaker, Marked, Note, Pending, P
 use Rattle.hk_base.specs.declared.stamp.Kind.{Kind}
 use Rattle.hk_register.specs.Machine.Phase.{Valid, Invalid, Write, Replay, Trans}
 use Rattle.hk_register.specs.Machine.Letter.{Inv, Ack, Val, Give}
-use Rattle.hk_register.specs.Machine.Item.{Called, Answered, Looked, Missed, Dropped}
+use Rattle.hk_register.specs.Machine.Item.{Called, Answered, ReadOnly, Rejected, Dropped}
 use Rattle.hk_register.specs.Effects.{Change}
 use Rattle.hk_register.specs.Parts.{Holds, Made, NoteOk, PendingOk, PhaseOk, NodeOk, Twin, MarkBegun, MarkOk, UpdateOk, LetterOk, ItemOk, TimelyAfter, Parts}
 use Rattle.hk_register.proofs.Grow.{Rises, in_left, in_right, in_either, each_in, epoch_rises, stamp_rises, covers_grows, exact_grows, ready_covers_grows, complete_grows, settled_grows, rests_grows, known_grows, bound_grows, passes_grows}
@@ -139,8 +139,8 @@ module _ (V : ℕ → List ℕ) (old new : State) (n : ℕ) (x : Node) (ms : Lis
   pub item_grows : (i : Item) → ItemOk V old i → ItemOk V new i
   item_grows (Called c s op) o = o
   item_grows (Answered c s a) o = (complete_grows V old new n x ms r o.0, o.1)
-  item_grows (Looked c s op held a) o = (rests_grows V old new n x ms r o.0, o.1, holds_grows o.2, o.3)
-  item_grows (Missed c op a) o = o
+  item_grows (ReadOnly c s op held a) o = (rests_grows V old new n x ms r o.0, o.1, holds_grows o.2, o.3)
+  item_grows (Rejected c op a) o = o
   item_grows (Dropped c s a) o = o
 
 -- what a change makes anew

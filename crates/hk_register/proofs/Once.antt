@@ -15,7 +15,7 @@ use Rattle.hk_base.specs.declared.call.Answer.TheVariants.{Busy, Aborted, Exhaus
 use Rattle.hk_history.specs.History.{op_of, answer_of, is_void, is_unsure, is_answered}
 use Rattle.hk_history.specs.Legal.{is_entry, calls_of, tags_of, Once}
 use Rattle.hk_register.specs.Machine.{In, Update, Item, State, call_of}
-use Rattle.hk_register.specs.Machine.Item.{Called, Answered, Dropped, Looked, Missed}
+use Rattle.hk_register.specs.Machine.Item.{Called, Answered, Dropped, ReadOnly, Rejected}
 use Rattle.hk_register.specs.Parts.{Parts}
 use Rattle.hk_register.specs.Calls.{IsStart, OneStart, CallParts}
 use Rattle.hk_register.proofs.Calls.{one_start, own_call}
@@ -75,12 +75,12 @@ abbrev pub look_slot : ℕ → ℕ → ℕ → Op → Option Content → Answer 
 look_slot k c s o held x = record { stamp = s; place = k; call = c; op = o; content = held; answer = x }
 
 -- no Busy or Exhausted call
-abbrev pub MissedNot : Item → Type 0
-MissedNot (Missed c op a) = ⊥
-MissedNot (Called c s op) = Unit {0}
-MissedNot (Answered c s a) = Unit {0}
-MissedNot (Dropped c s a) = Unit {0}
-MissedNot (Looked c s op held a) = Unit {0}
+abbrev pub RejectedNot : Item → Type 0
+RejectedNot (Rejected c op a) = ⊥
+RejectedNot (Called c s op) = Unit {0}
+RejectedNot (Answered c s a) = Unit {0}
+RejectedNot (Dropped c s a) = Unit {0}
+RejectedNot (ReadOnly c s op held a) = Unit {0}
 
 pub answered_not_void : (a : Answer) → is_answered (Some a) ≡ true → is_void (Some a) ≡ false
 answered_not_void (Busy w) e = absurd (false≢true e)
@@ -105,12 +105,12 @@ module _ (V : ℕ → List ℕ) (st : State) (parts : Parts V st) (cp : CallPart
     starts : IsStart item
     call : call_of item ≡ s.call
     op : OpIn item s.op
-    well : MissedNot item
+    well : RejectedNot item
 
   started : (s : Slot) → In slots s → Started s
   started s h = ⊎_elim
       (λ (is : s.place ≡ 0). let f = pr.update s h is in subst Started (sym f.3) (record { item = Called f.0.call f.0.stamp f.0.op; there = cp.called f.0 f.1; starts = tt; call = refl; op = refl; well = tt }))
-      (λ (pos : 0 < s.place). record { item = Looked s.call s.stamp s.op s.content s.answer; there = stands_in st.history s.place (Looked s.call s.stamp s.op s.content s.answer) (pr.look s h pos); starts = tt; call = refl; op = refl; well = tt }) (eq-zero-or-pos s.place)
+      (λ (pos : 0 < s.place). record { item = ReadOnly s.call s.stamp s.op s.content s.answer; there = stands_in st.history s.place (ReadOnly s.call s.stamp s.op s.content s.answer) (pr.look s h pos); starts = tt; call = refl; op = refl; well = tt }) (eq-zero-or-pos s.place)
 
   -- two slots of one call are one
   pub own_slot : (a b : Slot) → In slots a → In slots b → a.call ≡ b.call → a ≡ b
@@ -124,27 +124,27 @@ module _ (V : ℕ → List ℕ) (st : State) (parts : Parts V st) (cp : CallPart
       let us : f.0 ≡ g.0 = own_call V st parts cp f.0 g.0 f.1 g.1 calls in
       let ss : update_slot f.0 ≡ update_slot g.0 = ap update_slot us in
       let both : a ≡ b = f.3 ∙ (ss ∙ sym g.3) in both)
-      (λ (q : 0 < b.place). absurd (mixed a b f.0 f.1 f.3 (stands_in st.history b.place (Looked b.call b.stamp b.op b.content b.answer) (pr.look b k q)) e)) (eq-zero-or-pos b.place))
+      (λ (q : 0 < b.place). absurd (mixed a b f.0 f.1 f.3 (stands_in st.history b.place (ReadOnly b.call b.stamp b.op b.content b.answer) (pr.look b k q)) e)) (eq-zero-or-pos b.place))
       (λ (p : 0 < a.place).
       ⊎_elim
-      (λ (q : b.place ≡ 0). let g = pr.update b k q in absurd (mixed b a g.0 g.1 g.3 (stands_in st.history a.place (Looked a.call a.stamp a.op a.content a.answer) (pr.look a h p)) (sym e)))
+      (λ (q : b.place ≡ 0). let g = pr.update b k q in absurd (mixed b a g.0 g.1 g.3 (stands_in st.history a.place (ReadOnly a.call a.stamp a.op a.content a.answer) (pr.look a h p)) (sym e)))
       (λ (q : 0 < b.place). looks a b (pr.look a h p) (pr.look b k q) e) (eq-zero-or-pos b.place)) (eq-zero-or-pos a.place)
     where
-      mixed : (a b : Slot) (u : Update) → In st.begun u → a ≡ update_slot u → In st.history (Looked b.call b.stamp b.op b.content b.answer) → a.call ≡ b.call → ⊥
+      mixed : (a b : Slot) (u : Update) → In st.begun u → a ≡ update_slot u → In st.history (ReadOnly b.call b.stamp b.op b.content b.answer) → a.call ≡ b.call → ⊥
       mixed a b u begun is there e =
-          let same = one_start st.history cp.starts (Called u.call u.stamp u.op) (Looked b.call b.stamp b.op b.content b.answer) (cp.called u begun) there tt tt (sym (ap (λ (y : Slot). y.call) is) ∙ e) in
+          let same = one_start st.history cp.starts (Called u.call u.stamp u.op) (ReadOnly b.call b.stamp b.op b.content b.answer) (cp.called u begun) there tt tt (sym (ap (λ (y : Slot). y.call) is) ∙ e) in
           no_way u.call u.stamp u.op b.call b.stamp b.op b.content b.answer same
         where
-          no_way : (c s : ℕ) (o : Op) (d t : ℕ) (p : Op) (held : Option Content) (x : Answer) → Called c s o ≡ Looked d t p held x → ⊥
+          no_way : (c s : ℕ) (o : Op) (d t : ℕ) (p : Op) (held : Option Content) (x : Answer) → Called c s o ≡ ReadOnly d t p held x → ⊥
           no_way c s o d t p held x e = cc
 
-      looks : (a b : Slot) → StandsAt st.history a.place (Looked a.call a.stamp a.op a.content a.answer) → StandsAt st.history b.place (Looked b.call b.stamp b.op b.content b.answer) → a.call ≡ b.call → a ≡ b
+      looks : (a b : Slot) → StandsAt st.history a.place (ReadOnly a.call a.stamp a.op a.content a.answer) → StandsAt st.history b.place (ReadOnly b.call b.stamp b.op b.content b.answer) → a.call ≡ b.call → a ≡ b
       looks a b x y e =
-          let same = one_start st.history cp.starts (Looked a.call a.stamp a.op a.content a.answer) (Looked b.call b.stamp b.op b.content b.answer) (stands_in st.history a.place (Looked a.call a.stamp a.op a.content a.answer) x) (stands_in st.history b.place (Looked b.call b.stamp b.op b.content b.answer) y) tt tt e in
-          let place = one_place st.history cp.starts a.place b.place (Looked a.call a.stamp a.op a.content a.answer) tt x (subst (StandsAt st.history b.place) (sym same) y) in
+          let same = one_start st.history cp.starts (ReadOnly a.call a.stamp a.op a.content a.answer) (ReadOnly b.call b.stamp b.op b.content b.answer) (stands_in st.history a.place (ReadOnly a.call a.stamp a.op a.content a.answer) x) (stands_in st.history b.place (ReadOnly b.call b.stamp b.op b.content b.answer) y) tt tt e in
+          let place = one_place st.history cp.starts a.place b.place (ReadOnly a.call a.stamp a.op a.content a.answer) tt x (subst (StandsAt st.history b.place) (sym same) y) in
           slot_of a.place b.place place a.call a.stamp a.op a.content a.answer b.call b.stamp b.op b.content b.answer same
         where
-          slot_of : (k l : ℕ) → k ≡ l → (c s : ℕ) (o : Op) (held : Option Content) (x : Answer) (d t : ℕ) (p : Op) (held' : Option Content) (y : Answer) → Looked c s o held x ≡ Looked d t p held' y →
+          slot_of : (k l : ℕ) → k ≡ l → (c s : ℕ) (o : Op) (held : Option Content) (x : Answer) (d t : ℕ) (p : Op) (held' : Option Content) (y : Answer) → ReadOnly c s o held x ≡ ReadOnly d t p held' y →
               look_slot k c s o held x ≡ look_slot l d t p held' y
           slot_of k l e c s o held x d t p held' y same = cc
 
@@ -197,8 +197,8 @@ module _ (V : ℕ → List ℕ) (st : State) (parts : Parts V st) (cp : CallPart
           let done = (parts.items (Answered c s b) h).0 in
           of_slot (update_slot w.0) (pr.updates w.0 w.1 (rw w.3 done)) (w.2 ∙ call)
       by_item (Dropped c s b) h call told = let w = cp.items (Dropped c s b) h in absurd (Rattle.hk_register.proofs.Folding.unlike a e (subst (λ (x : Answer). is_unsure (Some x) ≡ true) told w.1))
-      by_item (Looked c s op held b) h call told = let t = at_place st.history (Looked c s op held b) h in of_slot _ (pr.looks t.0 c s op held b t.1) call
-      by_item (Missed c op b) h call told = let w = cp.items (Missed c op b) h in absurd (false≢true (sym (answered_not_void a e) ∙ subst (λ (x : Answer). is_void (Some x) ≡ true) told w))
+      by_item (ReadOnly c s op held b) h call told = let t = at_place st.history (ReadOnly c s op held b) h in of_slot _ (pr.looks t.0 c s op held b t.1) call
+      by_item (Rejected c op b) h call told = let w = cp.items (Rejected c op b) h in absurd (false≢true (sym (answered_not_void a e) ∙ subst (λ (x : Answer). is_void (Some x) ≡ true) told w))
 
   -- a call that stands was not Busy or Exhausted
   standing : (n : ℕ) → list_any (is_entry n) (entries slots) ≡ true → (o : Option Answer) → MaybeReplier st.history n o → is_void o ≡ false
@@ -208,8 +208,8 @@ module _ (V : ℕ → List ℕ) (st : State) (parts : Parts V st) (cp : CallPart
       slot : (s : Slot) × In slots s × (s.call ≡ n)
       slot = stands_slot slots n e
 
-      clash : (x y : Item) → x ≡ y → (o : Op) → OpIn x o → (c : ℕ) (p : Op) (b : Answer) → y ≡ Missed c p b → IsTrue (is_void (Some b)) → MissedNot x → ⊥
-      clash x y e o h c p b is void ok = subst MissedNot (e ∙ is) ok
+      clash : (x y : Item) → x ≡ y → (o : Op) → OpIn x o → (c : ℕ) (p : Op) (b : Answer) → y ≡ Rejected c p b → IsTrue (is_void (Some b)) → RejectedNot x → ⊥
+      clash x y e o h c p b is void ok = subst RejectedNot (e ∙ is) ok
 
       by_item : (i : Item) → In st.history i → call_of i ≡ n → AnswerIn i a → is_void (Some a) ≡ false
       by_item (Called c s op) h call told = absurd told
@@ -219,12 +219,12 @@ module _ (V : ℕ → List ℕ) (st : State) (parts : Parts V st) (cp : CallPart
           let was : is_answered (Some w.0.answer) ≡ true = made.changes.answered in
           answered_not_void a (subst (λ (x : Answer). is_answered (Some x) ≡ true) (w.4 ∙ told) was)
       by_item (Dropped c s b) h call told = let w = cp.items (Dropped c s b) h in unsure_not_void a (subst (λ (x : Answer). is_unsure (Some x) ≡ true) told w.1)
-      by_item (Looked c s op held b) h call told = answered_not_void a (subst (λ (x : Answer). is_answered (Some x) ≡ true) told (cp.items (Looked c s op held b) h))
-      by_item (Missed c op b) h call told =
+      by_item (ReadOnly c s op held b) h call told = answered_not_void a (subst (λ (x : Answer). is_answered (Some x) ≡ true) told (cp.items (ReadOnly c s op held b) h))
+      by_item (Rejected c op b) h call told =
           let s = slot in
           let st_s = started s.0 s.1 in
-          let same = one_start st.history cp.starts st_s.item (Missed c op b) st_s.there h st_s.starts tt (st_s.call ∙ (s.2 ∙ sym call)) in
-          absurd (clash st_s.item (Missed c op b) same s.0.op st_s.op c op b refl (cp.items (Missed c op b) h) st_s.well)
+          let same = one_start st.history cp.starts st_s.item (Rejected c op b) st_s.there h st_s.starts tt (st_s.call ∙ (s.2 ∙ sym call)) in
+          absurd (clash st_s.item (Rejected c op b) same s.0.op st_s.op c op b refl (cp.items (Rejected c op b) h) st_s.well)
 
   pub all_once : Once (events_of st.history) (entries slots)
   all_once = record {

@@ -4,7 +4,7 @@ use Rattle.hk_base.specs.declared.call.Answer.{Answer}
 use Rattle.hk_base.specs.declared.call.Op.{Op}
 use Rattle.hk_register.specs.Machine.{In, Note, Pending, Phase, Node, Mark, State}
 use Rattle.hk_register.specs.Machine.Phase.{Valid, Invalid, Write, Replay, Trans}
-use Rattle.hk_register.specs.Machine.Item.{Answered, Looked, Missed}
+use Rattle.hk_register.specs.Machine.Item.{Answered, ReadOnly, Rejected}
 use Rattle.hk_register.specs.Machine.Letter.{Inv, Ack, Val}
 use Rattle.hk_register.specs.Facts.{Covers, ReadyCovers, Settled, Rests}
 use Rattle.hk_register.specs.Effects.{Change, Has, AllNoted, Leased, NotesAfter, fresh_pending, Stays, register_of, answer_of, row_mark, with_notes}
@@ -104,16 +104,16 @@ module _ (V : ℕ → List ℕ) (old new : State) (parts : Parts V old) (n : ℕ
       keep_phase V old new parts n x.phase x.kept_val (Inv n x.epoch x.stamp x.kind x.content ∷ []) [] ch (parts.nodes n).phase (parts.nodes n).kept ((covers, known_row (omega arith)), tt) tt parts.timely
 
   pub look_kept : (call : ℕ) (op : Op) (answer : Answer) → (old.node n).ready ≡ true → (old.node n).phase ≡ Valid → Leased V old n → Stays op (register_of (old.node n).content (old.node n).stamp) answer →
-      Change old new n (old.node n) [] [] [] (Looked call (old.node n).stamp op (old.node n).content answer ∷ []) → Parts V new
+      Change old new n (old.node n) [] [] [] (ReadOnly call (old.node n).stamp op (old.node n).content answer ∷ []) → Parts V new
   look_kept call op answer ready valid leased stays ch =
       let x = old.node n in
       let was = parts.nodes n in
       let rests : Rests V old x.stamp = rw valid at was.phase in
-      keep_phase V old new parts n x.phase x.kept_val [] (Looked call x.stamp op x.content answer ∷ []) ch was.phase was.kept tt ((rests, x.kind, was.known, stays), tt)
-      (record { answered = λ c a w h. fresh_row V old parts n a ready leased (parts.items (Answered c a w) h).0; looked = λ c a o held w h. fresh_rests V old parts n a ready leased (parts.items (Looked c a o held w) h).0 }, parts.timely)
+      keep_phase V old new parts n x.phase x.kept_val [] (ReadOnly call x.stamp op x.content answer ∷ []) ch was.phase was.kept tt ((rests, x.kind, was.known, stays), tt)
+      (record { answered = λ c a w h. fresh_row V old parts n a ready leased (parts.items (Answered c a w) h).0; looked = λ c a o held w h. fresh_rests V old parts n a ready leased (parts.items (ReadOnly c a o held w) h).0 }, parts.timely)
 
-  pub refuse_kept : (call : ℕ) (op : Op) (answer : Answer) → Change old new n (old.node n) [] [] [] (Missed call op answer ∷ []) → Parts V new
-  refuse_kept call op answer ch = keep_phase V old new parts n (old.node n).phase (old.node n).kept_val [] (Missed call op answer ∷ []) ch (parts.nodes n).phase (parts.nodes n).kept tt (tt, tt) parts.timely
+  pub refuse_kept : (call : ℕ) (op : Op) (answer : Answer) → Change old new n (old.node n) [] [] [] (Rejected call op answer ∷ []) → Parts V new
+  refuse_kept call op answer ch = keep_phase V old new parts n (old.node n).phase (old.node n).kept_val [] (Rejected call op answer ∷ []) ch (parts.nodes n).phase (parts.nodes n).kept tt (tt, tt) parts.timely
 
   pub quiet_kept : Change old new n (old.node n) [] [] [] [] → Parts V new
   quiet_kept ch = keep_phase V old new parts n (old.node n).phase (old.node n).kept_val [] [] ch (parts.nodes n).phase (parts.nodes n).kept tt tt parts.timely

@@ -7,7 +7,7 @@ use Rattle.hk_base.specs.declared.call.Op.{Op}
 use Rattle.hk_base.specs.declared.call.Answer.{Answer}
 use Rattle.hk_base.specs.declared.call.Content.{Content}
 use Rattle.hk_register.specs.Machine.{In, Weaker, Mark, Update, Item, State}
-use Rattle.hk_register.specs.Machine.Item.{Called, Answered, Dropped, Looked, Missed}
+use Rattle.hk_register.specs.Machine.Item.{Called, Answered, Dropped, ReadOnly, Rejected}
 use Rattle.hk_register.specs.Facts.{Covers, Complete}
 use Rattle.hk_register.specs.Runs.{is_in}
 use Rattle.hk_register.specs.Parts.{Parts}
@@ -93,36 +93,36 @@ module _ (V : ℕ → List ℕ) (st : State) where
       by_test false h = h
 
 -- the slots of the calls that changed nothing
-in_looks : (items : List Item) (s : Slot) → In (look_slots items) s → StandsAt items s.place (Looked s.call s.stamp s.op s.content s.answer) × (0 < s.place)
+in_looks : (items : List Item) (s : Slot) → In (look_slots items) s → StandsAt items s.place (ReadOnly s.call s.stamp s.op s.content s.answer) × (0 < s.place)
 in_looks [] s h = absurd h
-in_looks (Looked c t op held a ∷ items) s (inl is) = subst (λ (r : Slot). StandsAt (Looked c t op held a ∷ items) r.place (Looked r.call r.stamp r.op r.content r.answer) × (0 < r.place)) (sym is) (inl (refl, refl), omega arith)
-in_looks (Looked c t op held a ∷ items) s (inr h) = let w = in_looks items s h in (inr w.0, w.1)
+in_looks (ReadOnly c t op held a ∷ items) s (inl is) = subst (λ (r : Slot). StandsAt (ReadOnly c t op held a ∷ items) r.place (ReadOnly r.call r.stamp r.op r.content r.answer) × (0 < r.place)) (sym is) (inl (refl, refl), omega arith)
+in_looks (ReadOnly c t op held a ∷ items) s (inr h) = let w = in_looks items s h in (inr w.0, w.1)
 in_looks (Called c t op ∷ items) s h = let w = in_looks items s h in (inr w.0, w.1)
 in_looks (Answered c t a ∷ items) s h = let w = in_looks items s h in (inr w.0, w.1)
 in_looks (Dropped c t a ∷ items) s h = let w = in_looks items s h in (inr w.0, w.1)
-in_looks (Missed c op a ∷ items) s h = let w = in_looks items s h in (inr w.0, w.1)
+in_looks (Rejected c op a ∷ items) s h = let w = in_looks items s h in (inr w.0, w.1)
 
 abbrev slot_at : ℕ → Item → List Slot
-slot_at k (Looked c s op held a) = record { stamp = s; place = k; call = c; op = op; content = held; answer = a } ∷ []
+slot_at k (ReadOnly c s op held a) = record { stamp = s; place = k; call = c; op = op; content = held; answer = a } ∷ []
 slot_at k (Called c s op) = []
 slot_at k (Answered c s a) = []
 slot_at k (Dropped c s a) = []
-slot_at k (Missed c op a) = []
+slot_at k (Rejected c op a) = []
 
 looks_split : (i : Item) (items : List Item) (s : Slot) → In (slot_at (length items + 1) i) s ⊎ In (look_slots items) s → In (look_slots (i ∷ items)) s
-looks_split (Looked c t op held a) items s (inl (inl is)) = inl is
-looks_split (Looked c t op held a) items s (inl (inr none)) = absurd none
-looks_split (Looked c t op held a) items s (inr h) = inr h
+looks_split (ReadOnly c t op held a) items s (inl (inl is)) = inl is
+looks_split (ReadOnly c t op held a) items s (inl (inr none)) = absurd none
+looks_split (ReadOnly c t op held a) items s (inr h) = inr h
 looks_split (Called c t op) items s (inl none) = absurd none
 looks_split (Called c t op) items s (inr h) = h
 looks_split (Answered c t a) items s (inl none) = absurd none
 looks_split (Answered c t a) items s (inr h) = h
 looks_split (Dropped c t a) items s (inl none) = absurd none
 looks_split (Dropped c t a) items s (inr h) = h
-looks_split (Missed c op a) items s (inl none) = absurd none
-looks_split (Missed c op a) items s (inr h) = h
+looks_split (Rejected c op a) items s (inl none) = absurd none
+looks_split (Rejected c op a) items s (inr h) = h
 
-looks_in : (items : List Item) (k c s : ℕ) (op : Op) (held : Option Content) (a : Answer) → StandsAt items k (Looked c s op held a) → In (look_slots items) (record { stamp = s; place = k; call = c; op = op; content = held; answer = a })
+looks_in : (items : List Item) (k c s : ℕ) (op : Op) (held : Option Content) (a : Answer) → StandsAt items k (ReadOnly c s op held a) → In (look_slots items) (record { stamp = s; place = k; call = c; op = op; content = held; answer = a })
 looks_in [] k c s op held a h = absurd h
 looks_in (i ∷ items) k c s op held a (inr h) = looks_split i items _ (inr (looks_in items k c s op held a h))
 looks_in (i ∷ items) k c s op held a (inl e) =
@@ -234,7 +234,7 @@ module _ (V : ℕ → List ℕ) (st : State) (parts : Parts V st) where
   abbrev all_slots : List Slot
   all_slots = update_slots V st st.begun ++ look_slots st.history
 
-  which : (s : Slot) → In all_slots s → ((u : Update) × In st.begun u × Complete V st u.stamp × (s ≡ update_slot u)) ⊎ (StandsAt st.history s.place (Looked s.call s.stamp s.op s.content s.answer) × (0 < s.place))
+  which : (s : Slot) → In all_slots s → ((u : Update) × In st.begun u × Complete V st u.stamp × (s ≡ update_slot u)) ⊎ (StandsAt st.history s.place (ReadOnly s.call s.stamp s.op s.content s.answer) × (0 < s.place))
   which s h = ⊎_elim
       (λ (a : In (update_slots V st st.begun) s). inl (in_updates V st st.begun s a))
       (λ (b : In (look_slots st.history) s). inr (in_looks st.history s b)) (in_either (update_slots V st st.begun) (look_slots st.history) s h)
@@ -242,14 +242,14 @@ module _ (V : ℕ → List ℕ) (st : State) (parts : Parts V st) where
   one_slot : (a b : Slot) → In all_slots a → In all_slots b → a.stamp ≡ b.stamp → a.place ≡ b.place → a ≡ b
   one_slot a b h g e f = by_kind (which a h) (which b g)
     where
-      same_look : (a b : Slot) → a.place ≡ b.place → Looked a.call a.stamp a.op a.content a.answer ≡ Looked b.call b.stamp b.op b.content b.answer → a ≡ b
+      same_look : (a b : Slot) → a.place ≡ b.place → ReadOnly a.call a.stamp a.op a.content a.answer ≡ ReadOnly b.call b.stamp b.op b.content b.answer → a ≡ b
       same_look a b f e = slots a.place b.place f a.call b.call a.stamp b.stamp a.op b.op a.content b.content a.answer b.answer e
         where
-          slots : (k l : ℕ) → k ≡ l → (c d s t : ℕ) (o p : Op) (x y : Option Content) (v w : Answer) → Looked c s o x v ≡ Looked d t p y w → look_slot k c s o x v ≡ look_slot l d t p y w
+          slots : (k l : ℕ) → k ≡ l → (c d s t : ℕ) (o p : Op) (x y : Option Content) (v w : Answer) → ReadOnly c s o x v ≡ ReadOnly d t p y w → look_slot k c s o x v ≡ look_slot l d t p y w
           slots k l f c d s t o p x y v w e = cc
 
-      by_kind : ((u : Update) × In st.begun u × Complete V st u.stamp × (a ≡ update_slot u)) ⊎ (StandsAt st.history a.place (Looked a.call a.stamp a.op a.content a.answer) × (0 < a.place)) →
-          ((u : Update) × In st.begun u × Complete V st u.stamp × (b ≡ update_slot u)) ⊎ (StandsAt st.history b.place (Looked b.call b.stamp b.op b.content b.answer) × (0 < b.place)) → a ≡ b
+      by_kind : ((u : Update) × In st.begun u × Complete V st u.stamp × (a ≡ update_slot u)) ⊎ (StandsAt st.history a.place (ReadOnly a.call a.stamp a.op a.content a.answer) × (0 < a.place)) →
+          ((u : Update) × In st.begun u × Complete V st u.stamp × (b ≡ update_slot u)) ⊎ (StandsAt st.history b.place (ReadOnly b.call b.stamp b.op b.content b.answer) × (0 < b.place)) → a ≡ b
       by_kind (inl x) (inl y) =
           let same = parts.once x.0 y.0 x.1 y.1 (sym (ap (λ (z : Slot). z.stamp) x.3) ∙ (e ∙ ap (λ (z : Slot). z.stamp) y.3)) in
           x.3 ∙ (ap update_slot same ∙ sym y.3)
@@ -262,10 +262,10 @@ module _ (V : ℕ → List ℕ) (st : State) (parts : Parts V st) where
     sorted = sorted_slots all_slots;
     update = λ s h is. ⊎_elim
         (λ (x : (u : Update) × In st.begun u × Complete V st u.stamp × (s ≡ update_slot u)). x)
-        (λ (y : StandsAt st.history s.place (Looked s.call s.stamp s.op s.content s.answer) × (0 < s.place)). absurd (omega (arith, y.1))) (which s (sorted_in all_slots s h));
+        (λ (y : StandsAt st.history s.place (ReadOnly s.call s.stamp s.op s.content s.answer) × (0 < s.place)). absurd (omega (arith, y.1))) (which s (sorted_in all_slots s h));
     look = λ s h pos. ⊎_elim
         (λ (x : (u : Update) × In st.begun u × Complete V st u.stamp × (s ≡ update_slot u)). let z = ap (λ (z : Slot). z.place) x.3 in absurd (omega arith))
-        (λ (y : StandsAt st.history s.place (Looked s.call s.stamp s.op s.content s.answer) × (0 < s.place)). y.0) (which s (sorted_in all_slots s h));
+        (λ (y : StandsAt st.history s.place (ReadOnly s.call s.stamp s.op s.content s.answer) × (0 < s.place)). y.0) (which s (sorted_in all_slots s h));
     updates = λ u h c. in_sorted all_slots one_slot (update_slot u) (in_left (update_slots V st st.begun) (look_slots st.history) (update_slot u) (updates_in V st st.begun u h c));
     looks = λ k c s op held a h. in_sorted all_slots one_slot _ (in_right (update_slots V st st.begun) (look_slots st.history) _ (looks_in st.history k c s op held a h));
   }

@@ -3,7 +3,7 @@ use Rattle.std.proofs.Common.{◌≡◌, ℕ, true, false, List, [], ◌∷◌, 
 use Rattle.std.proofs.lemmas.Bool.{false≢true}
 use Rattle.hk_register.specs.Machine.{In, Weaker, Mark, Pending, State}
 use Rattle.hk_register.specs.Effects.{Effect, Happens, Has, row_mark}
-use Rattle.hk_register.specs.Effects.Effect.{Begin, TakeInv, AckInv, CounterInv, NoteAck, Settle, FinishValid, FinishInvalid, TakeVal, KeepVal, StartReplay, Resend, Install, InstallPending, GiveRow, CopyRow, PassRow, CopyValid, GetReady, Look, Refuse, Quiet}
+use Rattle.hk_register.specs.Effects.Effect.{Begin, TakeInv, AckInv, CounterInv, NoteAck, Settle, FinishValid, FinishInvalid, TakeVal, KeepVal, StartReplay, Resend, Install, InstallPending, GiveRow, CopyRow, PassRow, CopyValid, GetReady, Serve, Refuse, Quiet}
 use Rattle.hk_register.specs.Parts.{Parts, NodeOk, MarkOk}
 use Rattle.hk_register.specs.Calls.{CallParts}
 use Rattle.hk_register.specs.Runs.{Step, Run, last, Reached, is_in, founder, absent, start}
@@ -36,7 +36,7 @@ effect_kept V old new parts (CopyRow n m s kind content valid) happens = copy_ro
 effect_kept V old new parts (PassRow n m s kind content valid) happens = pass_row_kept V old new parts n m s kind content valid happens.allowed.0 happens.allowed.1 happens.allowed.2 happens.change
 effect_kept V old new parts (CopyValid n m s kind content) happens = copy_valid_kept V old new parts n m s kind content happens.allowed.0 happens.allowed.1 happens.allowed.2 happens.change
 effect_kept V old new parts (GetReady n) happens = get_ready_kept V old new parts n happens.allowed.0 happens.allowed.1 happens.allowed.2 happens.change
-effect_kept V old new parts (Look n call op answer) happens = P.look_kept V old new parts n call op answer happens.allowed.0 happens.allowed.1 happens.allowed.2 happens.allowed.3 happens.change
+effect_kept V old new parts (Serve n call op answer) happens = P.look_kept V old new parts n call op answer happens.allowed.0 happens.allowed.1 happens.allowed.2 happens.allowed.3 happens.change
 effect_kept V old new parts (Refuse n call op answer) happens = P.refuse_kept V old new parts n call op answer happens.change
 effect_kept V old new parts (Quiet n) happens = P.quiet_kept V old new parts n happens.change
 

@@ -10,7 +10,7 @@ use Rattle.hk_history.specs.declared.event.Event.TheVariants.{Call, Reply}
 use Rattle.hk_history.specs.History.{answer_of, is_call, is_reply, is_answered}
 use Rattle.hk_history.specs.Legal.{is_entry, Timely}
 use Rattle.hk_register.specs.Machine.{In, Item, State, call_of}
-use Rattle.hk_register.specs.Machine.Item.{Called, Answered, Dropped, Looked, Missed}
+use Rattle.hk_register.specs.Machine.Item.{Called, Answered, Dropped, ReadOnly, Rejected}
 use Rattle.hk_register.specs.Parts.{Parts, TimelyAfter}
 use Rattle.hk_register.specs.Calls.{IsStart, IsReply, CallParts}
 use Rattle.hk_register.specs.Printed.{Slot, entries, Below, Sorted, update_slot, StandsAt, IsPrinted, item_events, events_of}
@@ -33,15 +33,15 @@ no_reply (Reply c a ∷ xs) m none e h = by_test (eqb c.0 m) refl none (no_reply
 
 first_call : (x : Item) → IsStart x → (op : Op) × (more : List Event) × (item_events x ≡ Call (record { 0 = call_of x }) op ∷ more)
 first_call (Called c s op) st = (op, [], refl)
-first_call (Looked c s op held a) st = (op, Reply (record { 0 = c }) a ∷ [], refl)
-first_call (Missed c op a) st = (op, Reply (record { 0 = c }) a ∷ [], refl)
+first_call (ReadOnly c s op held a) st = (op, Reply (record { 0 = c }) a ∷ [], refl)
+first_call (Rejected c op a) st = (op, Reply (record { 0 = c }) a ∷ [], refl)
 first_call (Answered c s a) st = absurd st
 first_call (Dropped c s a) st = absurd st
 
 is_reply_of : (i : Item) (a : Answer) → AnswerIn i a → IsReply i
 is_reply_of (Called c s op) o e = absurd e
-is_reply_of (Looked c s op held a) o e = tt
-is_reply_of (Missed c op a) o e = tt
+is_reply_of (ReadOnly c s op held a) o e = tt
+is_reply_of (Rejected c op a) o e = tt
 is_reply_of (Answered c s a) o e = tt
 is_reply_of (Dropped c s a) o e = tt
 
@@ -71,10 +71,10 @@ slot_first (u ∷ us) sorted own a b (inr ka) (inr kb) below =
 module _ (V : ℕ → List ℕ) where
   timely_rest : (x : Item) (items : List Item) → TimelyAfter V (x ∷ items) → TimelyAfter V items
   timely_rest (Called c s op) items t = t.1
-  timely_rest (Looked c s op held a) items t = t.1
+  timely_rest (ReadOnly c s op held a) items t = t.1
   timely_rest (Answered c s a) items t = t
   timely_rest (Dropped c s a) items t = t
-  timely_rest (Missed c op a) items t = t
+  timely_rest (Rejected c op a) items t = t
 
   -- the reply stands among what is older than the call
   record Earlier (items : List Item) (j : Item) (m : ℕ) : Type 0 where
@@ -110,7 +110,7 @@ module _ (V : ℕ → List ℕ) where
 module _ (V : ℕ → List ℕ) (st : State) (parts : Parts V st) (cp : CallParts st) (slots : List Slot) (pr : IsPrinted V st slots) where
   -- where an answered slot's reply stands among older items
   abbrev Where : List Item → Slot → Type 0
-  Where older a = (((c : ℕ) × (x : Answer) × In older (Answered c a.stamp x)) ⊎ ((c : ℕ) × (op : Op) × (held : Option Content) × (x : Answer) × In older (Looked c a.stamp op held x))) × (a.place ≤ length older)
+  Where older a = (((c : ℕ) × (x : Answer) × In older (Answered c a.stamp x)) ⊎ ((c : ℕ) × (op : Op) × (held : Option Content) × (x : Answer) × In older (ReadOnly c a.stamp op held x))) × (a.place ≤ length older)
 
   at_place : (items : List Item) (i : Item) → In items i → (k : ℕ) × StandsAt items k i
   at_place [] i h = absurd h
@@ -128,26 +128,26 @@ module _ (V : ℕ → List ℕ) (st : State) (parts : Parts V st) (cp : CallPart
       let stamp : a.stamp ≡ s = ap (λ (y : Slot). y.stamp) same ∙ w.3 in
       let place : a.place ≡ 0 = ap (λ (y : Slot). y.place) same in
       (inl (c, x, subst (λ (t : ℕ). In older (Answered c t x)) (sym stamp) h), omega arith)
-  place_of a mine told older within (Looked c s op held x) h reply call =
-      let p = at_place older (Looked c s op held x) h in
-      let w = pr.looks p.0 c s op held x (within p.0 (Looked c s op held x) p.1) in
+  place_of a mine told older within (ReadOnly c s op held x) h reply call =
+      let p = at_place older (ReadOnly c s op held x) h in
+      let w = pr.looks p.0 c s op held x (within p.0 (ReadOnly c s op held x) p.1) in
       let same : a ≡ look_slot p.0 c s op held x = own_slot V st parts cp slots pr a (look_slot p.0 c s op held x) mine w (sym call) in
       let stamp : a.stamp ≡ s = ap (λ (y : Slot). y.stamp) same in
       let place : a.place ≡ p.0 = ap (λ (y : Slot). y.place) same in
-      let low = place_within older p.0 (Looked c s op held x) p.1 in
-      (inr (c, op, held, x, subst (λ (t : ℕ). In older (Looked c t op held x)) (sym stamp) h), omega arith)
+      let low = place_within older p.0 (ReadOnly c s op held x) p.1 in
+      (inr (c, op, held, x, subst (λ (t : ℕ). In older (ReadOnly c t op held x)) (sym stamp) h), omega arith)
   place_of a mine told older within (Dropped c s x) h reply call =
       let p = at_place older (Dropped c s x) h in
       let there = stands_in st.history p.0 (Dropped c s x) (within p.0 (Dropped c s x) p.1) in
       let is = answer_is st.history cp.replies (Dropped c s x) x there refl in
       let told' : is_answered (Some x) ≡ true = subst (λ (o : Option Answer). is_answered o ≡ true) (subst (λ (n : ℕ). answer_of (events_of st.history) n ≡ Some x) call is) told in
       absurd (unlike x told' (cp.items (Dropped c s x) there).1)
-  place_of a mine told older within (Missed c op x) h reply call =
-      let p = at_place older (Missed c op x) h in
-      let there = stands_in st.history p.0 (Missed c op x) (within p.0 (Missed c op x) p.1) in
-      let is = answer_is st.history cp.replies (Missed c op x) x there refl in
+  place_of a mine told older within (Rejected c op x) h reply call =
+      let p = at_place older (Rejected c op x) h in
+      let there = stands_in st.history p.0 (Rejected c op x) (within p.0 (Rejected c op x) p.1) in
+      let is = answer_is st.history cp.replies (Rejected c op x) x there refl in
       let told' : is_answered (Some x) ≡ true = subst (λ (o : Option Answer). is_answered o ≡ true) (subst (λ (n : ℕ). answer_of (events_of st.history) n ≡ Some x) call is) told in
-      absurd (false≢true (sym (answered_not_void x told') ∙ cp.items (Missed c op x) there))
+      absurd (false≢true (sym (answered_not_void x told') ∙ cp.items (Rejected c op x) there))
 
   stands_below : (a b : Slot) → In slots a → In slots b → is_answered (answer_of (events_of st.history) a.call) ≡ true →
       position_or_len (is_reply a.call) (events_of st.history) < position_or_len (is_call b.call) (events_of st.history) → Below a b
@@ -160,16 +160,16 @@ module _ (V : ℕ → List ℕ) (st : State) (parts : Parts V st) (cp : CallPart
       let w = place_of a ha told e.older e.within e.reply e.there e.replies e.of_call in
       inl (⊎_elim
       (λ (x : (c : ℕ) × (x : Answer) × In e.older (Answered c a.stamp x)). let l = e.timely.0.answered x.0 a.stamp x.1 x.2 in omega arith)
-      (λ (x : (c : ℕ) × (op : Op) × (held : Option Content) × (x : Answer) × In e.older (Looked c a.stamp op held x)). let l = e.timely.0.looked x.0 a.stamp x.1 x.2 x.3 x.4 in omega arith) w.0))
+      (λ (x : (c : ℕ) × (op : Op) × (held : Option Content) × (x : Answer) × In e.older (ReadOnly c a.stamp op held x)). let l = e.timely.0.looked x.0 a.stamp x.1 x.2 x.3 x.4 in omega arith) w.0))
       (λ (pos : 0 < b.place).
-      let j = Looked b.call b.stamp b.op b.content b.answer in
+      let j = ReadOnly b.call b.stamp b.op b.content b.answer in
       let at = pr.look b hb pos in
       let e = earlier V st.history parts.timely [] j (stands_in st.history b.place j at) tt a.call (rw (append-nil (events_of st.history)) before) in
       let w = place_of a ha told e.older e.within e.reply e.there e.replies e.of_call in
       let place : b.place ≡ length e.older + 1 = one_place st.history cp.starts b.place (length e.older + 1) j tt at e.place in
       let upto : a.stamp ≤ b.stamp = ⊎_elim
       (λ (x : (c : ℕ) × (x : Answer) × In e.older (Answered c a.stamp x)). e.timely.0.answered x.0 a.stamp x.1 x.2)
-      (λ (x : (c : ℕ) × (op : Op) × (held : Option Content) × (x : Answer) × In e.older (Looked c a.stamp op held x)). e.timely.0.looked x.0 a.stamp x.1 x.2 x.3 x.4) w.0 in
+      (λ (x : (c : ℕ) × (op : Op) × (held : Option Content) × (x : Answer) × In e.older (ReadOnly c a.stamp op held x)). e.timely.0.looked x.0 a.stamp x.1 x.2 x.3 x.4) w.0 in
       let low = w.1 in
       ⊎_elim (λ (l : a.stamp < b.stamp). inl l) (λ (l : b.stamp ≤ a.stamp). inr (omega arith, omega arith)) (cases_lt a.stamp b.stamp)) (eq-zero-or-pos b.place)
 

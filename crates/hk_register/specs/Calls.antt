@@ -3,22 +3,22 @@ use Rattle.std.specs.Prelude.{◌≡◌, ◌≢◌, ℕ, IsTrue, List, [], ◌�
 use Rattle.hk_base.specs.declared.call.Reply.{Reply}
 use Rattle.hk_history.specs.History.{is_void, is_unsure, is_answered}
 use Rattle.hk_register.specs.Machine.{In, Pending, Update, Item, State, call_of}
-use Rattle.hk_register.specs.Machine.Item.{Called, Answered, Dropped, Looked, Missed}
+use Rattle.hk_register.specs.Machine.Item.{Called, Answered, Dropped, ReadOnly, Rejected}
 use Rattle.hk_register.specs.Effects.{Has}
 
 -- the first item of a call
 abbrev pub IsStart : Item → Type 0
 IsStart (Called c s op) = ⊤
-IsStart (Looked c s op held a) = ⊤
-IsStart (Missed c op a) = ⊤
+IsStart (ReadOnly c s op held a) = ⊤
+IsStart (Rejected c op a) = ⊤
 IsStart (Answered c s a) = ⊥
 IsStart (Dropped c s a) = ⊥
 
 -- an item that replies
 abbrev pub IsReply : Item → Type 0
 IsReply (Called c s op) = ⊥
-IsReply (Looked c s op held a) = ⊤
-IsReply (Missed c op a) = ⊤
+IsReply (ReadOnly c s op held a) = ⊤
+IsReply (Rejected c op a) = ⊤
 IsReply (Answered c s a) = ⊤
 IsReply (Dropped c s a) = ⊤
 
@@ -37,8 +37,8 @@ abbrev pub CallItem : State → Item → Type 0
 CallItem st (Called c s op) = (u : Update) × In st.begun u × (u.call ≡ c) × (u.stamp ≡ s) × (u.op ≡ op)
 CallItem st (Answered c s a) = (u : Update) × In st.begun u × (u.call ≡ c) × (u.stamp ≡ s) × (u.answer ≡ a)
 CallItem st (Dropped c s a) = ((u : Update) × In st.begun u × (u.call ≡ c)) × IsTrue (is_unsure (Some a))
-CallItem st (Looked c s op held a) = IsTrue (is_answered (Some a))
-CallItem st (Missed c op a) = IsTrue (is_void (Some a))
+CallItem st (ReadOnly c s op held a) = IsTrue (is_answered (Some a))
+CallItem st (Rejected c op a) = IsTrue (is_void (Some a))
 
 -- a call starts once, before all else of it, and has one reply at most
 abbrev pub OneStart : List Item → Type 0

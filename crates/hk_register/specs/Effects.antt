@@ -19,7 +19,7 @@ use Rattle.hk_history.specs.History.{is_void, is_unsure, is_answered}
 use Rattle.hk_register.specs.Machine.{call_of, In, Weaker, Marked, Note, Pending, Phase, Node, Letter, Mark, Update, Item, State}
 use Rattle.hk_register.specs.Machine.Phase.{Valid, Invalid, Write, Replay, Trans}
 use Rattle.hk_register.specs.Machine.Letter.{Inv, Ack, Val, Give}
-use Rattle.hk_register.specs.Machine.Item.{Called, Answered, Looked, Missed, Dropped}
+use Rattle.hk_register.specs.Machine.Item.{Called, Answered, ReadOnly, Rejected, Dropped}
 
 -- The effects. n is always the node that acts, m the sender of the letter that it takes.
 pub data Effect : Type 0 where
@@ -42,7 +42,7 @@ pub data Effect : Type 0 where
   PassRow : (n m s : ℕ) → (kind : Kind) → (content : Option Content) → (valid : Bool) → Effect
   CopyValid : (n m s : ℕ) → (kind : Kind) → (content : Option Content) → Effect
   GetReady : (n : ℕ) → Effect
-  Look : (n call : ℕ) → (op : Op) → (answer : Answer) → Effect
+  Serve : (n call : ℕ) → (op : Op) → (answer : Answer) → Effect
   Refuse : (n call : ℕ) → (op : Op) → (answer : Answer) → Effect
   Quiet : (n : ℕ) → Effect
 
@@ -273,10 +273,10 @@ done st (CopyValid n m s kind content) = alters n (record (st.node n) { copied =
 -- A joiner that has copied every key is a member like the others.
 done st (GetReady n) = marks_row n (record (st.node n) { ready = true }) []
 -- HRead, and any call that changes nothing: it is answered from a Valid row, at once and with no letter.
-done st (Look n call op answer) = tells n (st.node n) (Looked call (st.node n).stamp op (st.node n).content answer)
+done st (Serve n call op answer) = tells n (st.node n) (ReadOnly call (st.node n).stamp op (st.node n).content answer)
 -- A call is refused with nothing begun: the key is not Valid, the lease may be over, or the versions end. In Hermes
 -- the call is stalled.
-done st (Refuse n call op answer) = tells n (st.node n) (Missed call op answer)
+done st (Refuse n call op answer) = tells n (st.node n) (Rejected call op answer)
 -- Nothing: a clock, a lease, a crash, a letter that is dropped, an event of another key.
 done st (Quiet n) = alters n (st.node n)
 
@@ -333,7 +333,7 @@ module _ (V : ℕ → List ℕ) where
       In st.letters (Give m (st.node n).epoch s kind content true) × (1 ≤ (st.node n).epoch) × (s ≡ (st.node n).stamp)
   Allowed st (GetReady n) = (1 ≤ (st.node n).epoch) × ((st.node n).copied ≡ true) × IsIdle (st.node n).phase
   -- ready, leased, Valid: the operation changes nothing, the call is new
-  Allowed st (Look n call op answer) =
+  Allowed st (Serve n call op answer) =
       ((st.node n).ready ≡ true) × ((st.node n).phase ≡ Valid) × Leased st n
       × Stays op (register_of (st.node n).content (st.node n).stamp) answer × Fresh st call × IsTrue (is_answered (Some answer))
   Allowed st (Refuse n call op answer) = IsTrue (is_void (Some answer)) × Fresh st call

@@ -8,7 +8,7 @@ use Rattle.hk_register.specs.Machine.Phase.{Valid}
 use Rattle.hk_register.specs.Machine.Item.{Answered}
 use Rattle.hk_register.specs.Facts.{Covers, SettledIn, Complete, Rests, PassesOver}
 use Rattle.hk_register.specs.Effects.{Effect, Happens, Allowed}
-use Rattle.hk_register.specs.Effects.Effect.{Begin, Look}
+use Rattle.hk_register.specs.Effects.Effect.{Begin, Serve}
 use Rattle.hk_register.specs.Runs.{Reached}
 use Rattle.hk_register.specs.Parts.{Parts}
 use Rattle.hk_register.specs.Calls.{CallParts}
@@ -59,7 +59,7 @@ OnlyRmwLeavesNothing = (V : ℕ → List ℕ) (st : State) → Reached V st → 
 -- the node at which an effect serves a call, if it does
 abbrev pub served_at : Effect → Option ℕ
 served_at (Begin n u) = Some n
-served_at (Look n call op answer) = Some n
+served_at (Serve n call op answer) = Some n
 served_at e = None
 
 -- wherever a call is served, the row is not below anything complete

@@ -97,15 +97,15 @@ pub data Item : Type 0 where
   Called : (call stamp : ℕ) → (op : Op) → Item
   Answered : (call stamp : ℕ) → (answer : Answer) → Item
   Dropped : (call stamp : ℕ) → (answer : Answer) → Item
-  Looked : (call stamp : ℕ) → (op : Op) → (content : Option Content) → (answer : Answer) → Item
-  Missed : (call : ℕ) → (op : Op) → (answer : Answer) → Item
+  ReadOnly : (call stamp : ℕ) → (op : Op) → (content : Option Content) → (answer : Answer) → Item
+  Rejected : (call : ℕ) → (op : Op) → (answer : Answer) → Item
 
 abbrev pub call_of : Item → ℕ
 call_of (Item.Called c s op) = c
 call_of (Item.Answered c s a) = c
 call_of (Item.Dropped c s a) = c
-call_of (Item.Looked c s op held a) = c
-call_of (Item.Missed c op a) = c
+call_of (Item.ReadOnly c s op held a) = c
+call_of (Item.Rejected c op a) = c
 
 -- One key of the whole group. Letters, marks, updates and the history only grow, the newest first: what was sent once
 -- may come again, and what is lost is just never taken.

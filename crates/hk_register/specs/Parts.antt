@@ -9,7 +9,7 @@ use Rattle.hk_base.specs.declared.stamp.Kind.{Kind}
 use Rattle.hk_base.specs.declared.stamp.Kind.TheVariants.{Write as Plain, Rmw}
 use Rattle.hk_register.specs.Machine.Phase.{Valid, Invalid, Write, Replay, Trans}
 use Rattle.hk_register.specs.Machine.Letter.{Inv, Ack, Val, Give}
-use Rattle.hk_register.specs.Machine.Item.{Called, Answered, Looked, Missed, Dropped}
+use Rattle.hk_register.specs.Machine.Item.{Called, Answered, ReadOnly, Rejected, Dropped}
 use Rattle.hk_register.specs.Facts.{Covers, Exact, ReadyCovers, Complete, Settled, Rests, Bound, PassesOver}
 use Rattle.hk_register.specs.Effects.{row_mark, next_stamp, IsBlind, Changes, Stays, register_of}
 
@@ -124,28 +124,28 @@ module _ (V : ℕ → List ℕ) where
   abbrev pub ItemOk : State → Item → Type 0
   ItemOk st (Called c s op) = ⊤
   ItemOk st (Answered c s a) = Complete V st s × (1 ≤ s)
-  ItemOk st (Looked c s op content a) = Rests V st s × (kind : Kind) × Holds st s kind content × Stays op (register_of content s) a
-  ItemOk st (Missed c op a) = ⊤
+  ItemOk st (ReadOnly c s op content a) = Rests V st s × (kind : Kind) × Holds st s kind content × Stays op (register_of content s) a
+  ItemOk st (Rejected c op a) = ⊤
   ItemOk st (Dropped c s a) = ⊤
 
   -- every stamp at which a call was answered is below this one
   pub record AllBelow (items : List Item) (b : ℕ) : Type 0 where
     pub answered : (c a : ℕ) (x : Answer) → In items (Answered c a x) → a < b
-    pub looked : (c a : ℕ) (op : Op) (held : Option Content) (x : Answer) → In items (Looked c a op held x) → a < b
+    pub looked : (c a : ℕ) (op : Op) (held : Option Content) (x : Answer) → In items (ReadOnly c a op held x) → a < b
 
   -- or not above it
   pub record AllUpTo (items : List Item) (b : ℕ) : Type 0 where
     pub answered : (c a : ℕ) (x : Answer) → In items (Answered c a x) → a ≤ b
-    pub looked : (c a : ℕ) (op : Op) (held : Option Content) (x : Answer) → In items (Looked c a op held x) → a ≤ b
+    pub looked : (c a : ℕ) (op : Op) (held : Option Content) (x : Answer) → In items (ReadOnly c a op held x) → a ≤ b
 
   -- A call that was made after an answer stands above it where it changes the key, and not below it where it does not.
   -- The newest item comes first.
   abbrev pub TimelyAfter : List Item → Type 0
   TimelyAfter [] = ⊤
   TimelyAfter (Called c b op ∷ items) = AllBelow items b × TimelyAfter items
-  TimelyAfter (Looked c b op held x ∷ items) = AllUpTo items b × TimelyAfter items
+  TimelyAfter (ReadOnly c b op held x ∷ items) = AllUpTo items b × TimelyAfter items
   TimelyAfter (Answered c a x ∷ items) = TimelyAfter items
-  TimelyAfter (Missed c op x ∷ items) = TimelyAfter items
+  TimelyAfter (Rejected c op x ∷ items) = TimelyAfter items
   TimelyAfter (Dropped c a x ∷ items) = TimelyAfter items
 
   pub record Parts (st : State) : Type 0 where

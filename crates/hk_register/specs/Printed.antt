@@ -10,7 +10,7 @@ use Rattle.hk_history.specs.declared.event.Event.TheVariants.{Call, Reply}
 use Rattle.hk_history.specs.declared.event.Entry.{Entry}
 use Rattle.hk_history.specs.Legal.{Legal}
 use Rattle.hk_register.specs.Machine.{In, Mark, Update, Item, State}
-use Rattle.hk_register.specs.Machine.Item.{Called, Answered, Dropped, Looked, Missed}
+use Rattle.hk_register.specs.Machine.Item.{Called, Answered, Dropped, ReadOnly, Rejected}
 use Rattle.hk_register.specs.Facts.{Complete}
 use Rattle.hk_register.specs.Runs.{Reached, is_in}
 use Rattle.hk_register.specs.Parts.{Parts}
@@ -21,8 +21,8 @@ abbrev pub item_events : Item → List Event
 item_events (Called c s op) = Call (record { 0 = c }) op ∷ []
 item_events (Answered c s a) = Reply (record { 0 = c }) a ∷ []
 item_events (Dropped c s a) = Reply (record { 0 = c }) a ∷ []
-item_events (Looked c s op held a) = Call (record { 0 = c }) op ∷ Reply (record { 0 = c }) a ∷ []
-item_events (Missed c op a) = Call (record { 0 = c }) op ∷ Reply (record { 0 = c }) a ∷ []
+item_events (ReadOnly c s op held a) = Call (record { 0 = c }) op ∷ Reply (record { 0 = c }) a ∷ []
+item_events (Rejected c op a) = Call (record { 0 = c }) op ∷ Reply (record { 0 = c }) a ∷ []
 
 -- the history, the first event first, from items that are newest first
 abbrev pub events_of : List Item → List Event
@@ -70,9 +70,9 @@ StandsAt (i ∷ items) k j = (j ≡ i) × (k ≡ length items + 1) ⊎ StandsAt 
 pub record IsPrinted (V : ℕ → List ℕ) (st : State) (slots : List Slot) : Type 0 where
   pub sorted : Sorted slots
   pub update : (s : Slot) → In slots s → s.place ≡ 0 → (u : Update) × In st.begun u × Complete V st u.stamp × (s ≡ update_slot u)
-  pub look : (s : Slot) → In slots s → 0 < s.place → StandsAt st.history s.place (Looked s.call s.stamp s.op s.content s.answer)
+  pub look : (s : Slot) → In slots s → 0 < s.place → StandsAt st.history s.place (ReadOnly s.call s.stamp s.op s.content s.answer)
   pub updates : (u : Update) → In st.begun u → Complete V st u.stamp → In slots (update_slot u)
-  pub looks : (k c s : ℕ) (op : Op) (held : Option Content) (a : Answer) → StandsAt st.history k (Looked c s op held a) → In slots (record { stamp = s; place = k; call = c; op = op; content = held; answer = a })
+  pub looks : (k c s : ℕ) (op : Op) (held : Option Content) (a : Answer) → StandsAt st.history k (ReadOnly c s op held a) → In slots (record { stamp = s; place = k; call = c; op = op; content = held; answer = a })
 
 -- Complete, as a test: some ready member's mark of the stamp is in an epoch in which each member has one.
 abbrev pub is_mark : ℕ → ℕ → ℕ → Mark → Bool
@@ -94,11 +94,11 @@ update_slots V st (u ∷ us) = if is_complete V st u.stamp then update_slot u �
 
 abbrev pub look_slots : List Item → List Slot
 look_slots [] = []
-look_slots (Looked c s op held a ∷ items) = record { stamp = s; place = length items + 1; call = c; op = op; content = held; answer = a } ∷ look_slots items
+look_slots (ReadOnly c s op held a ∷ items) = record { stamp = s; place = length items + 1; call = c; op = op; content = held; answer = a } ∷ look_slots items
 look_slots (Called c s op ∷ items) = look_slots items
 look_slots (Answered c s a ∷ items) = look_slots items
 look_slots (Dropped c s a ∷ items) = look_slots items
-look_slots (Missed c op a ∷ items) = look_slots items
+look_slots (Rejected c op a ∷ items) = look_slots items
 
 abbrev pub is_below : Slot → Slot → Bool
 is_below a b = nat_lt a.stamp b.stamp || ((a.stamp == b.stamp) && nat_lt a.place b.place)

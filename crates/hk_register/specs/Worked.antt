@@ -15,7 +15,7 @@ use Rattle.hk_history.specs.declared.event.Entry.{Entry}
 use Rattle.hk_register.specs.Machine.{Note, Pending, Update, Node, State}
 use Rattle.hk_register.specs.Machine.Phase.{Valid, Invalid, Trans}
 use Rattle.hk_register.specs.Effects.{Effect, Happens, Allowed, reply_of}
-use Rattle.hk_register.specs.Effects.Effect.{Begin, TakeInv, AckInv, CounterInv, NoteAck, Settle, FinishValid, FinishInvalid, TakeVal, KeepVal, StartReplay, Resend, Install, InstallPending, GiveRow, CopyRow, PassRow, CopyValid, GetReady, Look, Refuse, Quiet}
+use Rattle.hk_register.specs.Effects.Effect.{Begin, TakeInv, AckInv, CounterInv, NoteAck, Settle, FinishValid, FinishInvalid, TakeVal, KeepVal, StartReplay, Resend, Install, InstallPending, GiveRow, CopyRow, PassRow, CopyValid, GetReady, Serve, Refuse, Quiet}
 use Rattle.hk_register.specs.Runs.{Reached, start, played, Plays}
 use Rattle.hk_register.specs.Printed.{events_of, entries, printed}
 
@@ -142,7 +142,7 @@ aborted_in_effect =
     ∷ Begin 0 (increment 196608 131072 0 2) ∷ Begin 1 (write 262145 131072 1 3 nine)
     ∷ takes 2 (increment 196608 131072 0 2) ∷ TakeInv 0 1 262145 Plain (Some nine) (aborted 4 1)
     ∷ Install 2 3 ∷ StartReplay 2 ∷ Settle 2 (waits_again (increment 196608 131072 0 2) [])
-    ∷ Look 2 4 op.Read (Found six 196608) ∷ []
+    ∷ Serve 2 4 op.Read (Found six 196608) ∷ []
 
 abbrev pub AbortedInEffect : Type 0
 AbortedInEffect =
@@ -181,7 +181,7 @@ joiner =
     ∷ NoteAck 0 1 131072 (waits (write 131072 0 0 1 five) []) (exactly 1 ∷ [])
     ∷ Settle 0 (waits (write 131072 0 0 1 five) (exactly 1 ∷ []))
     ∷ GiveRow 0 true ∷ CopyValid 1 0 131072 Plain (Some five) ∷ PassRow 1 0 131072 Plain (Some five) true
-    ∷ GetReady 1 ∷ Look 1 3 op.Read (Found five 131072) ∷ Quiet 0 ∷ []
+    ∷ GetReady 1 ∷ Serve 1 3 op.Read (Found five 131072) ∷ Quiet 0 ∷ []
 
 abbrev pub Joiner : Type 0
 Joiner =
@@ -205,7 +205,7 @@ deleted_and_added =
     ∷ Begin 0 deletion ∷ takes 1 deletion
     ∷ NoteAck 0 1 196608 (waits deletion []) (exactly 1 ∷ [])
     ∷ Settle 0 (waits deletion (exactly 1 ∷ [])) ∷ TakeVal 1 0
-    ∷ Look 1 3 op.Read Missing
+    ∷ Serve 1 3 op.Read Missing
     ∷ Begin 1 addition ∷ takes 0 addition
     ∷ NoteAck 1 0 262145 (waits addition []) (exactly 0 ∷ [])
     ∷ Settle 1 (waits addition (exactly 0 ∷ [])) ∷ []
@@ -246,6 +246,6 @@ pub record EachHappens : Type 0 where
   pub pass_row : (n m s : ℕ) × (kind : Kind) × (content : Option Content) × (valid : Bool) × Possible (PassRow n m s kind content valid)
   pub copy_valid : (n m s : ℕ) × (kind : Kind) × (content : Option Content) × Possible (CopyValid n m s kind content)
   pub get_ready : (n : ℕ) × Possible (GetReady n)
-  pub look : (n call : ℕ) × (o : Op) × (answer : Answer) × Possible (Look n call o answer)
+  pub look : (n call : ℕ) × (o : Op) × (answer : Answer) × Possible (Serve n call o answer)
   pub refuse : (n call : ℕ) × (o : Op) × (answer : Answer) × Possible (Refuse n call o answer)
   pub quiet : (n : ℕ) × Possible (Quiet n)

@@ -45,7 +45,7 @@ use Rattle.hk_world.specs.World.{WorldState, process_at, put_process, numbered, 
 use Rattle.hk_world.specs.Steps.{Accepted, acting_of, world_step, aside, nothing, live, live_manager, manager_acts, with_manager_step, manager_shown, acts, calls_at, process_ticked, joining, agrees, ticks_at, manager_ticks_at, crashes_at, manager_crashes_at, installs_at, leases_at}
 use Rattle.hk_world.specs.Sound.{IsEvent}
 use Rattle.hk_world.proofs.Viewed.{numbered_holds}
-use Rattle.hk_effects.specs.View.{is_behind, told_at, node_at}
+use Rattle.hk_effects.specs.Projection.{is_behind, told_at, node_at}
 use Rattle.hk_effects.specs.Own.{IsOwn, IsPendingOf}
 use Rattle.hk_effects.proofs.Accepting.{alive, makes, with_processes, with_managers, live_manager_step, makes_manager_step, unmanaged_step, live_step, any_actor_step, any_takes_step, ticks_step, any_tick_step, manager_ticks_step, manager_crashes_step, crashes_step, any_starts_step, changes_step, installs_step, leases_step}
 use Rattle.hk_effects.proofs.Frames.{accepted}

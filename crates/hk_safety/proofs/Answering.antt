@@ -9,19 +9,19 @@ use Rattle.hk_base.specs.declared.call.Reply.{Reply}
 use Rattle.hk_history.specs.declared.event.Event.{Event as Line}
 use Rattle.hk_copy.specs.Batches.{key_cmp}
 use Rattle.hk_world.specs.World.{numbered}
-use Rattle.hk_effects.specs.View.{is_same_key}
+use Rattle.hk_effects.specs.Projection.{is_same_key}
 use Rattle.hk_effects.proofs.Order.{cases_key, same_of, same_not}
-use Rattle.hk_node.specs.declared.report.Former.{Former}
+use Rattle.hk_node.specs.declared.report.PriorRow.{PriorRow}
 use Rattle.hk_world.specs.declared.shown.Acted.{Acted}
-use Rattle.hk_safety.specs.declared.key_run.Turn.{Turn}
+use Rattle.hk_safety.specs.declared.key_run.CallEffect.{CallEffect}
 use Rattle.hk_safety.specs.Run.{with_key}
 use Rattle.hk_safety.specs.Kept.{KeyState, Keys, first_key, find_key, key_at}
-use Rattle.hk_safety.specs.Grown.{IsTaken, IsNamed, AreTold, with_lines, IsFormer, AreFormer, former_tag, is_new_in, is_new}
+use Rattle.hk_safety.specs.Grown.{IsTaken, IsNamed, AreTold, with_lines, IsPrior, ArePrior, prior_tag, is_new_in, is_new}
 use Rattle.hk_safety.specs.Shows.{reply_line, line_at, lines_at}
 use Rattle.hk_safety.proofs.Puts.{turn, IsPutAt, put_there, put_stays, put_here, put_others, found_at, absent_at, not_there, key_kept}
 
 -- ---- a call
-taken_there : (m n : Keys) (key : List ℕ) (k l : KeyState) (turn : Turn) (op : Op) → key_at key m ≡ k → IsPutAt m n key l → IsTaken k l turn op →
+taken_there : (m n : Keys) (key : List ℕ) (k l : KeyState) (turn : CallEffect) (op : Op) → key_at key m ≡ k → IsPutAt m n key l → IsTaken k l turn op →
     IsTaken (key_at key m) (key_at key n) turn op
 taken_there m n key k l turn op was put taken = subst (λ (x : KeyState). IsTaken x (key_at key n) turn op) (sym was)
     (subst (λ (x : KeyState). IsTaken k x turn op) (sym (put_here m n key l put)) taken)
@@ -29,7 +29,7 @@ taken_there m n key k l turn op was put taken = subst (λ (x : KeyState). IsTake
 others_there : (m n : Keys) (key : List ℕ) (l : KeyState) → IsPutAt m n key l → (q : List ℕ) → is_same_key q key ≡ false → key_at q n ≡ key_at q m
 others_there m n key l put q other = put_others m n key l put q (λ (e : q ≡ key). false≢true (sym other ∙ same_of q key e))
 
-pub named_there : (m n : Keys) (key : List ℕ) (k l : KeyState) (turn : Turn) (op : Op) → IsStrictlySortedBy key_cmp (keys_of m) → find_key key m ≡ Some k →
+pub named_there : (m n : Keys) (key : List ℕ) (k l : KeyState) (turn : CallEffect) (op : Op) → IsStrictlySortedBy key_cmp (keys_of m) → find_key key m ≡ Some k →
     keys_of n ≡ keys_of m → IsPutAt m n key l → IsTaken k l turn op → IsNamed m n key turn op
 named_there m n key k l turn op sorted found keys put taken = record {
   keys = keys ∙ sym (key_kept key m sorted (ap is_some found));
@@ -38,7 +38,7 @@ named_there m n key k l turn op sorted found keys put taken = record {
   others = others_there m n key l put;
 }
 
-pub named_first : (m n : Keys) (key : List ℕ) (l : KeyState) (turn : Turn) (op : Op) → find_key key m ≡ None → keys_of n ≡ with_key key (keys_of m) →
+pub named_first : (m n : Keys) (key : List ℕ) (l : KeyState) (turn : CallEffect) (op : Op) → find_key key m ≡ None → keys_of n ≡ with_key key (keys_of m) →
     IsPutAt m n key l → IsTaken first_key l turn op → IsNamed m n key turn op
 named_first m n key l turn op none keys put taken = record {
   keys = keys;
@@ -114,26 +114,26 @@ pub lines_turn : (calls : List (List ℕ)) (rs : List Reply) (i : ℕ) (r : Repl
 lines_turn calls rs i r lt is q = ap (lines_at q calls) (turn rs i r lt is) ∙ lines_more calls (take i rs) r q
 
 -- ---- whether a call's row was another one before
-found_within : (p : Former → Bool) (rows : List Former) (f : Former) → AllByRecursion IsFormer rows → find p rows ≡ Some f → IsFormer f
+found_within : (p : PriorRow → Bool) (rows : List PriorRow) (f : PriorRow) → AllByRecursion IsPrior rows → find p rows ≡ Some f → IsPrior f
 found_within p [] f all e = absurd (false≢true (ap is_some e))
 found_within p (g ∷ rows) f all e = by_test (p g) e (found_within p rows f all.1)
   where
-    by_test : (b : Bool) → cond b (Some g) (find p rows) ≡ Some f → (find p rows ≡ Some f → IsFormer f) → IsFormer f
-    by_test true e more = let same : g ≡ f = cc in subst IsFormer same all.0
+    by_test : (b : Bool) → cond b (Some g) (find p rows) ≡ Some f → (find p rows ≡ Some f → IsPrior f) → IsPrior f
+    by_test true e more = let same : g ≡ f = cc in subst IsPrior same all.0
     by_test false e more = more e
 
-former_rows : (by : Option Acted) (r : Acted) → by ≡ Some r → AreFormer by → AllByRecursion IsFormer r.report.rows
-former_rows by r is all = subst AreFormer is all
+prior_rows : (by : Option Acted) (r : Acted) → by ≡ Some r → ArePrior by → AllByRecursion IsPrior r.report.rows
+prior_rows by r is all = subst ArePrior is all
 
-module _ (by : Option Acted) (r : Acted) (rows : List Former) (key : List ℕ) (is : by ≡ Some r) (same : rows ≡ r.report.rows) where
-  pub former_within : (f : Former) → AreFormer by → Some f ≡ find (λ f. is_same_key key f.key) rows → IsFormer f
-  former_within f all e = found_within (λ f. is_same_key key f.key) r.report.rows f (former_rows by r is all)
+module _ (by : Option Acted) (r : Acted) (rows : List PriorRow) (key : List ℕ) (is : by ≡ Some r) (same : rows ≡ r.report.rows) where
+  pub prior_within : (f : PriorRow) → ArePrior by → Some f ≡ find (λ f. is_same_key key f.key) rows → IsPrior f
+  prior_within f all e = found_within (λ f. is_same_key key f.key) r.report.rows f (prior_rows by r is all)
       (ap (find (λ f. is_same_key key f.key)) (sym same) ∙ sym e)
 
-  found_in : (o : Option Former) → o ≡ find (λ f. is_same_key key f.key) rows → (tag : ℕ) → is_new_in o tag ≡ is_new by key tag
-  found_in o e tag = ap (λ (f : Option Former). is_new_in f tag) (e ∙ ap (find (λ f. is_same_key key f.key)) same) ∙ ap (λ (b : Option Acted). is_new b key tag) (sym is)
+  found_in : (o : Option PriorRow) → o ≡ find (λ f. is_same_key key f.key) rows → (tag : ℕ) → is_new_in o tag ≡ is_new by key tag
+  found_in o e tag = ap (λ (f : Option PriorRow). is_new_in f tag) (e ∙ ap (find (λ f. is_same_key key f.key)) same) ∙ ap (λ (b : Option Acted). is_new b key tag) (sym is)
 
-  pub new_found : (f : Former) (tag t : ℕ) → Some f ≡ find (λ f. is_same_key key f.key) rows → t ≡ former_tag f.row → not (eqb tag t) ≡ is_new by key tag
+  pub new_found : (f : PriorRow) (tag t : ℕ) → Some f ≡ find (λ f. is_same_key key f.key) rows → t ≡ prior_tag f.row → not (eqb tag t) ≡ is_new by key tag
   new_found f tag t e at = ap (λ (n : ℕ). not (eqb tag n)) at ∙ found_in (Some f) e tag
 
   pub new_none : (tag : ℕ) → None ≡ find (λ f. is_same_key key f.key) rows → false ≡ is_new by key tag

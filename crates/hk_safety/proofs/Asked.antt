@@ -15,7 +15,7 @@ use Rattle.hk_safety.specs.Moment.{moment_of}
 use Rattle.hk_safety.specs.Placed.{entry_placed, placed, kept_placed, at_moments, kept_moment}
 use Rattle.hk_safety.proofs.Moments.{placed_whole}
 use Rattle.hk_safety.proofs.Stamped.{told_past, told_kept}
-use Rattle.hk_safety.specs.declared.kept.Unmade.{Unmade}
+use Rattle.hk_safety.specs.declared.kept.StepError.{StepError}
 use Rattle.hk_safety.specs.Noted.{IsMadeBy}
 use Rattle.hk_safety.proofs.Pushed.{made_pushed}
 use Rattle.hk_safety.proofs.KeptOrder.{kept_is_printed}
@@ -80,10 +80,10 @@ module _ (k : KeptState) (run : RunState) (kept : IsKeptOf k run) (key : List �
   moment_past l = told_past run key (run_kept runs key run ok) s l
 
 -- ---- an event that is made
-pub made_then : RunsKeepParts → (n : ℕ) (old new : KeptState) (h : Header) (es es' : List Event) (event : Event) (r : Result Shown Unmade) (shown : Shown) → r ≡ Ok shown → n ≡ length es + 1 →
+pub made_then : RunsKeepParts → (n : ℕ) (old new : KeptState) (h : Header) (es es' : List Event) (event : Event) (r : Result Shown StepError) (shown : Shown) → r ≡ Ok shown → n ≡ length es + 1 →
     IsKeptOf old (record { header = h; events = es }) → IsRun (record { header = h; events = es }) → IsEvent event → IsMadeBy n r old new event → es' ≡ es ++ event ∷ [] →
     IsRun (record { header = h; events = es' }) × IsKeptOf new (record { header = h; events = es' })
 made_then runs n old new h es es' event r shown is counted kept ok event_ok made last =
     let run : RunState = record { header = h; events = es } in
-    let pushed = made_pushed runs n old new run event shown counted kept ok event_ok (subst (λ (q : Result Shown Unmade). IsMadeBy n q old new event) is made) in
+    let pushed = made_pushed runs n old new run event shown counted kept ok event_ok (subst (λ (q : Result Shown StepError). IsMadeBy n q old new event) is made) in
     subst (λ (l : List Event). IsRun (record { header = h; events = l }) × IsKeptOf new (record { header = h; events = l })) (sym last) (pushed.1, pushed.2)

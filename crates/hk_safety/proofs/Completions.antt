@@ -5,7 +5,7 @@ use Rattle.std.specs.List.{list_any, position_or_len}
 use Rattle.std.proofs.lemmas.Bool.{false≢true, eqb-true, eq-eqb, leb-true, le-leb, cases_order, false_from_ne_true}
 use Rattle.hk_register.specs.Machine.{Update}
 use Rattle.hk_register.specs.Printed.{is_complete}
-use Rattle.hk_effects.specs.View.{view}
+use Rattle.hk_effects.specs.Projection.{project}
 use Rattle.hk_effects.specs.Orders.{family}
 use Rattle.hk_safety.specs.Moment.{traces, is_reached, is_completed, MomentsFollowCompletions}
 
@@ -61,5 +61,5 @@ position_or p q r (x ∷ xs) same = ap (λ (t : Bool). cond (not t) (1 + positio
 
 pub moments_follow : MomentsFollowCompletions
 moments_follow run key s = position_or (is_completed key s) (is_reached key (s + 1)) (is_reached key s) (traces run key) (λ t.
-    any_or (λ (u : Update). eqb u.stamp s) (λ (u : Update). nat_le (s + 1) u.stamp) (λ (u : Update). is_complete (family t.world.views) (view key t) u.stamp) (λ (u : Update). nat_le s u.stamp) t.begun
+    any_or (λ (u : Update). eqb u.stamp s) (λ (u : Update). nat_le (s + 1) u.stamp) (λ (u : Update). is_complete (family t.world.views) (project key t) u.stamp) (λ (u : Update). nat_le s u.stamp) t.begun
     (λ u. not_below s u.stamp))

@@ -15,7 +15,7 @@ use Rattle.hk_base.specs.View.{member_numbers}
 use Rattle.hk_key.specs.declared.row.Pending.{Pending as Waits}
 use Rattle.hk_key.specs.declared.row.Row.{Row}
 use Rattle.hk_key.specs.Sound.{IsUpdate}
-use Rattle.hk_node.specs.declared.report.Former.{Former}
+use Rattle.hk_node.specs.declared.report.PriorRow.{PriorRow}
 use Rattle.hk_node.specs.Node.{NodeState, members_of}
 use Rattle.hk_node.specs.Rows.{Rows, find_row, row_at}
 use Rattle.hk_node.specs.Copies.{is_valid}
@@ -26,13 +26,13 @@ use Rattle.hk_register.specs.Machine.{In, Mark}
 use Rattle.hk_register.proofs.Grow.{in_left, in_right}
 use Rattle.hk_register.specs.Printed.{is_mark}
 use Rattle.hk_register.specs.Runs.{is_in}
-use Rattle.hk_effects.specs.View.{is_same_key}
+use Rattle.hk_effects.specs.Projection.{is_same_key}
 use Rattle.hk_effects.proofs.Order.{cases_key, same_of, same_not, row_of_found, row_here, row_next, test_of_below}
 use Rattle.hk_safety.specs.declared.evidence.Cover.{Cover}
 use Rattle.hk_safety.specs.declared.evidence.Evidence.{Evidence}
 use Rattle.hk_safety.specs.declared.key_run.AtStamp.{AtStamp}
 use Rattle.hk_safety.specs.Kept.{KeyState, Keys, covers_in, is_ready_mark, ready_in, at_stamp, find_key, key_at}
-use Rattle.hk_safety.specs.Grown.{IsKnownBy, IsSinceThen, mark_by, with_mark, stamp_in, IsCoveredAt, IsCovered, Touch, tags_at, AreCovered, wait_touches, row_touches, touches_now, former_waits, changed_touches, is_open, AreOpenCovered}
+use Rattle.hk_safety.specs.Grown.{IsKnownBy, IsSinceThen, mark_by, with_mark, stamp_in, IsCoveredAt, IsCovered, Touch, tags_at, AreCovered, wait_touches, row_touches, touches_now, prior_waits, changed_touches, is_open, AreOpenCovered}
 use Rattle.hk_safety.proofs.Puts.{IsPutAt, put_stays, put_here, put_others, found_at, not_there, turn}
 use Rattle.hk_safety.proofs.Known.{TellSame, same_known, shown_known}
 use Rattle.hk_safety.proofs.Since.{since_same, since_both, since_shown}
@@ -53,7 +53,7 @@ module _ (v : View) (c : Cover) where
   covered_nothing old new tags same none = record {
     items = ap (λ (k : KeyState). k.items) same;
     update = λ s. ap (λ (k : KeyState). (at_stamp s k).update) same;
-    looks = λ s. ap (λ (k : KeyState). (at_stamp s k).looks) same;
+    read_only = λ s. ap (λ (k : KeyState). (at_stamp s k).read_only) same;
     known = λ V fits marks s some k.
         subst (λ (b : Bool). IsKnownBy V (with_mark b (mark_by c v s) marks) s (at_stamp s new).evidence) (sym (none s some))
         (subst (λ (j : KeyState). IsKnownBy V marks s (at_stamp s j).evidence) (sym same) k);
@@ -79,7 +79,7 @@ module _ (v : View) (c : Cover) where
   covered_joined old mid new a b first second = record {
     items = second.items ∙ first.items;
     update = λ s. second.update s ∙ first.update s;
-    looks = λ s. second.looks s ∙ first.looks s;
+    read_only = λ s. second.read_only s ∙ first.read_only s;
     known = λ V fits marks s some k.
         subst (λ (x : Bool). IsKnownBy V (with_mark x (mark_by c v s) marks) s (at_stamp s new).evidence) (sym (in_both s a b))
         (with_both V marks s (at_stamp s new).evidence (is_in s a) (is_in s b)
@@ -92,7 +92,7 @@ module _ (v : View) (c : Cover) where
   covered_stamp old new s items at = record {
     items = items;
     update = λ t. update t (eqb t s) refl;
-    looks = λ t. looks t (eqb t s) refl;
+    read_only = λ t. read_only t (eqb t s) refl;
     known = λ V fits marks t some k. known V fits marks t (eqb t s) refl k;
     since = λ t. since t (eqb t s) refl;
   }
@@ -106,9 +106,9 @@ module _ (v : View) (c : Cover) where
       update t true is = subst (λ (u : ℕ). (stamp_in u new.stamps).update ≡ (stamp_in u old.stamps).update) (sym (eqb-true t s is)) at.update
       update t false is = ap (λ (a : AtStamp). a.update) (at.there t is)
 
-      looks : (t : ℕ) (b : Bool) → eqb t s ≡ b → (at_stamp t new).looks ≡ (at_stamp t old).looks
-      looks t true is = subst (λ (u : ℕ). (stamp_in u new.stamps).looks ≡ (stamp_in u old.stamps).looks) (sym (eqb-true t s is)) at.looks
-      looks t false is = ap (λ (a : AtStamp). a.looks) (at.there t is)
+      read_only : (t : ℕ) (b : Bool) → eqb t s ≡ b → (at_stamp t new).read_only ≡ (at_stamp t old).read_only
+      read_only t true is = subst (λ (u : ℕ). (stamp_in u new.stamps).read_only ≡ (stamp_in u old.stamps).read_only) (sym (eqb-true t s is)) at.read_only
+      read_only t false is = ap (λ (a : AtStamp). a.read_only) (at.there t is)
 
       known : (V : ℕ → List ℕ) → member_numbers v.members ≡ V v.epoch → (marks : List Mark) (t : ℕ) (b : Bool) → eqb t s ≡ b →
           IsKnownBy V marks t (at_stamp t old).evidence → IsKnownBy V (with_mark (cond b true false) (mark_by c v t) marks) t (at_stamp t new).evidence
@@ -226,7 +226,7 @@ module _ (v : View) (c : Cover) where
   covered_alike old new a b alike covered = record {
     items = covered.items;
     update = covered.update;
-    looks = covered.looks;
+    read_only = covered.read_only;
     known = λ V fits marks s some k.
         subst (λ (t : Bool). IsKnownBy V (with_mark t (mark_by c v s) marks) s (at_stamp s new).evidence) (sym (alike s)) (covered.known V fits marks s some k);
     since = covered.since;
@@ -273,11 +273,11 @@ module _ (v : View) (c : Cover) (x : NodeState) (key : List ℕ) where
   pub row_missing : (keys : Keys) → find_row key x.rows ≡ None → AreCovered v c keys keys (touches_now x key)
   row_missing keys none = subst (λ (r : Row). AreCovered v c keys keys (row_touches key r)) (sym (row_of_found key x.rows None none)) (are_none v c keys key 0 refl)
 
-pub former_found : (v : View) (c : Cover) (x : NodeState) (rose : Bool) (f : Former) (row : Row) (old mid new : Keys) → rose ≡ true → f.row ≡ Some row →
+pub prior_found : (v : View) (c : Cover) (x : NodeState) (rose : Bool) (f : PriorRow) (row : Row) (old mid new : Keys) → rose ≡ true → f.row ≡ Some row →
     AreCovered v c old mid (touches_now x f.key) → AreCovered v c mid new (wait_touches f.key row.pending) → AreCovered v c old new (changed_touches x rose f)
-former_found v c x rose f row old mid new is found first second =
-    let waits : cond rose (former_waits f.key f.row) [] ≡ wait_touches f.key row.pending =
-    ap (λ (b : Bool). cond b (former_waits f.key f.row) []) is ∙ ap (former_waits f.key) found in
+prior_found v c x rose f row old mid new is found first second =
+    let waits : cond rose (prior_waits f.key f.row) [] ≡ wait_touches f.key row.pending =
+    ap (λ (b : Bool). cond b (prior_waits f.key f.row) []) is ∙ ap (prior_waits f.key) found in
     subst (λ (l : List Touch). AreCovered v c old new (touches_now x f.key ++ l)) (sym waits) (are_joined v c old mid new _ _ first second)
 
 -- ---- the open rows

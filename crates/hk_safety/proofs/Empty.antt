@@ -4,12 +4,12 @@ use Rattle.std.specs.List.{find}
 use Rattle.std.specs.Option.{option_map}
 use Rattle.std.proofs.lemmas.Bool.{eq-eqb, false_from_ne_true}
 use Rattle.hk_register.specs.Machine.{In, Mark, Update, Item}
-use Rattle.hk_register.specs.Machine.Item.{Called, Answered, Dropped, Looked, Missed}
+use Rattle.hk_register.specs.Machine.Item.{Called, Answered, Dropped, ReadOnly, Rejected}
 use Rattle.hk_register.specs.Printed.{events_of}
 use Rattle.hk_register.specs.Facts.{Complete}
 use Rattle.hk_register.specs.Printed.{is_mark}
 use Rattle.hk_register.proofs.Tests.{any_in}
-use Rattle.hk_effects.specs.View.{Trace, view}
+use Rattle.hk_effects.specs.Projection.{Trace, project}
 use Rattle.hk_effects.specs.Orders.{family}
 use Rattle.hk_safety.specs.Kept.{IsKeyOf, first_key, call_of, update_at, looks_at, covers_in, is_ready_mark, ready_in, AreToldBy}
 use Rattle.hk_safety.proofs.Touched.{named_by, ready_by}
@@ -21,7 +21,7 @@ pub record IsEmpty (t : Trace) : Type 0 where
   pub marks : (m : Mark) → In t.marks m → m.stamp ≡ 0
 
 -- so nothing is complete
-not_complete : (V : ℕ → List ℕ) (key : List ℕ) (t : Trace) → IsEmpty t → (s : ℕ) → 1 ≤ s → Complete V (view key t) s → ⊥
+not_complete : (V : ℕ → List ℕ) (key : List ℕ) (t : Trace) → IsEmpty t → (s : ℕ) → 1 ≤ s → Complete V (project key t) s → ⊥
 not_complete V key t none s some (e, c) =
     let r = c.one_ready in
     let zero : r.marked.0.stamp ≡ 0 = none.marks r.marked.0 r.marked.2 in
@@ -46,7 +46,7 @@ pub key_of_empty : (key : List ℕ) (t : Trace) → IsEmpty t → IsKeyOf key fi
 key_of_empty key t none = record {
   items = ap events_of (sym none.history);
   update = λ s. ap (update_at s) (sym none.begun);
-  looks = λ s. ap (looks_at s) (sym none.history);
+  read_only = λ s. ap (looks_at s) (sym none.history);
   known = λ s some. (not_complete (family t.world.views) key t none s some, nobody_told t none s some);
 }
 
@@ -60,8 +60,8 @@ no_items [] e = refl
 no_items (Called c s op ∷ items) e = absurd (not_nil (events_of items) _ _ e)
 no_items (Answered c s a ∷ items) e = absurd (not_nil (events_of items) _ _ e)
 no_items (Dropped c s a ∷ items) e = absurd (not_nil (events_of items) _ _ e)
-no_items (Looked c s op held a ∷ items) e = absurd (not_nil (events_of items) _ _ e)
-no_items (Missed c op a ∷ items) e = absurd (not_nil (events_of items) _ _ e)
+no_items (ReadOnly c s op held a ∷ items) e = absurd (not_nil (events_of items) _ _ e)
+no_items (Rejected c op a ∷ items) e = absurd (not_nil (events_of items) _ _ e)
 
 pub no_updates : (us : List Update) → ((s : ℕ) → None ≡ update_at s us) → us ≡ []
 no_updates [] none = refl

@@ -18,14 +18,14 @@ use Rattle.hk_world.specs.declared.event.Event.{Event}
 use Rattle.hk_world.specs.declared.event.Header.{Header}
 use Rattle.hk_world.specs.declared.refused.Refused.{Refused}
 use Rattle.hk_world.specs.Steps.{Accepted, acting_of, world_step}
-use Rattle.hk_effects.specs.View.{Trace, view, key_node, node_at, told_at, items_of, traced, traced_by}
+use Rattle.hk_effects.specs.Projection.{Trace, project, key_node, node_at, told_at, items_of, traced, traced_by}
 use Rattle.hk_effects.specs.Orders.{family, history_of}
 use Rattle.hk_effects.specs.Runs.{start_trace, IsKept}
 use Rattle.hk_effects.proofs.Legality.{own_agrees}
 use Rattle.hk_safety.specs.declared.evidence.Evidence.{Evidence}
 use Rattle.hk_safety.specs.declared.evidence.Evidence.TheVariants.{Covers}
 use Rattle.hk_safety.specs.declared.evidence.Evidence.TheVariants as E
-use Rattle.hk_safety.specs.declared.key_run.Look.{Look}
+use Rattle.hk_safety.specs.declared.key_run.ReadOnlyCall.{ReadOnlyCall}
 use Rattle.hk_safety.specs.Run.{RunState, world_of, trace_with, trace_from, trace_of}
 use Rattle.hk_safety.specs.Push.{with_event}
 use Rattle.hk_safety.specs.Moment.{traces_after, traces, is_completed, completed_at, replied_at}
@@ -83,25 +83,25 @@ module _ (key : List ℕ) (t : Trace) (kept : IsKept key t) (s : ℕ) (some : 1 
   V = family t.world.views
 
   abbrev is_done : Update → Bool
-  is_done u = eqb u.stamp s && is_complete V (view key t) u.stamp
+  is_done u = eqb u.stamp s && is_complete V (project key t) u.stamp
 
   -- what is complete is so by an update
-  pub completed : Complete V (view key t) s → is_completed key s t ≡ true
+  pub completed : Complete V (project key t) s → is_completed key s t ≡ true
   completed c = ⊎_elim
       (λ (none : s ≡ 0). absurd (omega (arith, none, some)))
       (λ (u : (u : Update) × In t.begun u × (u.stamp ≡ s)). in_any is_done t.begun u.0 u.1
-      (and_from (eqb u.0.stamp s) _ (eq-eqb u.0.stamp s u.2) (is_complete_from V (view key t) u.0.stamp (subst (Complete V (view key t)) (sym u.2) c))))
-      (the_update V (view key t) (kept.parts V (own_agrees t.world kept.own)) s c)
+      (and_from (eqb u.0.stamp s) _ (eq-eqb u.0.stamp s u.2) (is_complete_from V (project key t) u.0.stamp (subst (Complete V (project key t)) (sym u.2) c))))
+      (the_update V (project key t) (kept.parts V (own_agrees t.world kept.own)) s c)
 
-pub complete_of : (key : List ℕ) (t : Trace) (s : ℕ) → is_completed key s t ≡ true → (u : Update) × In t.begun u × (u.stamp ≡ s) × Complete (family t.world.views) (view key t) s
+pub complete_of : (key : List ℕ) (t : Trace) (s : ℕ) → is_completed key s t ≡ true → (u : Update) × In t.begun u × (u.stamp ≡ s) × Complete (family t.world.views) (project key t) s
 complete_of key t s e =
-    let u = any_in (λ (u : Update). eqb u.stamp s && is_complete (family t.world.views) (view key t) u.stamp) t.begun e in
-    let parts = and_parts (eqb u.0.stamp s) (is_complete (family t.world.views) (view key t) u.0.stamp) u.2 in
+    let u = any_in (λ (u : Update). eqb u.stamp s && is_complete (family t.world.views) (project key t) u.stamp) t.begun e in
+    let parts = and_parts (eqb u.0.stamp s) (is_complete (family t.world.views) (project key t) u.0.stamp) u.2 in
     let at = eqb-true u.0.stamp s parts.0 in
-    (u.0, u.1, at, subst (Complete (family t.world.views) (view key t)) at (complete_is (family t.world.views) (view key t) u.0.stamp parts.1))
+    (u.0, u.1, at, subst (Complete (family t.world.views) (project key t)) at (complete_is (family t.world.views) (project key t) u.0.stamp parts.1))
 
 since_next : (run : RunState) (key : List ℕ) (event : Event) → IsKept key (trace_of key (with_event run event)) → (s : ℕ) → 1 ≤ s → (old new : Evidence) → IsSince run key s old →
-    IsSinceThen (length run.events + 1) old new → IsKnown (family (trace_of key (with_event run event)).world.views) (view key (trace_of key (with_event run event))) s new →
+    IsSinceThen (length run.events + 1) old new → IsKnown (family (trace_of key (with_event run event)).world.views) (project key (trace_of key (with_event run event))) s new →
     IsSince (with_event run event) key s new
 since_next run key event kept s some (E.Complete at) new was same known = subst (IsSince (with_event run event) key s) (sym same) (
   place_stays run key event (is_completed key s) (subst (λ (n : ℕ). n ≤ length run.events) (sym was.0) was.1) ∙ was.0,
@@ -172,13 +172,13 @@ module _ (run : RunState) (key : List ℕ) (event : Event) (a : Accepted) (e : w
   looks_said : (s : ℕ) → calls_in (goes.looked s).more ≡ looks_at s longer.0
   looks_said s =
       let added = goes.looked s in
-      append_cancel_left (calls_in (at_stamp s old).looks) (calls_in added.more) (looks_at s longer.0)
-      (sym (map-append (λ (l : Look). l.call) (at_stamp s old).looks added.more) ∙ ap calls_in (sym added.same) ∙ is.looks s ∙ ap (looks_at s) longer.1
-      ∙ looks_append s longer.0 t.history ∙ ap (λ (l : List CallNo). l ++ looks_at s longer.0) (sym (was.looks s)))
+      append_cancel_left (calls_in (at_stamp s old).read_only) (calls_in added.more) (looks_at s longer.0)
+      (sym (map-append (λ (l : ReadOnlyCall). l.call) (at_stamp s old).read_only added.more) ∙ ap calls_in (sym added.same) ∙ is.read_only s ∙ ap (looks_at s) longer.1
+      ∙ looks_append s longer.0 t.history ∙ ap (λ (l : List CallNo). l ++ looks_at s longer.0) (sym (was.read_only s)))
 
-  look_now : (s : ℕ) (l : Look) → In (goes.looked s).more l → IsRepliedAt (with_event run event) key l
+  look_now : (s : ℕ) (l : ReadOnlyCall) → In (goes.looked s).more l → IsRepliedAt (with_event run event) key l
   look_now s l h =
-      let there : In (looks_at s longer.0) l.call = subst (λ (cs : List CallNo). In cs l.call) (looks_said s) (in_map (λ (l : Look). l.call) (goes.looked s).more l h) in
+      let there : In (looks_at s longer.0) l.call = subst (λ (cs : List CallNo). In cs l.call) (looks_said s) (in_map (λ (l : ReadOnlyCall). l.call) (goes.looked s).more l h) in
       let by = looked_is s longer.0 l.call there in
       let one : OneReply (longer.0 ++ t.history) = subst OneReply longer.1 kept.calls.replies in
       let none : has_reply l.call.0 t ≡ false = false_from_ne_true (has_reply l.call.0 t) (λ e.
@@ -192,7 +192,7 @@ module _ (run : RunState) (key : List ℕ) (event : Event) (a : Accepted) (e : w
         omega (arith, at, long),
       )
 
-  look_before : (l : Look) → IsRepliedAt run key l → IsRepliedAt (with_event run event) key l
+  look_before : (l : ReadOnlyCall) → IsRepliedAt run key l → IsRepliedAt (with_event run event) key l
   look_before l (at, within) = (
     place_stays run key event (has_reply l.call.0) (subst (λ (n : ℕ). n ≤ length run.events) (sym at) within) ∙ at,
     let long = one_more run event in omega (arith, within, long),
@@ -203,8 +203,8 @@ module _ (run : RunState) (key : List ℕ) (event : Event) (a : Accepted) (e : w
     since = λ s some. since_next run key event kept s some (at_stamp s old).evidence (at_stamp s new).evidence (had.since s some) (goes.since s) (is.known s some);
     replied = λ s l h.
         let added = goes.looked s in
-        ⊎_elim (λ (k : In (at_stamp s old).looks l). look_before l (had.replied s l k)) (look_now s l)
-        (in_either (at_stamp s old).looks added.more l (subst (λ (ls : List Look). In ls l) added.same h));
+        ⊎_elim (λ (k : In (at_stamp s old).read_only l). look_before l (had.replied s l k)) (look_now s l)
+        (in_either (at_stamp s old).read_only added.more l (subst (λ (ls : List ReadOnlyCall). In ls l) added.same h));
   }
 
 -- ---- no events

@@ -10,7 +10,7 @@ use Rattle.hk_register.specs.Printed.{is_complete}
 use Rattle.hk_register.proofs.Tests.{any_in, in_any}
 use Rattle.hk_world.specs.declared.event.Event.{Event}
 use Rattle.hk_world.specs.Steps.{world_step}
-use Rattle.hk_effects.specs.View.{Trace, view}
+use Rattle.hk_effects.specs.Projection.{Trace, project}
 use Rattle.hk_effects.specs.Orders.{family}
 use Rattle.hk_effects.specs.Runs.{start_trace}
 use Rattle.hk_safety.specs.Run.{RunState, trace_with, trace_from, trace_of}
@@ -39,17 +39,17 @@ first_within p run key e =
 
 -- ---- a stamp that is reached
 abbrev at_least : List ℕ → ℕ → Trace → Update → Bool
-at_least key s t u = nat_le s u.stamp && is_complete (family t.world.views) (view key t) u.stamp
+at_least key s t u = nat_le s u.stamp && is_complete (family t.world.views) (project key t) u.stamp
 
 reached_from : (key : List ℕ) (s : ℕ) (t : Trace) → IsReached key s t → is_reached key s t ≡ true
 reached_from key s t r =
-    in_any (at_least key s t) t.begun r.0 r.2.0 (and_from (nat_le s r.0.stamp) _ (le-leb s r.0.stamp r.1) (is_complete_from (family t.world.views) (view key t) r.0.stamp r.2.1))
+    in_any (at_least key s t) t.begun r.0 r.2.0 (and_from (nat_le s r.0.stamp) _ (le-leb s r.0.stamp r.1) (is_complete_from (family t.world.views) (project key t) r.0.stamp r.2.1))
 
 reached_is : (key : List ℕ) (s : ℕ) (t : Trace) → is_reached key s t ≡ true → IsReached key s t
 reached_is key s t e =
     let u = any_in (at_least key s t) t.begun e in
-    let both = and_parts (nat_le s u.0.stamp) (is_complete (family t.world.views) (view key t) u.0.stamp) u.2 in
-    (u.0, leb-true s u.0.stamp both.0, (u.1, complete_is (family t.world.views) (view key t) u.0.stamp both.1))
+    let both = and_parts (nat_le s u.0.stamp) (is_complete (family t.world.views) (project key t) u.0.stamp) u.2 in
+    (u.0, leb-true s u.0.stamp both.0, (u.1, complete_is (family t.world.views) (project key t) u.0.stamp both.1))
 
 pub moments_first : MomentsAreFirst
 moments_first run key s r =
@@ -72,13 +72,13 @@ moments_first run key s r =
 -- ---- a stamp whose own update is complete
 completed_from : (key : List ℕ) (s : ℕ) (t : Trace) → IsCompleted key s t → is_completed key s t ≡ true
 completed_from key s t c =
-    in_any (λ (u : Update). eqb u.stamp s && is_complete (family t.world.views) (view key t) u.stamp) t.begun c.0 c.2.0
-    (and_from (eqb c.0.stamp s) _ (eq-eqb c.0.stamp s c.1) (is_complete_from (family t.world.views) (view key t) c.0.stamp c.2.1))
+    in_any (λ (u : Update). eqb u.stamp s && is_complete (family t.world.views) (project key t) u.stamp) t.begun c.0 c.2.0
+    (and_from (eqb c.0.stamp s) _ (eq-eqb c.0.stamp s c.1) (is_complete_from (family t.world.views) (project key t) c.0.stamp c.2.1))
 
 completed_is : (key : List ℕ) (s : ℕ) (t : Trace) → is_completed key s t ≡ true → IsCompleted key s t
 completed_is key s t e =
     let u = complete_of key t s e in
-    (u.0, u.2, (u.1, subst (Complete (family t.world.views) (view key t)) (sym u.2) u.3))
+    (u.0, u.2, (u.1, subst (Complete (family t.world.views) (project key t)) (sym u.2) u.3))
 
 moments_told : (run : RunState) (key : List ℕ) (s : ℕ) → IsToldOf run key s (moment_of run key s)
 moments_told run key s = by_test (is_completed key s (trace_of key run)) refl

@@ -6,20 +6,20 @@ use Rattle.std.proofs.lemmas.List.Folds.{find-append}
 use Rattle.hk_base.specs.declared.call.CallNo.{CallNo}
 use Rattle.hk_history.specs.declared.event.Event.{Event as Line}
 use Rattle.hk_register.specs.Machine.{In, Mark, Update, Item, State}
-use Rattle.hk_register.specs.Machine.Item.{Called, Answered, Dropped, Looked, Missed}
+use Rattle.hk_register.specs.Machine.Item.{Called, Answered, Dropped, ReadOnly, Rejected}
 use Rattle.hk_register.specs.Facts.{Complete}
 use Rattle.hk_register.specs.Parts.{Parts}
 use Rattle.hk_register.specs.Printed.{is_mark, events_of, item_events}
 use Rattle.hk_register.proofs.Tests.{any_in, all_in}
 use Rattle.hk_world.specs.declared.event.Event.{Event}
 use Rattle.hk_world.specs.Steps.{Accepted, world_step}
-use Rattle.hk_effects.specs.View.{Trace, view}
+use Rattle.hk_effects.specs.Projection.{Trace, project}
 use Rattle.hk_effects.specs.Own.{IsOwn, Agrees}
 use Rattle.hk_effects.specs.Orders.{family}
 use Rattle.hk_effects.specs.Runs.{IsKept}
 use Rattle.hk_effects.proofs.Frames.{itself}
 use Rattle.hk_effects.proofs.Legality.{own_agrees}
-use Rattle.hk_effects.proofs.Two.{append_three}
+use Rattle.hk_effects.proofs.TwoEffects.{append_three}
 use Rattle.hk_effects.proofs.WorldKept.{next_kept}
 use Rattle.hk_safety.specs.declared.evidence.Evidence.{Evidence}
 use Rattle.hk_safety.specs.declared.evidence.Evidence.TheVariants.{Covers}
@@ -36,13 +36,13 @@ events_append (i ∷ xs) ys = ap (λ (l : List Line). l ++ item_events i) (event
 
 pub looks_append : (s : ℕ) (xs ys : List Item) → looks_at s (xs ++ ys) ≡ looks_at s ys ++ looks_at s xs
 looks_append s [] ys = sym (append-nil (looks_at s ys))
-looks_append s (Looked c t op held a ∷ xs) ys =
+looks_append s (ReadOnly c t op held a ∷ xs) ys =
     let last : List CallNo = cond (eqb t s) (record { 0 = c } ∷ []) [] in
     ap (λ (l : List CallNo). l ++ last) (looks_append s xs ys) ∙ append_three (looks_at s ys) (looks_at s xs) last
 looks_append s (Called c t op ∷ xs) ys = looks_append s xs ys
 looks_append s (Answered c t a ∷ xs) ys = looks_append s xs ys
 looks_append s (Dropped c t a ∷ xs) ys = looks_append s xs ys
-looks_append s (Missed c op a ∷ xs) ys = looks_append s xs ys
+looks_append s (Rejected c op a ∷ xs) ys = looks_append s xs ys
 
 pub update_append : (s : ℕ) (us begun : List Update) → update_at s (us ++ begun) ≡ begun_at s us (update_at s begun)
 update_append s us begun = ap (option_map call_of) (find-append (λ u. eqb u.stamp s) us begun) ∙ by_found (find (λ u. eqb u.stamp s) us)
@@ -107,12 +107,12 @@ module _ (key : List ℕ) (t : Trace) (event : Event) (a : Accepted) (e : world_
 
   same_views : (m : Mark) → In t.marks m → Before t m.epoch ≡ After a m.epoch
   same_views m h =
-      let parts : Parts (Before t) (view key t) = kept.parts (Before t) (own_agrees t.world kept.own) in
+      let parts : Parts (Before t) (project key t) = kept.parts (Before t) (own_agrees t.world kept.own) in
       let some : 1 ≤ m.epoch = (parts.marks m (m, itself m, h)).some_epoch in
       let v = kept.own.views.each m.epoch some (kept.trace.guarded m h).upto in
       subst (λ (k : ℕ). Before t k ≡ After a k) v.2 (sym (own_agrees t.world kept.own v.0 v.1) ∙ agrees_before v.0 v.1)
 
   -- what is known before the event, by the views after it
-  pub known_before : (s : ℕ) (ev : Evidence) → IsKnown (Before t) (view key t) s ev → IsKnownBy (After a) t.marks s ev
+  pub known_before : (s : ℕ) (ev : Evidence) → IsKnown (Before t) (project key t) s ev → IsKnownBy (After a) t.marks s ev
   known_before s ev k = known_also (Before t) (After a) t.marks same_views s ev
-      (known_by (Before t) (view key t) (kept.parts (Before t) (own_agrees t.world kept.own)) s ev k)
+      (known_by (Before t) (project key t) (kept.parts (Before t) (own_agrees t.world kept.own)) s ev k)

@@ -11,12 +11,12 @@ use Rattle.hk_world.specs.declared.event.Event.TheVariants.{Call}
 use Rattle.hk_world.specs.declared.shown.Acted.{Acted}
 use Rattle.hk_world.specs.declared.shown.Shown.{Shown}
 use Rattle.hk_world.specs.World.{WorldState}
-use Rattle.hk_effects.specs.View.{node_at}
+use Rattle.hk_effects.specs.Projection.{node_at}
 use Rattle.hk_effects.proofs.Order.{cases_key, same_not}
 use Rattle.hk_history.specs.declared.event.Event.{Event as Line}
 use Rattle.hk_safety.specs.declared.evidence.Cover.{Cover}
 use Rattle.hk_safety.specs.declared.key_run.AtStamp.{AtStamp}
-use Rattle.hk_safety.specs.declared.key_run.Look.{Look}
+use Rattle.hk_safety.specs.declared.key_run.ReadOnlyCall.{ReadOnlyCall}
 use Rattle.hk_safety.specs.Kept.{KeyState, Keys, at_stamp, find_key, key_at}
 use Rattle.hk_safety.specs.Grown.{Stamps, stamp_in, OthersStay, IsSinceThen, AreLooked, GoesAt, IsCovered, AreTold, with_lines, IsTurned, IsCallKept, AreTouched, AreTouchedIn, AreTouchedBy, AreTouchedAt}
 use Rattle.hk_safety.specs.Shows.{lines_at}
@@ -25,33 +25,33 @@ use Rattle.hk_safety.proofs.Since.{since_itself, since_same, looked_same, goes_s
 -- ---- a call
 module _ (n : ℕ) (old new : KeyState) (s : ℕ) (there : OthersStay s old.stamps new.stamps) where
   -- one stamp that has changed
-  goes_stamp : IsSinceThen n (stamp_in s old.stamps).evidence (stamp_in s new.stamps).evidence → AreLooked n (stamp_in s old.stamps).looks (stamp_in s new.stamps).looks → GoesAt n old new
+  goes_stamp : IsSinceThen n (stamp_in s old.stamps).evidence (stamp_in s new.stamps).evidence → AreLooked n (stamp_in s old.stamps).read_only (stamp_in s new.stamps).read_only → GoesAt n old new
   goes_stamp since looked = record { since = λ t. since_at t (eqb t s) refl; looked = λ t. looked_at t (eqb t s) refl }
     where
       since_at : (t : ℕ) (b : Bool) → eqb t s ≡ b → IsSinceThen n (at_stamp t old).evidence (at_stamp t new).evidence
       since_at t true is = subst (λ (u : ℕ). IsSinceThen n (stamp_in u old.stamps).evidence (stamp_in u new.stamps).evidence) (sym (eqb-true t s is)) since
       since_at t false is = since_same n (at_stamp t old).evidence (at_stamp t new).evidence (ap (λ (a : AtStamp). a.evidence) (there t is))
 
-      looked_at : (t : ℕ) (b : Bool) → eqb t s ≡ b → AreLooked n (at_stamp t old).looks (at_stamp t new).looks
-      looked_at t true is = subst (λ (u : ℕ). AreLooked n (stamp_in u old.stamps).looks (stamp_in u new.stamps).looks) (sym (eqb-true t s is)) looked
-      looked_at t false is = looked_same n (at_stamp t old).looks (at_stamp t new).looks (ap (λ (a : AtStamp). a.looks) (there t is))
+      looked_at : (t : ℕ) (b : Bool) → eqb t s ≡ b → AreLooked n (at_stamp t old).read_only (at_stamp t new).read_only
+      looked_at t true is = subst (λ (u : ℕ). AreLooked n (stamp_in u old.stamps).read_only (stamp_in u new.stamps).read_only) (sym (eqb-true t s is)) looked
+      looked_at t false is = looked_same n (at_stamp t old).read_only (at_stamp t new).read_only (ap (λ (a : AtStamp). a.read_only) (there t is))
 
 goes_stamps : (n : ℕ) (old new : KeyState) → new.stamps ≡ old.stamps → GoesAt n old new
 goes_stamps n old new same = record {
   since = λ s. since_same n (at_stamp s old).evidence (at_stamp s new).evidence (ap (λ (l : Stamps). (stamp_in s l).evidence) same);
-  looked = λ s. looked_same n (at_stamp s old).looks (at_stamp s new).looks (ap (λ (l : Stamps). (stamp_in s l).looks) same);
+  looked = λ s. looked_same n (at_stamp s old).read_only (at_stamp s new).read_only (ap (λ (l : Stamps). (stamp_in s l).read_only) same);
 }
 
 goes_turned : (began answered : Bool) (old new : KeyState) (s : ℕ) (call : CallNo) (n : ℕ) → IsTurned began answered old.stamps new.stamps s call n → GoesAt n old new
 goes_turned true answered old new s call n begun = goes_stamp n old new s begun.there
     (since_same n (stamp_in s old.stamps).evidence (stamp_in s new.stamps).evidence (ap (λ (a : AtStamp). a.evidence) begun.here))
-    (looked_same n (stamp_in s old.stamps).looks (stamp_in s new.stamps).looks (ap (λ (a : AtStamp). a.looks) begun.here))
+    (looked_same n (stamp_in s old.stamps).read_only (stamp_in s new.stamps).read_only (ap (λ (a : AtStamp). a.read_only) begun.here))
 goes_turned false true old new s call n looked = goes_stamp n old new s looked.there
     (since_same n (stamp_in s old.stamps).evidence (stamp_in s new.stamps).evidence (ap (λ (a : AtStamp). a.evidence) looked.here))
-    (record { more = record { call = call; event = n } ∷ []; same = ap (λ (a : AtStamp). a.looks) looked.here; here = one })
+    (record { more = record { call = call; event = n } ∷ []; same = ap (λ (a : AtStamp). a.read_only) looked.here; here = one })
   where
-    one : (l : Look) → In (record { call = call; event = n } ∷ []) l → l.event ≡ n
-    one l = ⊎_elim (λ (e : l ≡ record { call = call; event = n }). ap (λ (k : Look). k.event) e) (λ (none : ⊥). absurd none)
+    one : (l : ReadOnlyCall) → In (record { call = call; event = n } ∷ []) l → l.event ≡ n
+    one l = ⊎_elim (λ (e : l ≡ record { call = call; event = n }). ap (λ (k : ReadOnlyCall). k.event) e) (λ (none : ⊥). absurd none)
 goes_turned false false old new s call n same = goes_stamps n old new same
 
 goes_called : (n : ℕ) (keys named : Keys) (w : WorldState) (event : Event) (shown : Shown) → IsCallKept n keys named w event shown → (key : List ℕ) →
@@ -72,7 +72,7 @@ goes_told n named told lines are key there =
 goes_covered : (v : View) (c : Cover) (old new : KeyState) (tags : List ℕ) → IsCovered v c old new tags → GoesAt c.event old new
 goes_covered v c old new tags covered = record {
   since = covered.since;
-  looked = λ s. looked_same c.event (at_stamp s old).looks (at_stamp s new).looks (covered.looks s);
+  looked = λ s. looked_same c.event (at_stamp s old).read_only (at_stamp s new).read_only (covered.read_only s);
 }
 
 module _ (n : ℕ) (told new : Keys) (key : List ℕ) (there : is_some (find_key key told) ≡ true) where

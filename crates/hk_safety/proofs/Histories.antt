@@ -8,7 +8,7 @@ use Rattle.hk_history.specs.declared.event.Event.{Event}
 use Rattle.hk_history.specs.declared.event.Event.TheVariants.{Call, Reply}
 use Rattle.hk_history.specs.History.{is_call, is_reply, IsHistory}
 use Rattle.hk_register.specs.Machine.{In, Item, State, call_of}
-use Rattle.hk_register.specs.Machine.Item.{Called, Answered, Dropped, Looked, Missed}
+use Rattle.hk_register.specs.Machine.Item.{Called, Answered, Dropped, ReadOnly, Rejected}
 use Rattle.hk_register.specs.Calls.{IsStart, IsReply, OneStart, OneReply, CallParts}
 use Rattle.hk_register.specs.Printed.{item_events, events_of}
 
@@ -54,15 +54,15 @@ calls_few : (n : ℕ) (i : Item) → count_by (is_call n) (item_events i) ≤ 1
 calls_few n (Called c s op) = at_most _ _ (count_one (is_call n) (Call (record { 0 = c }) op)) (few_one (eqb c n))
 calls_few n (Answered c s a) = at_most _ _ (count_one (is_call n) (Reply (record { 0 = c }) a)) (few_one false)
 calls_few n (Dropped c s a) = at_most _ _ (count_one (is_call n) (Reply (record { 0 = c }) a)) (few_one false)
-calls_few n (Looked c s op held a) = at_most _ _ (count_two (is_call n) (Call (record { 0 = c }) op) (Reply (record { 0 = c }) a)) (few_first (eqb c n))
-calls_few n (Missed c op a) = at_most _ _ (count_two (is_call n) (Call (record { 0 = c }) op) (Reply (record { 0 = c }) a)) (few_first (eqb c n))
+calls_few n (ReadOnly c s op held a) = at_most _ _ (count_two (is_call n) (Call (record { 0 = c }) op) (Reply (record { 0 = c }) a)) (few_first (eqb c n))
+calls_few n (Rejected c op a) = at_most _ _ (count_two (is_call n) (Call (record { 0 = c }) op) (Reply (record { 0 = c }) a)) (few_first (eqb c n))
 
 replies_few : (n : ℕ) (i : Item) → count_by (is_reply n) (item_events i) ≤ 1
 replies_few n (Called c s op) = at_most _ _ (count_one (is_reply n) (Call (record { 0 = c }) op)) (few_one false)
 replies_few n (Answered c s a) = at_most _ _ (count_one (is_reply n) (Reply (record { 0 = c }) a)) (few_one (eqb c n))
 replies_few n (Dropped c s a) = at_most _ _ (count_one (is_reply n) (Reply (record { 0 = c }) a)) (few_one (eqb c n))
-replies_few n (Looked c s op held a) = at_most _ _ (count_two (is_reply n) (Call (record { 0 = c }) op) (Reply (record { 0 = c }) a)) (few_second (eqb c n))
-replies_few n (Missed c op a) = at_most _ _ (count_two (is_reply n) (Call (record { 0 = c }) op) (Reply (record { 0 = c }) a)) (few_second (eqb c n))
+replies_few n (ReadOnly c s op held a) = at_most _ _ (count_two (is_reply n) (Call (record { 0 = c }) op) (Reply (record { 0 = c }) a)) (few_second (eqb c n))
+replies_few n (Rejected c op a) = at_most _ _ (count_two (is_reply n) (Call (record { 0 = c }) op) (Reply (record { 0 = c }) a)) (few_second (eqb c n))
 
 -- an item of another call, or of none, counts nothing
 none_at : (c n : ℕ) → c ≢ n → ◌≡◌ {A = ℕ} (cond (eqb c n) 1 0) 0
@@ -72,15 +72,15 @@ calls_none : (n : ℕ) (i : Item) → (IsStart i → call_of i ≢ n) → count_
 calls_none n (Called c s op) ne = count_one (is_call n) (Call (record { 0 = c }) op) ∙ ap (λ (m : ℕ). m + 0) (none_at c n (ne tt))
 calls_none n (Answered c s a) ne = count_one (is_call n) (Reply (record { 0 = c }) a)
 calls_none n (Dropped c s a) ne = count_one (is_call n) (Reply (record { 0 = c }) a)
-calls_none n (Looked c s op held a) ne = count_two (is_call n) (Call (record { 0 = c }) op) (Reply (record { 0 = c }) a) ∙ ap (λ (m : ℕ). m + (0 + 0)) (none_at c n (ne tt))
-calls_none n (Missed c op a) ne = count_two (is_call n) (Call (record { 0 = c }) op) (Reply (record { 0 = c }) a) ∙ ap (λ (m : ℕ). m + (0 + 0)) (none_at c n (ne tt))
+calls_none n (ReadOnly c s op held a) ne = count_two (is_call n) (Call (record { 0 = c }) op) (Reply (record { 0 = c }) a) ∙ ap (λ (m : ℕ). m + (0 + 0)) (none_at c n (ne tt))
+calls_none n (Rejected c op a) ne = count_two (is_call n) (Call (record { 0 = c }) op) (Reply (record { 0 = c }) a) ∙ ap (λ (m : ℕ). m + (0 + 0)) (none_at c n (ne tt))
 
 replies_none : (n : ℕ) (i : Item) → (IsReply i → call_of i ≢ n) → count_by (is_reply n) (item_events i) ≡ 0
 replies_none n (Called c s op) ne = count_one (is_reply n) (Call (record { 0 = c }) op)
 replies_none n (Answered c s a) ne = count_one (is_reply n) (Reply (record { 0 = c }) a) ∙ ap (λ (m : ℕ). m + 0) (none_at c n (ne tt))
 replies_none n (Dropped c s a) ne = count_one (is_reply n) (Reply (record { 0 = c }) a) ∙ ap (λ (m : ℕ). m + 0) (none_at c n (ne tt))
-replies_none n (Looked c s op held a) ne = count_two (is_reply n) (Call (record { 0 = c }) op) (Reply (record { 0 = c }) a) ∙ ap (λ (m : ℕ). 0 + (m + 0)) (none_at c n (ne tt))
-replies_none n (Missed c op a) ne = count_two (is_reply n) (Call (record { 0 = c }) op) (Reply (record { 0 = c }) a) ∙ ap (λ (m : ℕ). 0 + (m + 0)) (none_at c n (ne tt))
+replies_none n (ReadOnly c s op held a) ne = count_two (is_reply n) (Call (record { 0 = c }) op) (Reply (record { 0 = c }) a) ∙ ap (λ (m : ℕ). 0 + (m + 0)) (none_at c n (ne tt))
+replies_none n (Rejected c op a) ne = count_two (is_reply n) (Call (record { 0 = c }) op) (Reply (record { 0 = c }) a) ∙ ap (λ (m : ℕ). 0 + (m + 0)) (none_at c n (ne tt))
 
 -- by whether the item is of this call
 same_or_not : (a n : ℕ) → (a ≡ n) ⊎ (a ≢ n)
@@ -92,15 +92,15 @@ same_or_not a n = by_test (eqb a n) refl
 
 starts_or_not : (i : Item) → IsStart i ⊎ (IsStart i → ⊥)
 starts_or_not (Called c s op) = inl tt
-starts_or_not (Looked c s op held a) = inl tt
-starts_or_not (Missed c op a) = inl tt
+starts_or_not (ReadOnly c s op held a) = inl tt
+starts_or_not (Rejected c op a) = inl tt
 starts_or_not (Answered c s a) = inr (λ n. n)
 starts_or_not (Dropped c s a) = inr (λ n. n)
 
 replies_or_not : (i : Item) → IsReply i ⊎ (IsReply i → ⊥)
 replies_or_not (Called c s op) = inr (λ n. n)
-replies_or_not (Looked c s op held a) = inl tt
-replies_or_not (Missed c op a) = inl tt
+replies_or_not (ReadOnly c s op held a) = inl tt
+replies_or_not (Rejected c op a) = inl tt
 replies_or_not (Answered c s a) = inl tt
 replies_or_not (Dropped c s a) = inl tt
 
@@ -214,8 +214,8 @@ called_at c n is b = ap (λ (t : Bool). t || b) (eq-eqb c n is)
 
 start_calls : (j : Item) (n : ℕ) → IsStart j → call_of j ≡ n → list_any (is_call n) (item_events j) ≡ true
 start_calls (Called c s op) n is same = called_at c n same false
-start_calls (Looked c s op held a) n is same = called_at c n same (false || false)
-start_calls (Missed c op a) n is same = called_at c n same (false || false)
+start_calls (ReadOnly c s op held a) n is same = called_at c n same (false || false)
+start_calls (Rejected c op a) n is same = called_at c n same (false || false)
 start_calls (Answered c s a) n is same = absurd is
 start_calls (Dropped c s a) n is same = absurd is
 
@@ -298,8 +298,8 @@ module _ (n : ℕ) where
           (called_before c (subst IsReply (sym e) tt) (subst (λ (j : Item). IsStart j → ⊥) (sym e) (λ x. x)) (ap call_of e ∙ one_reply_of c true some)) none
       by_item (Dropped c s a) e none some = replied_by (events_of items) (item_events (Dropped c s a))
           (called_before c (subst IsReply (sym e) tt) (subst (λ (j : Item). IsStart j → ⊥) (sym e) (λ x. x)) (ap call_of e ∙ one_reply_of c true some)) none
-      by_item (Looked c s op held a) e none some = at_once (events_of items) c (Call (record { 0 = c }) op) (Reply (record { 0 = c }) a) refl refl refl none some
-      by_item (Missed c op a) e none some = at_once (events_of items) c (Call (record { 0 = c }) op) (Reply (record { 0 = c }) a) refl refl refl none some
+      by_item (ReadOnly c s op held a) e none some = at_once (events_of items) c (Call (record { 0 = c }) op) (Reply (record { 0 = c }) a) refl refl refl none some
+      by_item (Rejected c op a) e none some = at_once (events_of items) c (Call (record { 0 = c }) op) (Reply (record { 0 = c }) a) refl refl refl none some
 
       by_old : (b : Bool) → list_any (is_reply n) (events_of items) ≡ b → (list_any (is_reply n) (events_of items) ≡ true → IsBehind (events_of items)) →
           IsBehind (events_of items ++ item_events i)
@@ -322,8 +322,8 @@ module _ (st : State) (calls : CallParts st) where
   starts (Dropped c s a) h replies =
       let u = (calls.items (Dropped c s a) h).0 in
       (Called u.0.call u.0.stamp u.0.op, calls.called u.0 u.1, tt, u.2)
-  starts (Looked c s op held a) h replies = (Looked c s op held a, h, tt, refl)
-  starts (Missed c op a) h replies = (Missed c op a, h, tt, refl)
+  starts (ReadOnly c s op held a) h replies = (ReadOnly c s op held a, h, tt, refl)
+  starts (Rejected c op a) h replies = (Rejected c op a, h, tt, refl)
 
   pub is_history : IsHistory (events_of st.history)
   is_history = record {

@@ -17,13 +17,13 @@ use Rattle.hk_base.specs.declared.stamp.Kind.{Kind}
 use Rattle.hk_base.specs.declared.stamp.Kind.TheVariants.{Write as Plain, Rmw}
 use Rattle.hk_history.specs.declared.event.Entry.{Entry}
 use Rattle.hk_register.specs.Machine.{In, Update, Item, State}
-use Rattle.hk_register.specs.Machine.Item.{Called, Answered, Dropped, Looked, Missed}
+use Rattle.hk_register.specs.Machine.Item.{Called, Answered, Dropped, ReadOnly, Rejected}
 use Rattle.hk_register.specs.Facts.{Complete}
 use Rattle.hk_register.specs.Parts.{Parts}
 use Rattle.hk_register.specs.Effects.{next_stamp}
 use Rattle.hk_register.specs.Printed.{Slot, StandsAt, tag_at, entry_of, entries, printed}
 use Rattle.hk_register.proofs.Once.{look_slot}
-use Rattle.hk_effects.specs.View.{Trace, view}
+use Rattle.hk_effects.specs.Projection.{Trace, project}
 use Rattle.hk_effects.specs.Runs.{IsKept}
 use Rattle.hk_effects.specs.Orders.{family, order_of}
 use Rattle.hk_effects.proofs.Legality.{own_agrees}
@@ -31,7 +31,7 @@ use Rattle.hk_safety.specs.declared.evidence.Evidence.{Evidence}
 use Rattle.hk_safety.specs.declared.evidence.Evidence.TheVariants.{Covers}
 use Rattle.hk_safety.specs.declared.evidence.Evidence.TheVariants as E
 use Rattle.hk_safety.specs.declared.key_run.AtStamp.{AtStamp}
-use Rattle.hk_safety.specs.declared.key_run.Look.{Look}
+use Rattle.hk_safety.specs.declared.key_run.ReadOnlyCall.{ReadOnlyCall}
 use Rattle.hk_safety.specs.Kept.{KeyState, no_stamp, at_stamp, looks_at, calls_in, call_of, update_at, IsKnown, IsKeyOf}
 use Rattle.hk_safety.specs.Kept.{is_complete, update_entry, look_entry, entries_at, kept_order}
 use Rattle.hk_safety.proofs.Slots.{look_at, look_of, look_slots_at, looks_have, has_stamp, slot_if, found_is, is_found}
@@ -152,14 +152,14 @@ no_tag n s = subst (λ (k : ℕ). tag_at k s ≡ None) {x = suc n} {y = n + 1} (
 abbrev call_entry : CallNo → Entry
 call_entry call = record { call = call; tag = None }
 
-calls_entries : (looks : List Look) → map call_entry (calls_in looks) ≡ map look_entry looks
+calls_entries : (read_only : List ReadOnlyCall) → map call_entry (calls_in read_only) ≡ map look_entry read_only
 calls_entries [] = refl
-calls_entries (l ∷ looks) = ap (λ (es : List Entry). look_entry l ∷ es) (calls_entries looks)
+calls_entries (l ∷ read_only) = ap (λ (es : List Entry). look_entry l ∷ es) (calls_entries read_only)
 
 look_entries : (s : ℕ) (items : List Item) → entries (look_slots_at s items) ≡ map call_entry (looks_at s items)
 look_entries s [] = refl
-look_entries s (Looked c t op held a ∷ items) =
-    let new : List Slot = look_at s (length items + 1) (Looked c t op held a) in
+look_entries s (ReadOnly c t op held a ∷ items) =
+    let new : List Slot = look_at s (length items + 1) (ReadOnly c t op held a) in
     let calls : List CallNo = if t == s then record { 0 = c } ∷ [] else [] in
     joined (look_slots_at s items) new (map call_entry (looks_at s items)) (map call_entry calls) (look_entries s items) (by_test (eqb t s))
     ∙ sym (map-append call_entry (looks_at s items) calls)
@@ -170,20 +170,20 @@ look_entries s (Looked c t op held a ∷ items) =
 look_entries s (Called c t op ∷ items) = ap entries (append-nil (look_slots_at s items)) ∙ look_entries s items
 look_entries s (Answered c t a ∷ items) = ap entries (append-nil (look_slots_at s items)) ∙ look_entries s items
 look_entries s (Dropped c t a ∷ items) = ap entries (append-nil (look_slots_at s items)) ∙ look_entries s items
-look_entries s (Missed c op a ∷ items) = ap entries (append-nil (look_slots_at s items)) ∙ look_entries s items
+look_entries s (Rejected c op a ∷ items) = ap entries (append-nil (look_slots_at s items)) ∙ look_entries s items
 
 -- a stamp has what the items and the updates tell of it
 record Has (us : List Update) (items : List Item) (p : Kept) : Type 0 where
   update : p.1.update ≡ update_at p.0 us
-  looks : calls_in p.1.looks ≡ looks_at p.0 items
+  read_only : calls_in p.1.read_only ≡ looks_at p.0 items
 
 module _ (us : List Update) (items : List Item) where
   row_entries : (p : Kept) → Has us items p → entries (row_slots us items (row_of p)) ≡ entries_at p
   row_entries p has =
       let complete : Bool = is_complete p.1.evidence in
       let update = update_entries complete p.0 us ∙ ap (update_entry complete p.0) (sym has.update) in
-      let looks = look_entries p.0 items ∙ ap (map call_entry) (sym has.looks) ∙ calls_entries p.1.looks in
-      joined (update_part us (row_of p)) (look_part items (row_of p)) (update_entry complete p.0 p.1.update) (map look_entry p.1.looks) update looks
+      let read_only = look_entries p.0 items ∙ ap (map call_entry) (sym has.read_only) ∙ calls_entries p.1.read_only in
+      joined (update_part us (row_of p)) (look_part items (row_of p)) (update_entry complete p.0 p.1.update) (map look_entry p.1.read_only) update read_only
 
   all_entries : (rows : List Kept) → ((p : Kept) → In rows p → Has us items p) → entries (slots_of us items (rows_of rows)) ≡ flat_map (entries_at) rows
   all_entries [] has = refl
@@ -208,7 +208,7 @@ no_entry (s ∷ slots) x e h = clash (entry_of s) (entries slots) e
 record IsOf (V : ℕ → List ℕ) (k : KeyState) (st : State) : Type 0 where
   ordered : Ordered k.stamps
   update : (s : ℕ) → (at_stamp s k).update ≡ update_at s st.begun
-  looks : (s : ℕ) → calls_in (at_stamp s k).looks ≡ looks_at s st.history
+  read_only : (s : ℕ) → calls_in (at_stamp s k).read_only ≡ looks_at s st.history
   known : (s : ℕ) → 1 ≤ s → IsKnown V st s (at_stamp s k).evidence
 
 complete_of : (V : ℕ → List ℕ) (st : State) (s : ℕ) (ev : Evidence) → IsKnown V st s ev → is_complete ev ≡ true → Complete V st s
@@ -226,7 +226,7 @@ module _ (V : ℕ → List ℕ) (st : State) (parts : Parts V st) (k : KeyState)
   has : (p : Kept) → In k.stamps p → Has st.begun st.history p
   has p h =
       let at = here p h in
-      record { update = sym (ap (λ (a : AtStamp). a.update) at) ∙ is.update p.0; looks = sym (ap (λ (a : AtStamp). calls_in a.looks) at) ∙ is.looks p.0 }
+      record { update = sym (ap (λ (a : AtStamp). a.update) at) ∙ is.update p.0; read_only = sym (ap (λ (a : AtStamp). calls_in a.read_only) at) ∙ is.read_only p.0 }
 
   some : (u : Update) → In st.begun u → 1 ≤ u.stamp
   some u begun = subst (λ (s : ℕ). 1 ≤ s) (sym (parts.updates u begun).next) (some_stamp u.kind u.base u.who)
@@ -256,7 +256,7 @@ module _ (V : ℕ → List ℕ) (st : State) (parts : Parts V st) (k : KeyState)
   look_row x stands = ⊎_elim
       (λ (h : In k.stamps (x.stamp, at_stamp x.stamp k)). (is_complete (at_stamp x.stamp k).evidence, row_in k.stamps (x.stamp, at_stamp x.stamp k) h))
       (λ (e : at_stamp x.stamp k ≡ no_stamp).
-      let none : looks_at x.stamp st.history ≡ [] = sym (is.looks x.stamp) ∙ ap (λ (a : AtStamp). calls_in a.looks) e in
+      let none : looks_at x.stamp st.history ≡ [] = sym (is.read_only x.stamp) ∙ ap (λ (a : AtStamp). calls_in a.read_only) e in
       absurd (no_entry (look_slots_at x.stamp st.history) x (look_entries x.stamp st.history ∙ ap (map call_entry) none) (looks_have st.history x stands)))
       (stands_or_nothing k x.stamp)
 
@@ -268,7 +268,7 @@ module _ (V : ℕ → List ℕ) (st : State) (parts : Parts V st) (k : KeyState)
         let stamp : u.stamp ≡ from.0.0 = e ∙ ap (λ (r : Row). r.stamp) from.2 in
         complete_is from.0 from.1 (sym (ap (λ (r : Row). r.complete) from.2) ∙ c) u begun stamp;
     updates = update_row;
-    looks = look_row;
+    read_only = look_row;
   }
 
   order_is : kept_order k ≡ entries (printed V st)
@@ -279,5 +279,5 @@ pub kept_is_printed : (key : List ℕ) (k : KeyState) (t : Trace) → IsKeyOf ke
     kept_order k ≡ order_of key t
 kept_is_printed key k t is ordered kept =
     let V : ℕ → List ℕ = family t.world.views in
-    let parts : Parts V (view key t) = kept.parts V (own_agrees t.world kept.own) in
-    order_is V (view key t) parts k (record { ordered = ordered; update = is.update; looks = is.looks; known = is.known })
+    let parts : Parts V (project key t) = kept.parts V (own_agrees t.world kept.own) in
+    order_is V (project key t) parts k (record { ordered = ordered; update = is.update; read_only = is.read_only; known = is.known })

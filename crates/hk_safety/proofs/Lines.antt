@@ -9,7 +9,7 @@ use Rattle.hk_history.specs.declared.event.Event.{Event as Line}
 use Rattle.hk_history.specs.declared.event.Event.TheVariants as L
 use Rattle.hk_history.specs.History.{is_void}
 use Rattle.hk_register.specs.Machine.{In, Node, Item}
-use Rattle.hk_register.specs.Machine.Item.{Called, Looked, Missed}
+use Rattle.hk_register.specs.Machine.Item.{Called, ReadOnly, Rejected}
 use Rattle.hk_register.specs.Printed.{item_events, events_of}
 use Rattle.hk_node.specs.Node.{NodeState}
 use Rattle.hk_node.specs.Sound.{IsNode}
@@ -23,7 +23,7 @@ use Rattle.hk_world.specs.declared.refused.Refused.{Refused}
 use Rattle.hk_world.specs.World.{WorldState, numbered}
 use Rattle.hk_world.specs.Steps.{Accepted, world_step}
 use Rattle.hk_world.specs.Sound.{IsEvent}
-use Rattle.hk_effects.specs.View.{Trace, view, key_node, node_at, told_at, pending_stamp, reply_item, look_item, call_items, items_of, traced, traced_by}
+use Rattle.hk_effects.specs.Projection.{Trace, project, key_node, node_at, told_at, pending_stamp, reply_item, read_only_item, call_items, items_of, traced, traced_by}
 use Rattle.hk_effects.specs.Orders.{history_of}
 use Rattle.hk_effects.specs.Runs.{IsKept, RunsKeepParts}
 use Rattle.hk_effects.proofs.Order.{cases_key, same_not, same_of}
@@ -44,10 +44,10 @@ use Rattle.hk_safety.proofs.Traces.{world_then, step_at, trace_then, run_kept, r
 
 -- ---- the items of one event
 looked : (was : Node) (call : CallNo) (op : Op) (r : Reply) → r.call ≡ call →
-    events_of (look_item call.0 op was r ∷ []) ≡ L.Call call op ∷ map reply_line (r ∷ [])
+    events_of (read_only_item call.0 op was r ∷ []) ≡ L.Call call op ∷ map reply_line (r ∷ [])
 looked was call op r own = by_void (is_void (Some r.answer)) ∙ ap (λ (c : CallNo). L.Call call op ∷ L.Reply c r.answer ∷ []) (sym own)
   where
-    by_void : (b : Bool) → item_events (cond b (Missed call.0 op r.answer) (Looked call.0 was.stamp op was.content r.answer)) ≡ L.Call call op ∷ L.Reply call r.answer ∷ []
+    by_void : (b : Bool) → item_events (cond b (Rejected call.0 op r.answer) (ReadOnly call.0 was.stamp op was.content r.answer)) ≡ L.Call call op ∷ L.Reply call r.answer ∷ []
     by_void true = refl
     by_void false = refl
 
@@ -193,6 +193,6 @@ module _ (runs : RunsKeepParts) (key : List ℕ) where
 
 pub histories_are : RunsKeepParts → HistoriesAreHistories
 histories_are runs run ok key = record {
-  is_history = is_history (view key (trace_of key run)) (run_kept runs key run ok).calls;
+  is_history = is_history (project key (trace_of key run)) (run_kept runs key run ok).calls;
   shown = history_shown runs key run ok;
 }

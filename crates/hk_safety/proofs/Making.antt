@@ -19,7 +19,7 @@ use Rattle.hk_key.specs.Table.{first_row}
 use Rattle.hk_register.specs.Machine.{In, Node, Item}
 use Rattle.hk_register.specs.Parts.{Parts}
 use Rattle.hk_register.specs.Printed.{events_of}
-use Rattle.hk_node.specs.declared.report.Former.{Former}
+use Rattle.hk_node.specs.declared.report.PriorRow.{PriorRow}
 use Rattle.hk_node.specs.Rows.{find_row, row_at}
 use Rattle.hk_node.specs.Node.{NodeState, epoch_in}
 use Rattle.hk_node.specs.Sound.{IsNode}
@@ -41,7 +41,7 @@ use Rattle.hk_world.specs.World.{WorldState, node_of, numbered}
 use Rattle.hk_world.specs.Steps.{Accepted, acting_of, world_step}
 use Rattle.hk_world.specs.Sound.{IsWorld, IsEvent}
 use Rattle.hk_world.proofs.Soundness.{step_sound}
-use Rattle.hk_effects.specs.View.{Trace, view, key_node, node_at, is_same_key, letters_of, told_at, pending_stamp, reply_item, items_of, call_items, updates_of, step_marks, added, traced, traced_by}
+use Rattle.hk_effects.specs.Projection.{Trace, project, key_node, node_at, is_same_key, letters_of, told_at, pending_stamp, reply_item, items_of, call_items, updates_of, step_marks, added, traced, traced_by}
 use Rattle.hk_effects.specs.Own.{IsOwn}
 use Rattle.hk_effects.specs.Runs.{IsKept}
 use Rattle.hk_effects.proofs.Accepting.{alive}
@@ -54,7 +54,7 @@ use Rattle.hk_safety.specs.declared.evidence.Cover.{Cover}
 use Rattle.hk_safety.specs.Run.{with_named}
 use Rattle.hk_safety.specs.Kept.{KeyState, Keys, KeptState, at_stamp, find_key, key_at, called_from, looks_at, calls_in, IsKnown, IsKeyOf}
 use Rattle.hk_safety.specs.Noted.{MayMake, IsMade}
-use Rattle.hk_safety.specs.Grown.{AreTold, IsNamed, IsTurned, is_answer, with_lines, former_tag, is_new_in, is_new, turn_of, IsCallKept, IsKeptAfter, IsKnownBy, AreCovered, AreTouched, AreTouchedIn, AreTouchedBy, AreTouchedAt, cover_by, IsFormer, AreFormer}
+use Rattle.hk_safety.specs.Grown.{AreTold, IsNamed, IsTurned, is_answer, with_lines, prior_tag, is_new_in, is_new, turn_of, IsCallKept, IsKeptAfter, IsKnownBy, AreCovered, AreTouched, AreTouchedIn, AreTouchedBy, AreTouchedAt, cover_by, IsPrior, ArePrior}
 use Rattle.hk_safety.specs.Shows.{lines_at, reply_line}
 use Rattle.hk_safety.proofs.Acting.{next_call, IsNoCall, IsStep, IsBeside, is_at, IsMadeBy as IsWay, is_made_by, IsLone, told_lone, changed_rows_are, BeginsQuietly, call_told}
 use Rattle.hk_safety.proofs.Covering.{are_joined, waits_within}
@@ -84,10 +84,10 @@ abbrev pub with_world : KeptState → WorldState → KeptState
 with_world k w = record { world = w; keys = k.keys; calls = k.calls }
 
 -- ---- what the world behind an event is
--- former rows are those of a node
-formers_within : (x : NodeState) → IsNode x → (rows : List Former) → ((f : Former) → In rows f → f.row ≡ find_row f.key x.rows) → AllByRecursion IsFormer rows
-formers_within x ok [] each = tt
-formers_within x ok (f ∷ rows) each = (by_row f.row (each f (inl refl)), formers_within x ok rows (λ g h. each g (inr h)))
+-- prior rows are those of a node
+priors_within : (x : NodeState) → IsNode x → (rows : List PriorRow) → ((f : PriorRow) → In rows f → f.row ≡ find_row f.key x.rows) → AllByRecursion IsPrior rows
+priors_within x ok [] each = tt
+priors_within x ok (f ∷ rows) each = (by_row f.row (each f (inl refl)), priors_within x ok rows (λ g h. each g (inr h)))
   where
     by_row : (o : Option Row) → o ≡ find_row f.key x.rows → IfSome o (λ row. IsWithin row.stamp × IfSome row.pending (λ p. IsWithin p.stamp))
     by_row None e = tt
@@ -101,26 +101,26 @@ pub world_after : (w : WorldState) (event : Event) (a : Accepted) → IsOwn w �
 world_after w event a own within made = step_sound (step_keeps_node, letters_in_range) (keeps_managers, manager_letters) w event a own.sound within made
 
 -- whether the key's row had another tag
-found_former : (key : List ℕ) (rows : List Former) (f : Former) → find (λ f. is_same_key key f.key) rows ≡ Some f → In rows f × (key ≡ f.key)
-found_former key [] f e = absurd (false≢true (ap is_some e))
-found_former key (g ∷ rows) f e = by_test (is_same_key key g.key) refl e (found_former key rows f)
+found_prior : (key : List ℕ) (rows : List PriorRow) (f : PriorRow) → find (λ f. is_same_key key f.key) rows ≡ Some f → In rows f × (key ≡ f.key)
+found_prior key [] f e = absurd (false≢true (ap is_some e))
+found_prior key (g ∷ rows) f e = by_test (is_same_key key g.key) refl e (found_prior key rows f)
   where
     by_test : (b : Bool) → is_same_key key g.key ≡ b → cond b (Some g) (find (λ f. is_same_key key f.key) rows) ≡ Some f →
         (find (λ f. is_same_key key f.key) rows ≡ Some f → In rows f × (key ≡ f.key)) → In (g ∷ rows) f × (key ≡ f.key)
-    by_test true is e more = let same : g ≡ f = cc in (inl (sym same), same_true key g.key is ∙ ap (λ (h : Former). h.key) same)
+    by_test true is e more = let same : g ≡ f = cc in (inl (sym same), same_true key g.key is ∙ ap (λ (h : PriorRow). h.key) same)
     by_test false is e more = let rest = more e in (inr rest.0, rest.1)
 
-not_found : (key : List ℕ) (rows : List Former) → find (λ f. is_same_key key f.key) rows ≡ None → (f : Former) → In rows f → f.key ≢ key
+not_found : (key : List ℕ) (rows : List PriorRow) → find (λ f. is_same_key key f.key) rows ≡ None → (f : PriorRow) → In rows f → f.key ≢ key
 not_found key [] e f h = absurd h
 not_found key (g ∷ rows) e f h = by_test (is_same_key key g.key) refl e h (λ none there. not_found key rows none f there)
   where
     by_test : (b : Bool) → is_same_key key g.key ≡ b → cond b (Some g) (find (λ f. is_same_key key f.key) rows) ≡ None → In (g ∷ rows) f →
         (find (λ f. is_same_key key f.key) rows ≡ None → In rows f → f.key ≢ key) → f.key ≢ key
     by_test true is e h more = absurd (false≢true (sym (ap is_some e)))
-    by_test false is e (inl same) more = λ at. false≢true (sym is ∙ same_of key g.key (sym at ∙ ap (λ (k : Former). k.key) same))
+    by_test false is e (inl same) more = λ at. false≢true (sym is ∙ same_of key g.key (sym at ∙ ap (λ (k : PriorRow). k.key) same))
     by_test false is e (inr h) more = more e h
 
-tag_before : (o : Option Row) → former_tag o ≡ tag_of (unwrap_or o first_row).stamp
+tag_before : (o : Option Row) → prior_tag o ≡ tag_of (unwrap_or o first_row).stamp
 tag_before None = refl
 tag_before (Some r) = refl
 
@@ -131,11 +131,11 @@ new_is r n x key rows = by_found (find (λ f. is_same_key key f.key) r.report.ro
     tag : ℕ
     tag = tag_of (row_at key x.rows).stamp
 
-    by_found : (o : Option Former) → find (λ f. is_same_key key f.key) r.report.rows ≡ o → is_new_in o tag ≡ not (eqb tag (tag_of (row_at key n.rows).stamp))
+    by_found : (o : Option PriorRow) → find (λ f. is_same_key key f.key) r.report.rows ≡ o → is_new_in o tag ≡ not (eqb tag (tag_of (row_at key n.rows).stamp))
     by_found (Some f) e =
-        let at = found_former key r.report.rows f e in
+        let at = found_prior key r.report.rows f e in
         let row : f.row ≡ find_row key n.rows = rows.each f at.0 ∙ ap (λ (k : List ℕ). find_row k n.rows) (sym at.1) in
-        ap (λ (t : ℕ). not (eqb tag t)) (ap former_tag row ∙ tag_before (find_row key n.rows))
+        ap (λ (t : ℕ). not (eqb tag t)) (ap prior_tag row ∙ tag_before (find_row key n.rows))
     by_found None e =
         let same : row_at key x.rows ≡ row_at key n.rows = ap (λ (o : Option Row). unwrap_or o first_row) (rows.others key (not_found key r.report.rows e)) in
         sym (ap not (eq-eqb tag (tag_of (row_at key n.rows).stamp) (ap (λ (r : Row). tag_of r.stamp) same)))
@@ -313,13 +313,13 @@ call_keys at m n w event shown h = ap keys_of h
 pub record IsSameBut (old new : KeyState) : Type 0 where
   pub items : new.items ≡ old.items
   pub update : (s : ℕ) → (at_stamp s new).update ≡ (at_stamp s old).update
-  pub looks : (s : ℕ) → (at_stamp s new).looks ≡ (at_stamp s old).looks
+  pub read_only : (s : ℕ) → (at_stamp s new).read_only ≡ (at_stamp s old).read_only
 
 same_but : (old new : KeyState) → new ≡ old → IsSameBut old new
 same_but old new e = record {
   items = ap (λ (k : KeyState). k.items) e;
   update = λ s. ap (λ (k : KeyState). (at_stamp s k).update) e;
-  looks = λ s. ap (λ (k : KeyState). (at_stamp s k).looks) e;
+  read_only = λ s. ap (λ (k : KeyState). (at_stamp s k).read_only) e;
 }
 
 module _ (key : List ℕ) (t : Trace) (event : Event) (a : Accepted) (id : NodeId) (was x : Node) (k0 k1 k2 k3 : KeyState) (lines : List Line)
@@ -329,14 +329,14 @@ module _ (key : List ℕ) (t : Trace) (event : Event) (a : Accepted) (id : NodeI
 
   -- items, updates and looks go on with the trace
   followed_by : IsSaid k0 k1 lines said (updates_of id.0 was said) → k2 ≡ with_lines k1 lines → IsSameBut k2 k3 →
-      ((s : ℕ) → 1 ≤ s → IsKnown (After a) (view key (added key t event a id.0 was x)) s (at_stamp s k3).evidence) →
+      ((s : ℕ) → 1 ≤ s → IsKnown (After a) (project key (added key t event a id.0 was x)) s (at_stamp s k3).evidence) →
       IsKeyOf key k3 (added key t event a id.0 was x)
   followed_by s e same known = record {
     items = same.items ∙ ap (λ (k : KeyState). k.items) e ∙ s.items ∙ ap (λ (l : List Line). l ++ events_of said) is.items ∙ sym (events_append said t.history);
     update = λ u. same.update u ∙ ap (λ (k : KeyState). (at_stamp u k).update) e ∙ s.update u
         ∙ ap (begun_at u (updates_of id.0 was said)) (is.update u) ∙ sym (update_append u (updates_of id.0 was said) t.begun);
-    looks = λ u. ap calls_in (same.looks u) ∙ ap (λ (k : KeyState). calls_in (at_stamp u k).looks) e ∙ s.looks u
-        ∙ ap (λ (l : List CallNo). l ++ looks_at u said) (is.looks u) ∙ sym (looks_append u said t.history);
+    read_only = λ u. ap calls_in (same.read_only u) ∙ ap (λ (k : KeyState). calls_in (at_stamp u k).read_only) e ∙ s.read_only u
+        ∙ ap (λ (l : List CallNo). l ++ looks_at u said) (is.read_only u) ∙ sym (looks_append u said t.history);
     known = known;
   }
 
@@ -403,14 +403,14 @@ module _ (key : List ℕ) (t : Trace) (event : Event) (within : IsEvent event) (
   kept_next : IsKept key next
   kept_next = subst (IsKept key) next_is kept_now
 
-  parts : Parts V (view key t)
+  parts : Parts V (project key t)
   parts = kept.parts V (agrees_before key t event a e kept kept_next.own)
 
-  parts_next : Parts V (view key next)
+  parts_next : Parts V (project key next)
   parts_next = kept_next.parts V (own_agrees a.world kept_next.own)
 
   seen_as : (v : View) → st.o.node.view ≡ Some v →
-      IsSeen V key (view key t) (view key next) id.0 r st.x st.o.node v a.shown.letters
+      IsSeen V key (project key t) (project key next) id.0 r st.x st.o.node v a.shown.letters
   seen_as v view_is =
       let agreed = (kept_next.own.node id.0 st.o.node (found_now t.world event a id st)).agreed v view_is in
       record {
@@ -442,15 +442,15 @@ module _ (key : List ℕ) (t : Trace) (event : Event) (within : IsEvent event) (
         let all : AreCovered v c told new (touches_of st.o.node v r seen a.shown.letters) =
         are_joined v c told touched.opened new _ _ (are_joined v c told touched.changed touched.opened _ _ touched.of_changed touched.of_open.covered) touched.of_acks in
         let at_key = all.each key there in (
-          record { items = at_key.items; update = at_key.update; looks = at_key.looks },
-          λ u some k. seen_known V key (view key t) (view key next) id.0 r st.x st.o.node v a.shown.letters seen (seen_as v view_is)
+          record { items = at_key.items; update = at_key.update; read_only = at_key.read_only },
+          λ u some k. seen_known V key (project key t) (project key next) id.0 r st.x st.o.node v a.shown.letters seen (seen_as v view_is)
               touched.of_open.all c refl refl u some (at_stamp u (key_at key new)).evidence (at_key.known V (seen_as v view_is).fits t.marks u some k),
         )
 
     unviewed : st.o.node.view ≡ None → new ≡ told → KnownOn
     unviewed none same = (
       same_but (key_at key told) (key_at key new) (ap (key_at key) same),
-      λ u some k. unseen_known V (view key next) id.0 was now (letters_of key a.shown.letters) t.marks parts_next refl (ap epoch_in none) u
+      λ u some k. unseen_known V (project key next) id.0 was now (letters_of key a.shown.letters) t.marks parts_next refl (ap epoch_in none) u
           (at_stamp u (key_at key new)).evidence (subst (λ (ks : Keys). IsKnownBy V t.marks u (at_stamp u (key_at key ks)).evidence) (sym same) k),
     )
 
@@ -488,7 +488,7 @@ module _ (key : List ℕ) (t : Trace) (event : Event) (within : IsEvent event) (
       ap (λ (k : KeyState). (at_stamp u k).evidence) told_with ∙ given.evidence u in
       let known : IsKnownBy V t.marks u (at_stamp u (key_at key keys)).evidence =
       known_before key t event a e kept kept_next.own u (at_stamp u (key_at key keys)).evidence (is0.known u some) in
-      known_of V (view key next) parts_next u (at_stamp u (key_at key new)).evidence
+      known_of V (project key next) parts_next u (at_stamp u (key_at key new)).evidence
       (on.1 u some (subst (IsKnownBy V t.marks u) (sym ev_same) known)))
 
 -- ---- no node acts
@@ -501,8 +501,8 @@ beside_follows key t event a e kept kept_now old new same is =
     subst (λ (k : KeyState). IsKeyOf key k (traced_by key t event a None)) (sym same) (record {
       items = is.items;
       update = is.update;
-      looks = is.looks;
-      known = λ s some. known_of (After a) (view key (traced_by key t event a None))
+      read_only = is.read_only;
+      known = λ s some. known_of (After a) (project key (traced_by key t event a None))
           (kept_now.parts (After a) (own_agrees a.world kept_now.own)) s (at_stamp s old).evidence
           (known_before key t event a e kept kept_now.own s (at_stamp s old).evidence (is.known s some));
     })
@@ -567,16 +567,16 @@ module _ (n : ℕ) (old : KeptState) (event : Event) (may : MayMake old event) (
   }
 
 -- ---- what is known of what an event shows
--- the letters of a step are in range, and the former rows are a node's
+-- the letters of a step are in range, and the prior rows are a node's
 pub shown_within : (w : WorldState) (event : Event) (a : Accepted) → IsOwn w → IsEvent event → world_step w event ≡ Ok a →
-    AllByRecursion IsLetter a.shown.letters × AreFormer a.shown.acted
+    AllByRecursion IsLetter a.shown.letters × ArePrior a.shown.acted
 shown_within w event a own within made = by_way (is_made_by w a event made)
   where
-    by_option : (o : Option Acted) → option_map (λ r. r.node) o ≡ None → AreFormer o
+    by_option : (o : Option Acted) → option_map (λ r. r.node) o ≡ None → ArePrior o
     by_option None e = tt
     by_option (Some r) e = cc
 
-    by_way : IsWay w event a → AllByRecursion IsLetter a.shown.letters × AreFormer a.shown.acted
+    by_way : IsWay w event a → AllByRecursion IsLetter a.shown.letters × ArePrior a.shown.acted
     by_way (inl s) =
         let st = s.1 in
         let ok : IsNode st.x = (node_holds w own.sound s.0.0 st.x (found w event a s.0 st)).1 in
@@ -585,7 +585,7 @@ shown_within w event a own within made = by_way (is_made_by w a event made)
         let rows = changes w event a s.0 st own within ok in (
           subst (AllByRecursion IsLetter) (sym letters) (behind w.letters st.o.letters
               (subst (AllByRecursion IsLetter) all (world_after w event a own within made).letters)),
-          subst AreFormer (sym (acted_is w event a s.0 st)) (formers_within st.x ok (report st.x st.o.node).rows rows.each),
+          subst ArePrior (sym (acted_is w event a s.0 st)) (priors_within st.x ok (report st.x st.o.node).rows rows.each),
         )
     by_way (inr b) = (
       behind w.letters a.shown.letters (subst (AllByRecursion IsLetter) b.letters (world_after w event a own within made).letters),

@@ -12,7 +12,7 @@ use Rattle.hk_register.specs.Parts.{Parts}
 use Rattle.hk_register.specs.Printed.{is_complete}
 use Rattle.hk_register.proofs.Orders.{the_update}
 use Rattle.hk_register.proofs.Tests.{any_in, in_any}
-use Rattle.hk_effects.specs.View.{Trace, view}
+use Rattle.hk_effects.specs.Projection.{Trace, project}
 use Rattle.hk_effects.specs.Orders.{family}
 use Rattle.hk_effects.specs.Runs.{IsKept}
 use Rattle.hk_effects.proofs.Legality.{own_agrees}
@@ -20,7 +20,7 @@ use Rattle.hk_safety.specs.declared.evidence.Evidence.{Evidence}
 use Rattle.hk_safety.specs.declared.evidence.Evidence.TheVariants.{Covers}
 use Rattle.hk_safety.specs.declared.evidence.Evidence.TheVariants as E
 use Rattle.hk_safety.specs.declared.key_run.AtStamp.{AtStamp}
-use Rattle.hk_safety.specs.declared.key_run.Look.{Look}
+use Rattle.hk_safety.specs.declared.key_run.ReadOnlyCall.{ReadOnlyCall}
 use Rattle.hk_safety.specs.declared.placed.Placed.{Placed}
 use Rattle.hk_safety.specs.Run.{RunState, trace_of}
 use Rattle.hk_safety.specs.Moment.{traces, is_reached, moment, is_completed, completed_at, replied_at}
@@ -34,13 +34,13 @@ use Rattle.hk_safety.proofs.Places.{found_within, place_within}
 use Rattle.hk_safety.proofs.Slots.{found_is, is_found}
 
 -- ---- looks are passed over
-least_looks : (last : ℕ) (looks : List Look) (more : List Placed) → least_of last (map look_placed looks ++ more) ≡ least_of last more
+least_looks : (last : ℕ) (read_only : List ReadOnlyCall) (more : List Placed) → least_of last (map look_placed read_only ++ more) ≡ least_of last more
 least_looks last [] more = refl
-least_looks last (l ∷ looks) more = least_looks last looks more
+least_looks last (l ∷ read_only) more = least_looks last read_only more
 
-moments_looks : (last : ℕ) (looks : List Look) (more : List Placed) → at_moments last (map look_placed looks ++ more) ≡ map look_placed looks ++ at_moments last more
+moments_looks : (last : ℕ) (read_only : List ReadOnlyCall) (more : List Placed) → at_moments last (map look_placed read_only ++ more) ≡ map look_placed read_only ++ at_moments last more
 moments_looks last [] more = refl
-moments_looks last (l ∷ looks) more = ap (λ (ps : List Placed). look_placed l ∷ ps) (moments_looks last looks more)
+moments_looks last (l ∷ read_only) more = ap (λ (ps : List Placed). look_placed l ∷ ps) (moments_looks last read_only more)
 
 none_passes : {X : Type 0} (p : X → Bool) (xs : List X) → ((x : X) → In xs x → p x ≡ false) → position_or_len p xs ≡ length xs
 none_passes p [] none = refl
@@ -58,7 +58,7 @@ module _ (run : RunState) (key : List ℕ) (k : KeyState) (trace : IsKept key (t
   abbrev end : ℕ
   end = length run.events
 
-  parts : Parts V (view key t)
+  parts : Parts V (project key t)
   parts = trace.parts V (own_agrees t.world trace.own)
 
   -- ---- the events of updates
@@ -71,11 +71,11 @@ module _ (run : RunState) (key : List ℕ) (k : KeyState) (trace : IsKept key (t
     where
       reaches : (x : Trace) → In (traces run key) x → is_reached key b x ≡ true → ⊥
       reaches x h e =
-          let u = any_in (λ (u : Update). nat_le b u.stamp && is_complete (family x.world.views) (view key x) u.stamp) x.begun e in
-          let both = and_parts (nat_le b u.0.stamp) (is_complete (family x.world.views) (view key x) u.0.stamp) u.2 in
+          let u = any_in (λ (u : Update). nat_le b u.stamp && is_complete (family x.world.views) (project key x) u.stamp) x.begun e in
+          let both = and_parts (nat_le b u.0.stamp) (is_complete (family x.world.views) (project key x) u.0.stamp) u.2 in
           let up = leb-true b u.0.stamp both.0 in
           let here : is_completed key u.0.stamp x ≡ true =
-          in_any (λ (v : Update). eqb v.stamp u.0.stamp && is_complete (family x.world.views) (view key x) v.stamp) x.begun u.0 u.1
+          in_any (λ (v : Update). eqb v.stamp u.0.stamp && is_complete (family x.world.views) (project key x) v.stamp) x.begun u.0 u.1
           (and_from (eqb u.0.stamp u.0.stamp) _ (eq-eqb u.0.stamp u.0.stamp refl) both.1) in
           let within = found_within (is_completed key u.0.stamp) (traces run key) x h here in
           let long = moments_are run key in
@@ -101,14 +101,14 @@ module _ (run : RunState) (key : List ℕ) (k : KeyState) (trace : IsKept key (t
   lacks : (s : ℕ) → 1 ≤ s → (at_stamp s k).update ≡ None → completed_at run key s ≡ end + 1
   lacks s some none = by_evidence (at_stamp s k).evidence (had.since s some) (is.known s some)
     where
-      by_evidence : (ev : Evidence) → IsSince run key s ev → IsKnown V (view key t) s ev → completed_at run key s ≡ end + 1
+      by_evidence : (ev : Evidence) → IsSince run key s ev → IsKnown V (project key t) s ev → completed_at run key s ≡ end + 1
       by_evidence (Covers groups) since known = since
       by_evidence (E.Complete event) since known = ⊎_elim
           (λ (zero_is : s ≡ 0). absurd (omega (arith, zero_is, some)))
           (λ (u : (u : Update) × In t.begun u × (u.stamp ≡ s)).
           let found = subst (λ (r : ℕ). update_at r t.begun ≡ Some (call_of u.0)) u.2 (ap (option_map call_of) (is_found t.begun u.0 parts.once u.1)) in
           absurd (false≢true (ap is_some (sym none ∙ is.update s ∙ found))))
-          (the_update V (view key t) parts s known)
+          (the_update V (project key t) parts s known)
 
   some_update : (s : ℕ) (call : CallNo) → (at_stamp s k).update ≡ Some call → 1 ≤ s
   some_update s call has = by_found (find (λ (u : Update). eqb u.stamp s) t.begun) refl
@@ -156,8 +156,8 @@ module _ (run : RunState) (key : List ℕ) (k : KeyState) (trace : IsKept key (t
   abbrev least : List Kept → ℕ
   least rows = least_of end (flat_map placed_at rows)
 
-  row_split : (p : Kept) (rows : List Kept) → flat_map placed_at (p ∷ rows) ≡ change_placed p.1.evidence p.0 p.1.update ++ (map look_placed p.1.looks ++ flat_map placed_at rows)
-  row_split p rows = append_assoc (change_placed p.1.evidence p.0 p.1.update) (map look_placed p.1.looks) (flat_map placed_at rows)
+  row_split : (p : Kept) (rows : List Kept) → flat_map placed_at (p ∷ rows) ≡ change_placed p.1.evidence p.0 p.1.update ++ (map look_placed p.1.read_only ++ flat_map placed_at rows)
+  row_split p rows = append_assoc (change_placed p.1.evidence p.0 p.1.update) (map look_placed p.1.read_only) (flat_map placed_at rows)
 
   -- a row with a change that is complete, and one with none
   record Changed (p : Kept) : Type 0 where
@@ -196,23 +196,23 @@ module _ (run : RunState) (key : List ℕ) (k : KeyState) (trace : IsKept key (t
       })
 
   module _ (p : Kept) (rows : List Kept) where
-    abbrev looks : List Placed
-    looks = map look_placed p.1.looks
+    abbrev read_only : List Placed
+    read_only = map look_placed p.1.read_only
 
     abbrev behind : List Placed
     behind = flat_map placed_at rows
 
-    row_changed : (c : Changed p) → flat_map placed_at (p ∷ rows) ≡ record { event = c.event; entry = record { call = c.call; tag = Some p.0 } } ∷ (looks ++ behind)
-    row_changed c = row_split p rows ∙ ap₂ (λ (o : Option CallNo) (ev : Evidence). change_placed ev p.0 o ++ (looks ++ behind)) c.update c.evidence
+    row_changed : (c : Changed p) → flat_map placed_at (p ∷ rows) ≡ record { event = c.event; entry = record { call = c.call; tag = Some p.0 } } ∷ (read_only ++ behind)
+    row_changed c = row_split p rows ∙ ap₂ (λ (o : Option CallNo) (ev : Evidence). change_placed ev p.0 o ++ (read_only ++ behind)) c.update c.evidence
 
-    row_unchanged : Unchanged p → flat_map placed_at (p ∷ rows) ≡ looks ++ behind
-    row_unchanged u = row_split p rows ∙ ap (λ (ps : List Placed). ps ++ (looks ++ behind)) u.nothing
+    row_unchanged : Unchanged p → flat_map placed_at (p ∷ rows) ≡ read_only ++ behind
+    row_unchanged u = row_split p rows ∙ ap (λ (ps : List Placed). ps ++ (read_only ++ behind)) u.nothing
 
     least_changed : (c : Changed p) → least (p ∷ rows) ≡ min c.event (least rows)
-    least_changed c = ap (least_of end) (row_changed c) ∙ ap (min c.event) (least_looks end p.1.looks behind)
+    least_changed c = ap (least_of end) (row_changed c) ∙ ap (min c.event) (least_looks end p.1.read_only behind)
 
     least_unchanged : Unchanged p → least (p ∷ rows) ≡ least rows
-    least_unchanged u = ap (least_of end) (row_unchanged u) ∙ least_looks end p.1.looks behind
+    least_unchanged u = ap (least_of end) (row_unchanged u) ∙ least_looks end p.1.read_only behind
 
   -- the least event of the changes from a stamp on is the moment of that stamp, where there is one
   least_is : (b : ℕ) (rows : List Kept) → AreFrom b rows → 1 ≤ b → (m : ℕ) → m ≤ end → min m (least rows) ≡ min m (moment run key b)
@@ -239,37 +239,37 @@ module _ (run : RunState) (key : List ℕ) (k : KeyState) (trace : IsKept key (t
       (row_is p (from.kept p (inl refl)))
 
   -- ---- the entries
-  looks_are : (looks : List Look) → ((l : Look) → In looks l → replied_at run key l.call.0 ≡ l.event) → map look_placed looks ≡ map (entry_placed run key) (map look_entry looks)
+  looks_are : (read_only : List ReadOnlyCall) → ((l : ReadOnlyCall) → In read_only l → replied_at run key l.call.0 ≡ l.event) → map look_placed read_only ≡ map (entry_placed run key) (map look_entry read_only)
   looks_are [] at = refl
-  looks_are (l ∷ looks) at = ap₂ (λ (n : ℕ) (ps : List Placed). record { event = n; entry = look_entry l } ∷ ps) (sym (at l (inl refl))) (looks_are looks (λ m h. at m (inr h)))
+  looks_are (l ∷ read_only) at = ap₂ (λ (n : ℕ) (ps : List Placed). record { event = n; entry = look_entry l } ∷ ps) (sym (at l (inl refl))) (looks_are read_only (λ m h. at m (inr h)))
 
   placed_from : (b : ℕ) (rows : List Kept) → AreFrom b rows → at_moments end (flat_map placed_at rows) ≡ map (entry_placed run key) (flat_map entries_at rows)
   placed_from b [] from = refl
   placed_from b (p ∷ rows) from =
       let here : at_stamp p.0 k ≡ p.1 = from.kept p (inl refl) in
-      let told : map look_placed p.1.looks ≡ map (entry_placed run key) (map look_entry p.1.looks) =
-      looks_are p.1.looks (λ l h. (had.replied p.0 l (subst (λ (a : AtStamp). In a.looks l) (sym here) h)).0) in
+      let told : map look_placed p.1.read_only ≡ map (entry_placed run key) (map look_entry p.1.read_only) =
+      looks_are p.1.read_only (λ l h. (had.replied p.0 l (subst (λ (a : AtStamp). In a.read_only l) (sym here) h)).0) in
       let more : at_moments end (flat_map placed_at rows) ≡ map (entry_placed run key) (flat_map entries_at rows) = placed_from (p.0 + 1) rows (rest_from b p rows from) in
-      let rest : at_moments end (looks p rows ++ behind p rows) ≡ map (entry_placed run key) (map look_entry p.1.looks ++ flat_map entries_at rows) =
-      moments_looks end p.1.looks (behind p rows) ∙ ap₂ (λ (a b : List Placed). a ++ b) told more
-      ∙ sym (map-append (entry_placed run key) (map look_entry p.1.looks) (flat_map entries_at rows)) in
-      let split : flat_map entries_at (p ∷ rows) ≡ update_entry (is_done p.1.evidence) p.0 p.1.update ++ (map look_entry p.1.looks ++ flat_map entries_at rows) =
-      append_assoc (update_entry (is_done p.1.evidence) p.0 p.1.update) (map look_entry p.1.looks) (flat_map entries_at rows) in
+      let rest : at_moments end (read_only p rows ++ behind p rows) ≡ map (entry_placed run key) (map look_entry p.1.read_only ++ flat_map entries_at rows) =
+      moments_looks end p.1.read_only (behind p rows) ∙ ap₂ (λ (a b : List Placed). a ++ b) told more
+      ∙ sym (map-append (entry_placed run key) (map look_entry p.1.read_only) (flat_map entries_at rows)) in
+      let split : flat_map entries_at (p ∷ rows) ≡ update_entry (is_done p.1.evidence) p.0 p.1.update ++ (map look_entry p.1.read_only ++ flat_map entries_at rows) =
+      append_assoc (update_entry (is_done p.1.evidence) p.0 p.1.update) (map look_entry p.1.read_only) (flat_map entries_at rows) in
       ⊎_elim
       (λ (c : Changed p).
       let entry : Entry = record { call = c.call; tag = Some p.0 } in
       let follows = moments_follow run key p.0 in
-      let least_behind = least_looks end p.1.looks (behind p rows) in
+      let least_behind = least_looks end p.1.read_only (behind p rows) in
       let up = least_is (p.0 + 1) rows (rest_from b p rows from) (omega arith) c.event c.within in
       let done = c.at in
-      let event : min c.event (least_of end (looks p rows ++ behind p rows)) ≡ moment run key p.0 = omega (arith, follows, least_behind, up, done) in
-      let entries : flat_map entries_at (p ∷ rows) ≡ entry ∷ (map look_entry p.1.looks ++ flat_map entries_at rows) =
-      split ∙ ap₂ (λ (o : Option CallNo) (ev : Evidence). update_entry (is_done ev) p.0 o ++ (map look_entry p.1.looks ++ flat_map entries_at rows)) c.update c.evidence in
+      let event : min c.event (least_of end (read_only p rows ++ behind p rows)) ≡ moment run key p.0 = omega (arith, follows, least_behind, up, done) in
+      let entries : flat_map entries_at (p ∷ rows) ≡ entry ∷ (map look_entry p.1.read_only ++ flat_map entries_at rows) =
+      split ∙ ap₂ (λ (o : Option CallNo) (ev : Evidence). update_entry (is_done ev) p.0 o ++ (map look_entry p.1.read_only ++ flat_map entries_at rows)) c.update c.evidence in
       ap (at_moments end) (row_changed p rows c) ∙ ap₂ (λ (n : ℕ) (ps : List Placed). record { event = n; entry = entry } ∷ ps) event rest
       ∙ sym (ap (map (entry_placed run key)) entries))
       (λ (u : Unchanged p).
-      let entries : flat_map entries_at (p ∷ rows) ≡ map look_entry p.1.looks ++ flat_map entries_at rows =
-      split ∙ ap (λ (es : List Entry). es ++ (map look_entry p.1.looks ++ flat_map entries_at rows)) u.no_entry in
+      let entries : flat_map entries_at (p ∷ rows) ≡ map look_entry p.1.read_only ++ flat_map entries_at rows =
+      split ∙ ap (λ (es : List Entry). es ++ (map look_entry p.1.read_only ++ flat_map entries_at rows)) u.no_entry in
       ap (at_moments end) (row_unchanged p rows u) ∙ rest ∙ sym (ap (map (entry_placed run key)) entries))
       (row_is p here)
 

@@ -10,17 +10,17 @@ use Rattle.hk_history.specs.declared.event.Event.{Event as Line}
 use Rattle.hk_history.specs.declared.event.Event.TheVariants as L
 use Rattle.hk_history.specs.History.{is_void, is_unsure}
 use Rattle.hk_register.specs.Machine.{Node, Item, Update}
-use Rattle.hk_register.specs.Machine.Item.{Called, Answered, Dropped, Looked, Missed}
+use Rattle.hk_register.specs.Machine.Item.{Called, Answered, Dropped, ReadOnly, Rejected}
 use Rattle.hk_register.specs.Effects.{register_of}
 use Rattle.hk_base.specs.Register.{act}
 use Rattle.hk_node.specs.Calls.{kind_of}
 use Rattle.hk_register.specs.Printed.{item_events, events_of}
 use Rattle.hk_world.specs.World.{numbered}
-use Rattle.hk_effects.specs.View.{is_same_key, told_at, reply_item, look_item, call_items, updates_of}
+use Rattle.hk_effects.specs.Projection.{is_same_key, told_at, reply_item, read_only_item, call_items, updates_of}
 use Rattle.hk_effects.proofs.Replies.{replies_begin_none}
 use Rattle.hk_register.specs.Machine.{In}
 use Rattle.hk_safety.specs.declared.key_run.AtStamp.{AtStamp}
-use Rattle.hk_safety.specs.declared.key_run.Look.{Look}
+use Rattle.hk_safety.specs.declared.key_run.ReadOnlyCall.{ReadOnlyCall}
 use Rattle.hk_safety.specs.Kept.{KeyState, at_stamp, looks_at, calls_in, call_of, update_at}
 use Rattle.hk_safety.specs.Grown.{Stamps, stamp_in, IsBegunAt, IsLookedAt, IsTurned, is_answer}
 use Rattle.hk_safety.specs.Shows.{reply_line, line_at, lines_at}
@@ -73,7 +73,7 @@ begun_at s us old = elim (update_at s us) [ None ↦ old | Some call ↦ Some ca
 pub record IsSaid (old new : KeyState) (lines : List Line) (said : List Item) (us : List Update) : Type 0 where
   pub items : new.items ++ lines ≡ old.items ++ events_of said
   pub update : (s : ℕ) → (at_stamp s new).update ≡ begun_at s us (at_stamp s old).update
-  pub looks : (s : ℕ) → calls_in (at_stamp s new).looks ≡ calls_in (at_stamp s old).looks ++ looks_at s said
+  pub read_only : (s : ℕ) → calls_in (at_stamp s new).read_only ≡ calls_in (at_stamp s old).read_only ++ looks_at s said
   pub evidence : (s : ℕ) → (at_stamp s new).evidence ≡ (at_stamp s old).evidence
 
 -- replies alone
@@ -83,8 +83,8 @@ said_quiet old new id z s rs lone same = record {
   items = ap (λ (k : KeyState). k.items ++ map reply_line rs) same
       ∙ ap (λ (l : List Line). old.items ++ l) (sym (ap events_of (sym (append-nil (map (reply_item s) rs))) ∙ said_behind s rs [] lone));
   update = λ t. ap (λ (k : KeyState). (at_stamp t k).update) same ∙ ap (λ (us : List Update). begun_at t us (at_stamp t old).update) (sym none);
-  looks = λ t. ap (λ (k : KeyState). calls_in (at_stamp t k).looks) same ∙ sym (append-nil (calls_in (at_stamp t old).looks))
-      ∙ ap (λ (l : List CallNo). calls_in (at_stamp t old).looks ++ l) (sym (ap (looks_at t) (sym (append-nil (map (reply_item s) rs))) ∙ replies_found_none t s rs []));
+  read_only = λ t. ap (λ (k : KeyState). calls_in (at_stamp t k).read_only) same ∙ sym (append-nil (calls_in (at_stamp t old).read_only))
+      ∙ ap (λ (l : List CallNo). calls_in (at_stamp t old).read_only ++ l) (sym (ap (looks_at t) (sym (append-nil (map (reply_item s) rs))) ∙ replies_found_none t s rs []));
   evidence = λ t. ap (λ (k : KeyState). (at_stamp t k).evidence) same;
 }
   where
@@ -116,8 +116,8 @@ said_begun old new id z s call op rs lone items begun = record {
       ∙ ap (λ (l : List Line). old.items ++ l) (sym (said_behind s rs (Called call.0 s op ∷ []) lone));
   update = λ t. by_stamp t (eqb s t) refl ∙ ap (λ (us : List Update). begun_at t us (at_stamp t old).update)
       (sym (replies_begin_none id z s rs (Called call.0 s op ∷ [])));
-  looks = λ t. ap calls_in (by_looks t (eqb t s) refl) ∙ sym (append-nil (calls_in (at_stamp t old).looks))
-      ∙ ap (λ (l : List CallNo). calls_in (at_stamp t old).looks ++ l) (sym (replies_found_none t s rs (Called call.0 s op ∷ [])));
+  read_only = λ t. ap calls_in (by_looks t (eqb t s) refl) ∙ sym (append-nil (calls_in (at_stamp t old).read_only))
+      ∙ ap (λ (l : List CallNo). calls_in (at_stamp t old).read_only ++ l) (sym (replies_found_none t s rs (Called call.0 s op ∷ [])));
   evidence = λ t. by_evidence t (eqb t s) refl;
 }
   where
@@ -133,9 +133,9 @@ said_begun old new id z s call op rs lone items begun = record {
         ap (λ (a : AtStamp). a.update) (begun.there t (other t e))
         ∙ sym (ap (λ (b : Bool). picked (option_map call_of (cond b (Some (began id z call.0 s op)) None)) (at_stamp t old).update) e)
 
-    by_looks : (t : ℕ) (b : Bool) → eqb t s ≡ b → (at_stamp t new).looks ≡ (at_stamp t old).looks
-    by_looks t true e = subst (λ (u : ℕ). (at_stamp u new).looks ≡ (at_stamp u old).looks) (sym (eqb-true t s e)) (ap (λ (a : AtStamp). a.looks) begun.here)
-    by_looks t false e = ap (λ (a : AtStamp). a.looks) (begun.there t e)
+    by_looks : (t : ℕ) (b : Bool) → eqb t s ≡ b → (at_stamp t new).read_only ≡ (at_stamp t old).read_only
+    by_looks t true e = subst (λ (u : ℕ). (at_stamp u new).read_only ≡ (at_stamp u old).read_only) (sym (eqb-true t s e)) (ap (λ (a : AtStamp). a.read_only) begun.here)
+    by_looks t false e = ap (λ (a : AtStamp). a.read_only) (begun.there t e)
 
     by_evidence : (t : ℕ) (b : Bool) → eqb t s ≡ b → (at_stamp t new).evidence ≡ (at_stamp t old).evidence
     by_evidence t true e = subst (λ (u : ℕ). (at_stamp u new).evidence ≡ (at_stamp u old).evidence) (sym (eqb-true t s e)) (ap (λ (a : AtStamp). a.evidence) begun.here)
@@ -149,19 +149,19 @@ module _ (old new : KeyState) (id : ℕ) (z was : Node) (call : CallNo) (op : Op
       ap (λ (l : List Line). l ++ reply_line r ∷ []) items ∙ append_assoc old.items (L.Call call op ∷ []) (reply_line r ∷ [])
       ∙ ap (λ (c : CallNo). old.items ++ (L.Call call op ∷ L.Reply c r.answer ∷ [])) own ∙ ap (λ (l : List Line). old.items ++ l) (sym e)
 
-  said_missed : new.stamps ≡ old.stamps → IsSaid old new (reply_line r ∷ []) (Missed call.0 op r.answer ∷ []) []
-  said_missed same = record {
-    items = said_item (Missed call.0 op r.answer) refl;
+  said_rejected : new.stamps ≡ old.stamps → IsSaid old new (reply_line r ∷ []) (Rejected call.0 op r.answer ∷ []) []
+  said_rejected same = record {
+    items = said_item (Rejected call.0 op r.answer) refl;
     update = λ t. ap (λ (l : Stamps). (stamp_in t l).update) same;
-    looks = λ t. ap (λ (l : Stamps). calls_in (stamp_in t l).looks) same ∙ sym (append-nil (calls_in (at_stamp t old).looks));
+    read_only = λ t. ap (λ (l : Stamps). calls_in (stamp_in t l).read_only) same ∙ sym (append-nil (calls_in (at_stamp t old).read_only));
     evidence = λ t. ap (λ (l : Stamps). (stamp_in t l).evidence) same;
   }
 
-  said_looked : (n : ℕ) → IsLookedAt old.stamps new.stamps was.stamp (record { call = call; event = n }) → IsSaid old new (reply_line r ∷ []) (Looked call.0 was.stamp op was.content r.answer ∷ []) []
+  said_looked : (n : ℕ) → IsLookedAt old.stamps new.stamps was.stamp (record { call = call; event = n }) → IsSaid old new (reply_line r ∷ []) (ReadOnly call.0 was.stamp op was.content r.answer ∷ []) []
   said_looked n looked = record {
-    items = said_item (Looked call.0 was.stamp op was.content r.answer) refl;
+    items = said_item (ReadOnly call.0 was.stamp op was.content r.answer) refl;
     update = λ t. by_update t (eqb t was.stamp) refl;
-    looks = λ t. by_looks t (eqb was.stamp t) refl;
+    read_only = λ t. by_looks t (eqb was.stamp t) refl;
     evidence = λ t. by_evidence t (eqb t was.stamp) refl;
   }
     where
@@ -175,23 +175,23 @@ module _ (old new : KeyState) (id : ℕ) (z was : Node) (call : CallNo) (op : Op
           (ap (λ (a : AtStamp). a.evidence) looked.here)
       by_evidence t false e = ap (λ (a : AtStamp). a.evidence) (looked.there t e)
 
-      by_looks : (t : ℕ) (b : Bool) → eqb was.stamp t ≡ b → calls_in (at_stamp t new).looks ≡ calls_in (at_stamp t old).looks ++ ([] ++ cond b (call ∷ []) [])
-      by_looks t true e = subst (λ (u : ℕ). calls_in (at_stamp u new).looks ≡ calls_in (at_stamp u old).looks ++ call ∷ []) (eqb-true was.stamp t e)
-          (ap (λ (a : AtStamp). calls_in a.looks) looked.here
-          ∙ map-append (λ (l : Look). l.call) (at_stamp was.stamp old).looks (record { call = call; event = n } ∷ []))
+      by_looks : (t : ℕ) (b : Bool) → eqb was.stamp t ≡ b → calls_in (at_stamp t new).read_only ≡ calls_in (at_stamp t old).read_only ++ ([] ++ cond b (call ∷ []) [])
+      by_looks t true e = subst (λ (u : ℕ). calls_in (at_stamp u new).read_only ≡ calls_in (at_stamp u old).read_only ++ call ∷ []) (eqb-true was.stamp t e)
+          (ap (λ (a : AtStamp). calls_in a.read_only) looked.here
+          ∙ map-append (λ (l : ReadOnlyCall). l.call) (at_stamp was.stamp old).read_only (record { call = call; event = n } ∷ []))
       by_looks t false e =
-          ap (λ (a : AtStamp). calls_in a.looks) (looked.there t (ne_eqb t was.stamp (λ (is : t ≡ was.stamp). false≢true (sym e ∙ eq-eqb was.stamp t (sym is)))))
-          ∙ sym (append-nil (calls_in (at_stamp t old).looks))
+          ap (λ (a : AtStamp). calls_in a.read_only) (looked.there t (ne_eqb t was.stamp (λ (is : t ≡ was.stamp). false≢true (sym e ∙ eq-eqb was.stamp t (sym is)))))
+          ∙ sym (append-nil (calls_in (at_stamp t old).read_only))
 
   -- by whether its answer is one
   pub said_answered : (n : ℕ) → IsTurned false (not (is_void (Some r.answer))) old.stamps new.stamps was.stamp call n →
-      IsSaid old new (reply_line r ∷ []) (look_item call.0 op was r ∷ []) (updates_of id z (look_item call.0 op was r ∷ []))
+      IsSaid old new (reply_line r ∷ []) (read_only_item call.0 op was r ∷ []) (updates_of id z (read_only_item call.0 op was r ∷ []))
   said_answered n turned = by_void (is_void (Some r.answer)) turned
     where
       by_void : (b : Bool) → IsTurned false (not b) old.stamps new.stamps was.stamp call n →
-          IsSaid old new (reply_line r ∷ []) (cond b (Missed call.0 op r.answer) (Looked call.0 was.stamp op was.content r.answer) ∷ [])
-          (updates_of id z (cond b (Missed call.0 op r.answer) (Looked call.0 was.stamp op was.content r.answer) ∷ []))
-      by_void true turned = said_missed turned
+          IsSaid old new (reply_line r ∷ []) (cond b (Rejected call.0 op r.answer) (ReadOnly call.0 was.stamp op was.content r.answer) ∷ [])
+          (updates_of id z (cond b (Rejected call.0 op r.answer) (ReadOnly call.0 was.stamp op was.content r.answer) ∷ []))
+      by_void true turned = said_rejected turned
       by_void false turned = said_looked n turned
 
 -- what a call is told: a reply of its own, or nothing where its row has a new stamp

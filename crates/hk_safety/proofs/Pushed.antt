@@ -10,7 +10,7 @@ use Rattle.hk_world.specs.declared.shown.Shown.{Shown}
 use Rattle.hk_world.specs.World.{WorldState}
 use Rattle.hk_world.specs.Steps.{Accepted, world_step}
 use Rattle.hk_world.specs.Sound.{IsEvent}
-use Rattle.hk_effects.specs.View.{Trace, traced}
+use Rattle.hk_effects.specs.Projection.{Trace, traced}
 use Rattle.hk_effects.specs.Runs.{IsKept, RunsKeepParts}
 use Rattle.hk_safety.specs.Run.{RunState, world_of, IsRun, trace_of, with_named}
 use Rattle.hk_safety.specs.Kept.{KeyState, Keys, KeptState, IsKeyOf, IsKeptOf, first_key, find_key, key_at, called_from}

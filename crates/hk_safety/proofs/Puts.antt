@@ -12,7 +12,7 @@ use Rattle.std.proofs.lemmas.Map.{lookup-none}
 use Rattle.std.proofs.lemmas.Map.Entries.{none_below_head}
 use Rattle.std.proofs.lemmas.Map.Keys.{sorted_tail}
 use Rattle.hk_copy.specs.Batches.{key_cmp}
-use Rattle.hk_effects.specs.View.{is_same_key}
+use Rattle.hk_effects.specs.Projection.{is_same_key}
 use Rattle.hk_effects.proofs.Order.{cases_key, same_of, same_not}
 use Rattle.hk_safety.specs.Run.{with_key}
 use Rattle.hk_safety.specs.Kept.{KeyState, Keys, first_key, find_key, key_at}

@@ -7,7 +7,7 @@ use Rattle.hk_history.specs.declared.event.Event.{Event as Line}
 use Rattle.hk_history.specs.declared.event.Event.TheVariants as L
 use Rattle.hk_history.specs.History.{is_reply}
 use Rattle.hk_register.specs.Machine.{In, Item, call_of}
-use Rattle.hk_register.specs.Machine.Item.{Called, Answered, Dropped, Looked, Missed}
+use Rattle.hk_register.specs.Machine.Item.{Called, Answered, Dropped, ReadOnly, Rejected}
 use Rattle.hk_register.specs.Calls.{IsReply, OneReply}
 use Rattle.hk_register.specs.Printed.{item_events, events_of}
 use Rattle.hk_register.proofs.Grow.{in_left, in_right, in_either}
@@ -22,12 +22,12 @@ item_replies (Answered d s a) c line (inl e) r = (tt, eqb-true d c (subst (λ (l
 item_replies (Answered d s a) c line (inr h) r = absurd h
 item_replies (Dropped d s a) c line (inl e) r = (tt, eqb-true d c (subst (λ (l : Line). is_reply c l ≡ true) e r))
 item_replies (Dropped d s a) c line (inr h) r = absurd h
-item_replies (Looked d s op held a) c line (inl e) r = absurd (false≢true (subst (λ (l : Line). is_reply c l ≡ true) e r))
-item_replies (Looked d s op held a) c line (inr (inl e)) r = (tt, eqb-true d c (subst (λ (l : Line). is_reply c l ≡ true) e r))
-item_replies (Looked d s op held a) c line (inr (inr h)) r = absurd h
-item_replies (Missed d op a) c line (inl e) r = absurd (false≢true (subst (λ (l : Line). is_reply c l ≡ true) e r))
-item_replies (Missed d op a) c line (inr (inl e)) r = (tt, eqb-true d c (subst (λ (l : Line). is_reply c l ≡ true) e r))
-item_replies (Missed d op a) c line (inr (inr h)) r = absurd h
+item_replies (ReadOnly d s op held a) c line (inl e) r = absurd (false≢true (subst (λ (l : Line). is_reply c l ≡ true) e r))
+item_replies (ReadOnly d s op held a) c line (inr (inl e)) r = (tt, eqb-true d c (subst (λ (l : Line). is_reply c l ≡ true) e r))
+item_replies (ReadOnly d s op held a) c line (inr (inr h)) r = absurd h
+item_replies (Rejected d op a) c line (inl e) r = absurd (false≢true (subst (λ (l : Line). is_reply c l ≡ true) e r))
+item_replies (Rejected d op a) c line (inr (inl e)) r = (tt, eqb-true d c (subst (λ (l : Line). is_reply c l ≡ true) e r))
+item_replies (Rejected d op a) c line (inr (inr h)) r = absurd h
 
 pub record RepliedBy (items : List Item) (c : ℕ) : Type 0 where
   pub item : Item
@@ -50,8 +50,8 @@ replies_of : (i : Item) → IsReply i → (line : Line) × In (item_events i) li
 replies_of (Called c s op) reply = absurd reply
 replies_of (Answered c s a) reply = (L.Reply (record { 0 = c }) a, inl refl, eq-eqb c c refl)
 replies_of (Dropped c s a) reply = (L.Reply (record { 0 = c }) a, inl refl, eq-eqb c c refl)
-replies_of (Looked c s op held a) reply = (L.Reply (record { 0 = c }) a, inr (inl refl), eq-eqb c c refl)
-replies_of (Missed c op a) reply = (L.Reply (record { 0 = c }) a, inr (inl refl), eq-eqb c c refl)
+replies_of (ReadOnly c s op held a) reply = (L.Reply (record { 0 = c }) a, inr (inl refl), eq-eqb c c refl)
+replies_of (Rejected c op a) reply = (L.Reply (record { 0 = c }) a, inr (inl refl), eq-eqb c c refl)
 
 pub replied_by : (items : List Item) (i : Item) → In items i → IsReply i → list_any (is_reply (call_of i)) (events_of items) ≡ true
 replied_by [] i h reply = absurd h
@@ -77,10 +77,10 @@ looked_is s [] call h = absurd h
 looked_is s (Called c t op ∷ items) call h = further (Called c t op) items call.0 (looked_is s items call h)
 looked_is s (Answered c t a ∷ items) call h = further (Answered c t a) items call.0 (looked_is s items call h)
 looked_is s (Dropped c t a ∷ items) call h = further (Dropped c t a) items call.0 (looked_is s items call h)
-looked_is s (Missed c op a ∷ items) call h = further (Missed c op a) items call.0 (looked_is s items call h)
-looked_is s (Looked c t op held a ∷ items) call h = ⊎_elim
-    (λ (k : In (looks_at s items) call). further (Looked c t op held a) items call.0 (looked_is s items call k))
-    (λ (k : In (cond (eqb t s) (record { 0 = c } ∷ []) []) call). record { item = Looked c t op held a; there = inl refl; reply = tt; call = by_test (eqb t s) k })
+looked_is s (Rejected c op a ∷ items) call h = further (Rejected c op a) items call.0 (looked_is s items call h)
+looked_is s (ReadOnly c t op held a ∷ items) call h = ⊎_elim
+    (λ (k : In (looks_at s items) call). further (ReadOnly c t op held a) items call.0 (looked_is s items call k))
+    (λ (k : In (cond (eqb t s) (record { 0 = c } ∷ []) []) call). record { item = ReadOnly c t op held a; there = inl refl; reply = tt; call = by_test (eqb t s) k })
     (in_either (looks_at s items) (cond (eqb t s) (record { 0 = c } ∷ []) []) call h)
   where
     by_test : (b : Bool) → In (cond b (record { 0 = c } ∷ []) []) call → c ≡ call.0

@@ -7,7 +7,7 @@ use Rattle.hk_safety.specs.declared.evidence.Cover.{Cover}
 use Rattle.hk_safety.specs.declared.evidence.Evidence.{Evidence}
 use Rattle.hk_safety.specs.declared.evidence.Evidence.TheVariants.{Covers}
 use Rattle.hk_safety.specs.declared.evidence.Evidence.TheVariants as E
-use Rattle.hk_safety.specs.declared.key_run.Look.{Look}
+use Rattle.hk_safety.specs.declared.key_run.ReadOnlyCall.{ReadOnlyCall}
 use Rattle.hk_safety.specs.Kept.{KeyState, at_stamp}
 use Rattle.hk_safety.specs.Grown.{IsShown, IsSinceThen, AreLooked, GoesAt}
 
@@ -31,13 +31,13 @@ since_shown v c (Covers groups) (E.Complete event) shown = shown.3
 since_shown v c (Covers groups) (Covers more) shown = tt
 
 -- ---- looks
-pub looked_same : (n : ℕ) (old new : List Look) → new ≡ old → AreLooked n old new
+pub looked_same : (n : ℕ) (old new : List ReadOnlyCall) → new ≡ old → AreLooked n old new
 looked_same n old new same = record { more = []; same = same ∙ sym (append-nil old); here = λ l h. absurd h }
 
-looked_both : (n : ℕ) (old mid new : List Look) → AreLooked n old mid → AreLooked n mid new → AreLooked n old new
+looked_both : (n : ℕ) (old mid new : List ReadOnlyCall) → AreLooked n old mid → AreLooked n mid new → AreLooked n old new
 looked_both n old mid new first second = record {
   more = first.more ++ second.more;
-  same = second.same ∙ ap (λ (ls : List Look). ls ++ second.more) first.same ∙ append_assoc old first.more second.more;
+  same = second.same ∙ ap (λ (ls : List ReadOnlyCall). ls ++ second.more) first.same ∙ append_assoc old first.more second.more;
   here = λ l h. ⊎_elim (first.here l) (second.here l) (in_either first.more second.more l h);
 }
 
@@ -45,11 +45,11 @@ looked_both n old mid new first second = record {
 pub goes_same : (n : ℕ) (old new : KeyState) → new ≡ old → GoesAt n old new
 goes_same n old new same = record {
   since = λ s. since_same n (at_stamp s old).evidence (at_stamp s new).evidence (ap (λ (k : KeyState). (at_stamp s k).evidence) same);
-  looked = λ s. looked_same n (at_stamp s old).looks (at_stamp s new).looks (ap (λ (k : KeyState). (at_stamp s k).looks) same);
+  looked = λ s. looked_same n (at_stamp s old).read_only (at_stamp s new).read_only (ap (λ (k : KeyState). (at_stamp s k).read_only) same);
 }
 
 pub goes_both : (n : ℕ) (old mid new : KeyState) → GoesAt n old mid → GoesAt n mid new → GoesAt n old new
 goes_both n old mid new first second = record {
   since = λ s. since_both n (at_stamp s old).evidence (at_stamp s mid).evidence (at_stamp s new).evidence (first.since s) (second.since s);
-  looked = λ s. looked_both n (at_stamp s old).looks (at_stamp s mid).looks (at_stamp s new).looks (first.looked s) (second.looked s);
+  looked = λ s. looked_both n (at_stamp s old).read_only (at_stamp s mid).read_only (at_stamp s new).read_only (first.looked s) (second.looked s);
 }

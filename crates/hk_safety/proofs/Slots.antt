@@ -5,7 +5,7 @@ use Rattle.std.proofs.Common.{Option, Some, None, eqb, length, eq-zero-or-pos, f
 use Rattle.std.specs.Prelude.{if◌then◌else◌, ◌==◌, ⊤}
 use Rattle.std.proofs.lemmas.Bool.{false≢true, eqb-true, eqb-false, eq-eqb}
 use Rattle.hk_register.specs.Machine.{In, Update, Item, State}
-use Rattle.hk_register.specs.Machine.Item.{Called, Answered, Dropped, Looked, Missed}
+use Rattle.hk_register.specs.Machine.Item.{Called, Answered, Dropped, ReadOnly, Rejected}
 use Rattle.hk_register.specs.Facts.{Complete}
 use Rattle.hk_register.specs.Parts.{Parts}
 use Rattle.hk_register.specs.Printed.{Slot, Below, Sorted, update_slot, StandsAt, IsPrinted, printed}
@@ -52,18 +52,18 @@ sorted_both (a ∷ xs) ys sx sy below =
 
 -- ---- the calls that found a stamp, the first one first, of items that are newest first
 abbrev pub look_at : ℕ → ℕ → Item → List Slot
-look_at s k (Looked c t op held a) = if t == s then look_slot k c t op held a ∷ [] else []
+look_at s k (ReadOnly c t op held a) = if t == s then look_slot k c t op held a ∷ [] else []
 look_at s k (Called c t op) = []
 look_at s k (Answered c t a) = []
 look_at s k (Dropped c t a) = []
-look_at s k (Missed c op a) = []
+look_at s k (Rejected c op a) = []
 
 abbrev pub look_slots_at : ℕ → List Item → List Slot
 look_slots_at s [] = []
 look_slots_at s (i ∷ items) = look_slots_at s items ++ look_at s (length items + 1) i
 
 abbrev pub look_of : Slot → Item
-look_of x = Looked x.call x.stamp x.op x.content x.answer
+look_of x = ReadOnly x.call x.stamp x.op x.content x.answer
 
 record IsLook (s k : ℕ) (i : Item) (x : Slot) : Type 0 where
   stamp : x.stamp ≡ s
@@ -71,9 +71,9 @@ record IsLook (s k : ℕ) (i : Item) (x : Slot) : Type 0 where
   item : look_of x ≡ i
 
 look_is : (s k : ℕ) (i : Item) (x : Slot) → In (look_at s k i) x → IsLook s k i x
-look_is s k (Looked c t op held a) x h = by_test (eqb t s) refl h
+look_is s k (ReadOnly c t op held a) x h = by_test (eqb t s) refl h
   where
-    by_test : (b : Bool) → eqb t s ≡ b → In (cond b (look_slot k c t op held a ∷ []) []) x → IsLook s k (Looked c t op held a) x
+    by_test : (b : Bool) → eqb t s ≡ b → In (cond b (look_slot k c t op held a ∷ []) []) x → IsLook s k (ReadOnly c t op held a) x
     by_test true e (inl is) = record {
       stamp = ap (λ (y : Slot). y.stamp) is ∙ eqb-true t s e;
       place = ap (λ (y : Slot). y.place) is;
@@ -84,7 +84,7 @@ look_is s k (Looked c t op held a) x h = by_test (eqb t s) refl h
 look_is s k (Called c t op) x none = absurd none
 look_is s k (Answered c t a) x none = absurd none
 look_is s k (Dropped c t a) x none = absurd none
-look_is s k (Missed c op a) x none = absurd none
+look_is s k (Rejected c op a) x none = absurd none
 
 pub looks_are : (s : ℕ) (items : List Item) (x : Slot) → In (look_slots_at s items) x → (x.stamp ≡ s) × (0 < x.place) × StandsAt items x.place (look_of x)
 looks_are s [] x h = absurd h
@@ -105,7 +105,7 @@ looks_have (i ∷ items) x (inl e) =
     in_right (look_slots_at s items) (look_at s (length items + 1) i) x (subst (λ (k : ℕ). In (look_at s k i) x) e.1 its)
 
 one_sorted : (s k : ℕ) (i : Item) → Sorted (look_at s k i)
-one_sorted s k (Looked c t op held a) = by_test (eqb t s)
+one_sorted s k (ReadOnly c t op held a) = by_test (eqb t s)
   where
     by_test : (b : Bool) → Sorted (cond b (look_slot k c t op held a ∷ []) [])
     by_test true = (λ r h. absurd h, tt)
@@ -113,7 +113,7 @@ one_sorted s k (Looked c t op held a) = by_test (eqb t s)
 one_sorted s k (Called c t op) = tt
 one_sorted s k (Answered c t a) = tt
 one_sorted s k (Dropped c t a) = tt
-one_sorted s k (Missed c op a) = tt
+one_sorted s k (Rejected c op a) = tt
 
 looks_sorted : (s : ℕ) (items : List Item) → Sorted (look_slots_at s items)
 looks_sorted s [] = tt
@@ -252,7 +252,7 @@ pub record AreRows (V : ℕ → List ℕ) (st : State) (rows : List Row) : Type 
   pub rising : Rising rows
   pub complete : (r : Row) → In rows r → r.complete ≡ true → (u : Update) → In st.begun u → u.stamp ≡ r.stamp → Complete V st u.stamp
   pub updates : (u : Update) → In st.begun u → Complete V st u.stamp → In rows (record { stamp = u.stamp; complete = true })
-  pub looks : (x : Slot) → StandsAt st.history x.place (look_of x) → (b : Bool) × In rows (record { stamp = x.stamp; complete = b })
+  pub read_only : (x : Slot) → StandsAt st.history x.place (look_of x) → (b : Bool) × In rows (record { stamp = x.stamp; complete = b })
 
 module _ (V : ℕ → List ℕ) (st : State) (parts : Parts V st) (rows : List Row) (are : AreRows V st rows) where
   abbrev by_rows : List Slot
@@ -269,7 +269,7 @@ module _ (V : ℕ → List ℕ) (st : State) (parts : Parts V st) (rows : List R
       let u = updates_are st.begun st.history at.0 x a in
       subst (In (printed V st)) (sym u.slot) (sorted_printed.updates u.update u.begun (are.complete at.0 at.1 u.complete u.update u.begun u.stamp)))
       (λ (b : In (look_part st.history at.0) x).
-      sorted_printed.looks x.place x.call x.stamp x.op x.content x.answer (looks_are at.0.stamp st.history x b).2)
+      sorted_printed.read_only x.place x.call x.stamp x.op x.content x.answer (looks_are at.0.stamp st.history x b).2)
       (in_either (update_part st.begun at.0) (look_part st.history at.0) x at.2)
 
   update_in : (u : Update) → In st.begun u → Complete V st u.stamp → In by_rows (update_slot u)
@@ -281,7 +281,7 @@ module _ (V : ℕ → List ℕ) (st : State) (parts : Parts V st) (rows : List R
 
   look_in : (x : Slot) → StandsAt st.history x.place (look_of x) → In by_rows x
   look_in x h =
-      let at = are.looks x h in
+      let at = are.read_only x h in
       let r : Row = record { stamp = x.stamp; complete = at.0 } in
       of_row st.begun st.history rows r x at.1 (in_right (update_part st.begun r) (look_part st.history r) x (looks_have st.history x h))
 

@@ -10,7 +10,7 @@ use Rattle.std.proofs.lemmas.Bool.Decides.{nat_tests}
 use Rattle.hk_register.specs.Machine.{In, Update}
 use Rattle.hk_register.specs.Parts.{Parts}
 use Rattle.hk_node.specs.Node.{NodeState}
-use Rattle.hk_effects.specs.View.{Trace, view, key_node, node_at}
+use Rattle.hk_effects.specs.Projection.{Trace, project, key_node, node_at}
 use Rattle.hk_effects.specs.Orders.{family}
 use Rattle.hk_effects.specs.Runs.{IsKept}
 use Rattle.hk_effects.proofs.Legality.{own_agrees}
@@ -39,7 +39,7 @@ module _ (key : List ℕ) (t : Trace) (kept : IsKept key t) where
   abbrev V : ℕ → List ℕ
   V = family t.world.views
 
-  parts : Parts V (view key t)
+  parts : Parts V (project key t)
   parts = kept.parts V (own_agrees t.world kept.own)
 
   -- a row's stamp is within the last version
@@ -82,7 +82,7 @@ module _ (run : RunState) (key : List ℕ) (trace : IsKept key (trace_of key run
       told ≡ moment_of run key s
   told_kept k is had s told same ordered = by_zero (eqb s 0) refl same
     where
-      by_evidence : (ev : Evidence) → (at_stamp s k).evidence ≡ ev → 1 ≤ s → IsKnown (family t.world.views) (view key t) s ev → IsSince run key s ev →
+      by_evidence : (ev : Evidence) → (at_stamp s k).evidence ≡ ev → 1 ≤ s → IsKnown (family t.world.views) (project key t) s ev → IsSince run key s ev →
           told ≡ option_map (λ event. earliest event (stamps_from s k.stamps)) (completion ev) → told ≡ moment_of run key s
       by_evidence (Covers groups) e some known since none =
           none ∙ none_told s (false_from_ne_true (is_completed key s t) (λ c. known.0 (complete_of key t s c).3))

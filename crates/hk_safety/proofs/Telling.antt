@@ -19,13 +19,13 @@ use Rattle.hk_world.specs.declared.event.Event.TheVariants.{Call}
 use Rattle.hk_world.specs.World.{WorldState, node_of, numbered}
 use Rattle.hk_world.specs.Steps.{Accepted, acting_of, world_step}
 use Rattle.hk_world.specs.Sound.{IsEvent}
-use Rattle.hk_effects.specs.View.{Trace, view, key_node, node_at, is_same_key, told_at, pending_stamp, reply_item, call_items, items_of, updates_of, added, traced, traced_by}
+use Rattle.hk_effects.specs.Projection.{Trace, project, key_node, node_at, is_same_key, told_at, pending_stamp, reply_item, call_items, items_of, updates_of, added, traced, traced_by}
 use Rattle.hk_effects.specs.Own.{IsOwn}
 use Rattle.hk_effects.specs.Runs.{IsKept, RunsKeepParts, start_trace}
 use Rattle.hk_effects.proofs.Order.{same_true, same_itself}
 use Rattle.hk_effects.proofs.Replies.{looks_begin_none, replies_begin_none}
 use Rattle.hk_effects.proofs.Rests.{node_holds}
-use Rattle.hk_effects.proofs.Two.{append_three}
+use Rattle.hk_effects.proofs.TwoEffects.{append_three}
 use Rattle.hk_effects.proofs.Worlds.{the_some}
 use Rattle.hk_effects.proofs.WorldKept.{calls_after}
 use Rattle.hk_safety.specs.Run.{RunState, world_of, AreAccepted, IsRun, trace_with, trace_from, trace_of}
@@ -155,9 +155,9 @@ module _ (key : List ℕ) (t : Trace) (event : Event) (a : Accepted) (calls : Li
           (sym (replies_said key event (t.world.calls + 1) was x (told_at key a.told) no_call))
           (in_map (reply_item s) (told_at key a.told) r (in_told key r a.told told)) in
           let is_added : traced key t event a ≡ added key t event a id.0 was x = ap (traced_by key t event a) acts in
-          let stands : In (view key (traced key t event a)).history (reply_item s r) =
+          let stands : In (project key (traced key t event a)).history (reply_item s r) =
           subst (λ (z : Trace). In z.history (reply_item s r)) (sym is_added) (in_left items t.history (reply_item s r) said) in
-          let u = replied_update (view key (traced key t event a)) s r (kept.calls.items (reply_item s r) stands) in
+          let u = replied_update (project key (traced key t event a)) s r (kept.calls.items (reply_item s r) stands) in
           subst (λ (n : ℕ). numbered n (calls ++ called_from (event ∷ [])) ≡ Some key) u.2 (now.begun u.0 u.1)
 
       by_way : IsMadeBy t.world event a → numbered r.call.0 (calls ++ called_from (event ∷ [])) ≡ Some key

@@ -25,7 +25,7 @@ use Rattle.hk_register.specs.Runs.{is_in}
 use Rattle.hk_register.proofs.Grow.{in_left, in_right, in_either}
 use Rattle.hk_register.proofs.Helps.{complete_of}
 use Rattle.hk_register.proofs.Tests.{in_is, is_in_from, any_in, in_any, in_all}
-use Rattle.hk_node.specs.declared.report.Former.{Former}
+use Rattle.hk_node.specs.declared.report.PriorRow.{PriorRow}
 use Rattle.hk_key.specs.Same.{is_same_row}
 use Rattle.hk_node.specs.Report.{AreChanged}
 use Rattle.hk_node.specs.Rows.{Rows, find_row, row_at}
@@ -33,7 +33,7 @@ use Rattle.hk_key.specs.Table.{first_row}
 use Rattle.hk_node.specs.Copies.{is_valid}
 use Rattle.hk_node.specs.Node.{NodeState, epoch_of, epoch_in}
 use Rattle.hk_node.specs.Sound.{IsNode}
-use Rattle.hk_effects.specs.View.{key_node, is_same_key, phase_of, pending_marks, moment_marks, install_marks, ack_marks, step_marks, letter_of, letters_of, covers, item_at, number_of}
+use Rattle.hk_effects.specs.Projection.{key_node, is_same_key, phase_of, pending_marks, moment_marks, install_marks, ack_marks, step_marks, letter_of, letters_of, covers, item_at, number_of}
 use Rattle.hk_effects.proofs.Frames.{itself}
 use Rattle.hk_effects.proofs.Marks.{own_pending}
 use Rattle.hk_effects.proofs.Order.{cases_key, same_true, same_of, same_not}
@@ -44,7 +44,7 @@ use Rattle.hk_safety.specs.declared.evidence.Evidence.{Evidence}
 use Rattle.hk_safety.specs.declared.evidence.Evidence.TheVariants.{Covers}
 use Rattle.hk_safety.specs.declared.evidence.Evidence.TheVariants as E
 use Rattle.hk_safety.specs.Kept.{covers_in, is_ready_mark, ready_in}
-use Rattle.hk_safety.specs.Grown.{CompleteBy, IsKnownBy, mark_by, with_mark, Touch, tags_at, wait_touches, touches_now, former_waits, changed_touches, ack_touches, letter_touches, has_risen, has_moved, is_open}
+use Rattle.hk_safety.specs.Grown.{CompleteBy, IsKnownBy, mark_by, with_mark, Touch, tags_at, wait_touches, touches_now, prior_waits, changed_touches, ack_touches, letter_touches, has_risen, has_moved, is_open}
 use Rattle.hk_safety.proofs.Known.{TellNoLess, TellSame, same_of_both, same_known, more_complete}
 
 -- ---- what marks tell, by the marks
@@ -299,35 +299,35 @@ module _ (id : ℕ) (z : Node) (key : List ℕ) where
       (subst (λ (ms : List Mark). In ms m) (acks_append id z (letter_of key l l.body) (letters_of key ls)) h))
 
 -- ---- the rows that changed
--- each former row is the key's row before; and a key with none has its row still
-pub record AreChanges (former : List Former) (old new : Rows) : Type 0 where
-  pub each : (f : Former) → In former f → f.row ≡ find_row f.key old
-  pub others : (key : List ℕ) → ((f : Former) → In former f → f.key ≢ key) → find_row key new ≡ find_row key old
+-- each prior row is the key's row before; and a key with none has its row still
+pub record AreChanges (prior : List PriorRow) (old new : Rows) : Type 0 where
+  pub each : (f : PriorRow) → In prior f → f.row ≡ find_row f.key old
+  pub others : (key : List ℕ) → ((f : PriorRow) → In prior f → f.key ≢ key) → find_row key new ≡ find_row key old
 
-each_in : (old new : Rows) (former : List Former) → AllByRecursion (λ f. (find_row f.key old ≡ f.row) × (is_same_row (row_at f.key old) (row_at f.key new) ≡ false)) former →
-    (f : Former) → In former f → f.row ≡ find_row f.key old
+each_in : (old new : Rows) (prior : List PriorRow) → AllByRecursion (λ f. (find_row f.key old ≡ f.row) × (is_same_row (row_at f.key old) (row_at f.key new) ≡ false)) prior →
+    (f : PriorRow) → In prior f → f.row ≡ find_row f.key old
 each_in old new [] all f h = absurd h
-each_in old new (g ∷ former) all f (inl e) = subst (λ (k : Former). k.row ≡ find_row k.key old) (sym e) (sym all.0.0)
-each_in old new (g ∷ former) all f (inr h) = each_in old new former all.1 f h
+each_in old new (g ∷ prior) all f (inl e) = subst (λ (k : PriorRow). k.row ≡ find_row k.key old) (sym e) (sym all.0.0)
+each_in old new (g ∷ prior) all f (inr h) = each_in old new prior all.1 f h
 
-none_of_key : (key : List ℕ) (former : List Former) → ((f : Former) → In former f → f.key ≢ key) → list_any (λ f. is_same_key key f.key) former ≡ false
+none_of_key : (key : List ℕ) (prior : List PriorRow) → ((f : PriorRow) → In prior f → f.key ≢ key) → list_any (λ f. is_same_key key f.key) prior ≡ false
 none_of_key key [] none = refl
-none_of_key key (f ∷ former) none =
-    or_from (is_same_key key f.key) _ (same_not key f.key (λ e. none f (inl refl) (sym e))) (none_of_key key former (λ g h. none g (inr h)))
+none_of_key key (f ∷ prior) none =
+    or_from (is_same_key key f.key) _ (same_not key f.key (λ e. none f (inl refl) (sym e))) (none_of_key key prior (λ g h. none g (inr h)))
 
-pub changes_of : (former : List Former) (old new : Rows) → AreChanged former old new → AreChanges former old new
-changes_of former old new are = record {
-  each = each_in old new former are.differ;
-  others = λ key none. are.others key (none_of_key key former none);
+pub changes_of : (prior : List PriorRow) (old new : Rows) → AreChanged prior old new → AreChanges prior old new
+changes_of prior old new are = record {
+  each = each_in old new prior are.differ;
+  others = λ key none. are.others key (none_of_key key prior none);
 }
 
-changed_or_not : (key : List ℕ) (former : List Former) → ((f : Former) × In former f × (f.key ≡ key)) ⊎ ((f : Former) → In former f → f.key ≢ key)
+changed_or_not : (key : List ℕ) (prior : List PriorRow) → ((f : PriorRow) × In prior f × (f.key ≡ key)) ⊎ ((f : PriorRow) → In prior f → f.key ≢ key)
 changed_or_not key [] = inr (λ f h. absurd h)
-changed_or_not key (f ∷ former) = ⊎_elim
+changed_or_not key (f ∷ prior) = ⊎_elim
     (λ (e : f.key ≡ key). inl (f, inl refl, e))
-    (λ (ne : f.key ≢ key). ⊎_elim (λ (c : (g : Former) × In former g × (g.key ≡ key)). inl (c.0, inr c.1, c.2))
-    (λ (none : (g : Former) → In former g → g.key ≢ key). inr (λ g h. ⊎_elim (λ (is : g ≡ f). subst (λ (k : Former). k.key ≢ key) (sym is) ne) (none g) h))
-    (changed_or_not key former)) (cases_key f.key key)
+    (λ (ne : f.key ≢ key). ⊎_elim (λ (c : (g : PriorRow) × In prior g × (g.key ≡ key)). inl (c.0, inr c.1, c.2))
+    (λ (none : (g : PriorRow) → In prior g → g.key ≢ key). inr (λ g h. ⊎_elim (λ (is : g ≡ f). subst (λ (k : PriorRow). k.key ≢ key) (sym is) ne) (none g) h))
+    (changed_or_not key prior)) (cases_key f.key key)
 
 from_one : (e : ℕ) → 1 ≤ e → leb 1 e ≡ true
 from_one e some = search (rules)
@@ -402,13 +402,13 @@ module _ (V : ℕ → List ℕ) (key : List ℕ) (st new : State) (id : ℕ) (ac
         sym w.3,
       )
 
-  former_marked : (f : Former) (s : ℕ) → In acted.report.rows f → has_risen acted v ≡ true → In (former_waits f.key f.row) (key, s) → MarkedOf s
-  former_marked f s h rose g = by_row f.row (is.rows.each f h) g
+  prior_marked : (f : PriorRow) (s : ℕ) → In acted.report.rows f → has_risen acted v ≡ true → In (prior_waits f.key f.row) (key, s) → MarkedOf s
+  prior_marked f s h rose g = by_row f.row (is.rows.each f h) g
     where
       risen : ltb before.epoch after.epoch ≡ true
       risen = ap₂ (λ (a b : ℕ). ltb a b) (sym is.epoch) epoch_is ∙ rose
 
-      by_row : (o : Option Row) → o ≡ find_row f.key n.rows → In (former_waits f.key o) (key, s) → MarkedOf s
+      by_row : (o : Option Row) → o ≡ find_row f.key n.rows → In (prior_waits f.key o) (key, s) → MarkedOf s
       by_row None e g = absurd g
       by_row (Some r) e g =
           let w = wait_marks key f.key r.pending s g in
@@ -421,13 +421,13 @@ module _ (V : ℕ → List ℕ) (key : List ℕ) (st new : State) (id : ℕ) (ac
           (pending_has id after row.state row.pending row.stamp w.1 (row_sound n is.ok_was key).holds waits) in
           (m, in_right (moment_marks id after) _ m (in_left (install_marks id before after) (ack_marks id after (letters_of key letters)) m there), sym w.3)
 
-  changed_marked : (f : Former) (s : ℕ) → In acted.report.rows f → In (changed_touches x (has_risen acted v) f) (key, s) → MarkedOf s
+  changed_marked : (f : PriorRow) (s : ℕ) → In acted.report.rows f → In (changed_touches x (has_risen acted v) f) (key, s) → MarkedOf s
   changed_marked f s h g = ⊎_elim (λ (a : In (touches_now x f.key) (key, s)). now_marked f.key s a)
-      (λ (b : In (cond (has_risen acted v) (former_waits f.key f.row) []) (key, s)). by_rose (has_risen acted v) refl b)
-      (in_either (touches_now x f.key) (cond (has_risen acted v) (former_waits f.key f.row) []) (key, s) g)
+      (λ (b : In (cond (has_risen acted v) (prior_waits f.key f.row) []) (key, s)). by_rose (has_risen acted v) refl b)
+      (in_either (touches_now x f.key) (cond (has_risen acted v) (prior_waits f.key f.row) []) (key, s) g)
     where
-      by_rose : (b : Bool) → has_risen acted v ≡ b → In (cond b (former_waits f.key f.row) []) (key, s) → MarkedOf s
-      by_rose true rose g = former_marked f s h rose g
+      by_rose : (b : Bool) → has_risen acted v ≡ b → In (cond b (prior_waits f.key f.row) []) (key, s) → MarkedOf s
+      by_rose true rose g = prior_marked f s h rose g
       by_rose false rose g = absurd g
 
   touched_marked : (s : ℕ) → In touches (key, s) → MarkedOf s
@@ -462,7 +462,7 @@ module _ (V : ℕ → List ℕ) (key : List ℕ) (st new : State) (id : ℕ) (ac
   row_same : Unchanged → row_at key x.rows ≡ row_at key n.rows
   row_same same = ap (λ (o : Option Row). unwrap_or o first_row) same
 
-  in_changes : (f : Former) (t : Touch) → In acted.report.rows f → In (changed_touches x (has_risen acted v) f) t → In touches t
+  in_changes : (f : PriorRow) (t : Touch) → In acted.report.rows f → In (changed_touches x (has_risen acted v) f) t → In touches t
   in_changes f t h g = in_left (changes ++ opens) (flat_map letter_touches letters) t
       (in_left changes opens t (flat_has (changed_touches x (has_risen acted v)) acted.report.rows f t h g))
 
@@ -556,10 +556,10 @@ module _ (V : ℕ → List ℕ) (key : List ℕ) (st new : State) (id : ℕ) (ac
   -- ---- all marks of the step
   moment_case : (m : Mark) → 1 ≤ m.stamp → In (row_mark id after ∷ pending_marks id after after.phase) m → IsCase m
   moment_case m some h = ⊎_elim
-      (λ (c : (f : Former) × In acted.report.rows f × (f.key ≡ key)).
+      (λ (c : (f : PriorRow) × In acted.report.rows f × (f.key ≡ key)).
       inl (in_changes c.0 (key, m.stamp) c.1 (in_left (touches_now x c.0.key) _ (key, m.stamp)
       (subst (λ (q : List ℕ). In (touches_now x q) (key, m.stamp)) (sym c.2) (now_touched m h)))))
-      (λ (none : (f : Former) → In acted.report.rows f → f.key ≢ key). still (is.rows.others key none))
+      (λ (none : (f : PriorRow) → In acted.report.rows f → f.key ≢ key). still (is.rows.others key none))
       (changed_or_not key acted.report.rows)
     where
       by_open : Unchanged → has_moved acted v ≡ true → (b : Bool) → is_open key x ≡ b → IsCase m
@@ -581,24 +581,24 @@ module _ (V : ℕ → List ℕ) (key : List ℕ) (st new : State) (id : ℕ) (ac
       risen e = ap₂ (λ (a b : ℕ). ltb a b) is.epoch (sym epoch_is) ∙ e
 
       pended : (p : Waits) → (row_at key n.rows).pending ≡ Some p → m ≡ cover_mark id after (tag_of p.stamp) → has_risen acted v ≡ true →
-          (f : Former) → In acted.report.rows f → f.key ≡ key → IsCase m
+          (f : PriorRow) → In acted.report.rows f → f.key ≡ key → IsCase m
       pended p waits e rose f h same = inl (in_changes f (key, m.stamp) h (in_right (touches_now x f.key) _ (key, m.stamp)
-          (subst (λ (b : Bool). In (cond b (former_waits f.key f.row) []) (key, m.stamp)) (sym rose)
-          (subst (λ (q : List ℕ). In (former_waits q f.row) (key, m.stamp)) (sym same)
-          (subst (λ (o : Option Row). In (former_waits key o) (key, m.stamp)) (sym (is.rows.each f h ∙ ap (λ (q : List ℕ). find_row q n.rows) same))
+          (subst (λ (b : Bool). In (cond b (prior_waits f.key f.row) []) (key, m.stamp)) (sym rose)
+          (subst (λ (q : List ℕ). In (prior_waits q f.row) (key, m.stamp)) (sym same)
+          (subst (λ (o : Option Row). In (prior_waits key o) (key, m.stamp)) (sym (is.rows.each f h ∙ ap (λ (q : List ℕ). find_row q n.rows) same))
           (by_found (find_row key n.rows) waits))))))
         where
-          by_found : (o : Option Row) → (unwrap_or o first_row).pending ≡ Some p → In (former_waits key o) (key, m.stamp)
+          by_found : (o : Option Row) → (unwrap_or o first_row).pending ≡ Some p → In (prior_waits key o) (key, m.stamp)
           by_found None e = absurd (false≢true (ap is_some e))
           by_found (Some r) w = subst (λ (o : Option Waits). In (wait_touches key o) (key, m.stamp)) (sym w) (inl (ap (λ (j : Mark). (key, j.stamp)) e))
 
       by_test : (b : Bool) → ltb before.epoch after.epoch ≡ b → In (cond b (pending_marks id after before.phase) []) m → IsCase m
       by_test false e h = absurd h
       by_test true e h = ⊎_elim
-          (λ (c : (f : Former) × In acted.report.rows f × (f.key ≡ key)).
+          (λ (c : (f : PriorRow) × In acted.report.rows f × (f.key ≡ key)).
           let p = pending_is id after (row_at key n.rows).state (row_at key n.rows).pending m h in
           pended p.0 p.1 p.2 (risen e) c.0 c.1 c.2)
-          (λ (none : (f : Former) → In acted.report.rows f → f.key ≢ key).
+          (λ (none : (f : PriorRow) → In acted.report.rows f → f.key ≢ key).
           let phase : before.phase ≡ after.phase = ap (λ (r : Row). phase_of r.state r.pending) (sym (row_same (is.rows.others key none))) in
           moment_case m some (inr (subst (λ (ph : Phase). In (pending_marks id after ph) m) phase h)))
           (changed_or_not key acted.report.rows)

@@ -7,7 +7,7 @@ use Rattle.hk_world.specs.World.{WorldState}
 use Rattle.hk_world.specs.Start.{start}
 use Rattle.hk_world.specs.Steps.{Accepted, acting_of, world_step}
 use Rattle.hk_world.specs.Sound.{IsEvent}
-use Rattle.hk_effects.specs.View.{Trace, traced, traced_by}
+use Rattle.hk_effects.specs.Projection.{Trace, traced, traced_by}
 use Rattle.hk_effects.specs.Runs.{start_trace, Follows, IsKept, RunsKeepParts}
 use Rattle.hk_effects.specs.Orders.{OrdersAreLegal}
 use Rattle.hk_safety.specs.Run.{RunState, world_with, world_from, world_of, AreAccepted, IsRun, trace_with, trace_from, trace_of, RunsAreLegal}

@@ -11,7 +11,7 @@ use Rattle.hk_register.proofs.Grow.{in_left}
 use Rattle.hk_world.specs.declared.event.Event.{Event}
 use Rattle.hk_world.specs.declared.event.Event.TheVariants.{Call}
 use Rattle.hk_world.specs.Steps.{Accepted, acting_of}
-use Rattle.hk_effects.specs.View.{Trace, view, key_node, node_at, told_at, pending_stamp, reply_item, call_items, items_of, updates_of, added, traced, traced_by}
+use Rattle.hk_effects.specs.Projection.{Trace, project, key_node, node_at, told_at, pending_stamp, reply_item, call_items, items_of, updates_of, added, traced, traced_by}
 use Rattle.hk_effects.specs.Orders.{family}
 use Rattle.hk_effects.specs.Runs.{IsKept}
 use Rattle.hk_effects.proofs.Frames.{itself}
@@ -52,7 +52,7 @@ nil_of (x ∷ xs) none = absurd (none x (inl refl))
 module _ (key : List ℕ) (t : Trace) (event : Event) (a : Accepted) (kept : IsKept key (traced key t event a)) (history : t.history ≡ []) (begun : t.begun ≡ [])
     (other : In (called_from (event ∷ [])) key → ⊥) where
   abbrev St : State
-  St = view key (traced key t event a)
+  St = project key (traced key t event a)
 
   -- no update is begun, so no mark is of one
   marks_of_none : St.begun ≡ [] → (m : Mark) → In St.marks m → m.stamp ≡ 0

@@ -23,7 +23,7 @@ use Rattle.hk_key.specs.declared.row.Pending.{Pending}
 use Rattle.hk_key.specs.declared.row.Row.{Row}
 use Rattle.hk_register.specs.Machine.{In, Mark}
 use Rattle.hk_register.specs.Runs.{is_in}
-use Rattle.hk_node.specs.declared.report.Former.{Former}
+use Rattle.hk_node.specs.declared.report.PriorRow.{PriorRow}
 use Rattle.hk_node.specs.Rows.{row_at}
 use Rattle.hk_node.specs.Copies.{is_valid}
 use Rattle.hk_node.specs.Node.{NodeState}
@@ -33,17 +33,17 @@ use Rattle.hk_world.specs.World.{WorldState}
 use Rattle.hk_world.specs.declared.shown.Shown.{Shown}
 use Rattle.hk_world.specs.declared.shown.Acted.{Acted}
 use Rattle.hk_world.specs.Steps.{Accepted, world_step}
-use Rattle.hk_effects.specs.View.{key_node, node_at, is_same_key}
+use Rattle.hk_effects.specs.Projection.{key_node, node_at, is_same_key}
 use Rattle.hk_safety.specs.declared.evidence.Cover.{Cover}
 use Rattle.hk_safety.specs.declared.evidence.Group.{Group}
 use Rattle.hk_safety.specs.declared.evidence.Evidence.{Evidence}
 use Rattle.hk_safety.specs.declared.evidence.Evidence.TheVariants.{Covers}
 use Rattle.hk_safety.specs.declared.evidence.Evidence.TheVariants as E
 use Rattle.hk_safety.specs.declared.key_run.AtStamp.{AtStamp}
-use Rattle.hk_safety.specs.declared.key_run.Look.{Look}
-use Rattle.hk_safety.specs.declared.key_run.Turn.{Turn}
-use Rattle.hk_safety.specs.declared.kept.Unmade.{Unmade}
-use Rattle.hk_safety.specs.declared.kept.Unmade.TheVariants.{Memory, Refused, Lost}
+use Rattle.hk_safety.specs.declared.key_run.ReadOnlyCall.{ReadOnlyCall}
+use Rattle.hk_safety.specs.declared.key_run.CallEffect.{CallEffect}
+use Rattle.hk_safety.specs.declared.kept.StepError.{StepError}
+use Rattle.hk_safety.specs.declared.kept.StepError.TheVariants.{Memory, Refused, Lost}
 use Rattle.hk_safety.specs.Run.{with_key}
 use Rattle.hk_safety.specs.Shows.{lines_at}
 use Rattle.hk_safety.specs.Kept.{KeyState, Keys, KeptState, Groups, group_at, is_among, covers_in, ready_in, AreToldBy, at_stamp, no_stamp, find_key, key_at, called_from}
@@ -96,14 +96,14 @@ IsSinceThen n (Covers old) (E.Complete event) = event ≡ n
 IsSinceThen n (Covers old) (Covers new) = ⊤
 
 -- looks more, which were answered at this event
-pub record AreLooked (n : ℕ) (old new : List Look) : Type 0 where
-  pub more : List Look
+pub record AreLooked (n : ℕ) (old new : List ReadOnlyCall) : Type 0 where
+  pub more : List ReadOnlyCall
   pub same : new ≡ old ++ more
-  pub here : (l : Look) → In more l → l.event ≡ n
+  pub here : (l : ReadOnlyCall) → In more l → l.event ≡ n
 
 pub record GoesAt (n : ℕ) (old new : KeyState) : Type 0 where
   pub since : (s : ℕ) → IsSinceThen n (at_stamp s old).evidence (at_stamp s new).evidence
-  pub looked : (s : ℕ) → AreLooked n (at_stamp s old).looks (at_stamp s new).looks
+  pub looked : (s : ℕ) → AreLooked n (at_stamp s old).read_only (at_stamp s new).read_only
 
 -- ---- stamps
 abbrev pub Stamps : Type 0
@@ -119,7 +119,7 @@ OthersStay s old new = (t : ℕ) → (t == s) ≡ false → stamp_in t new ≡ s
 -- a cover more at one stamp
 pub record IsCoveredAt (old new : Stamps) (s : ℕ) (v : View) (c : Cover) : Type 0 where
   pub update : (stamp_in s new).update ≡ (stamp_in s old).update
-  pub looks : (stamp_in s new).looks ≡ (stamp_in s old).looks
+  pub read_only : (stamp_in s new).read_only ≡ (stamp_in s old).read_only
   pub shown : IsShown (stamp_in s old).evidence (stamp_in s new).evidence v c
   pub there : OthersStay s old new
 
@@ -129,8 +129,8 @@ pub record IsBegunAt (old new : Stamps) (s : ℕ) (call : CallNo) : Type 0 where
   pub there : OthersStay s old new
 
 -- a call that found the stamp, behind the others
-pub record IsLookedAt (old new : Stamps) (s : ℕ) (look : Look) : Type 0 where
-  pub here : stamp_in s new ≡ record (stamp_in s old) { looks = (stamp_in s old).looks ++ look ∷ [] }
+pub record IsLookedAt (old new : Stamps) (s : ℕ) (look : ReadOnlyCall) : Type 0 where
+  pub here : stamp_in s new ≡ record (stamp_in s old) { read_only = (stamp_in s old).read_only ++ look ∷ [] }
   pub there : OthersStay s old new
 
 -- ---- a key's covers
@@ -139,7 +139,7 @@ pub record IsLookedAt (old new : Stamps) (s : ℕ) (look : Look) : Type 0 where
 pub record IsCovered (v : View) (c : Cover) (old new : KeyState) (tags : List ℕ) : Type 0 where
   pub items : new.items ≡ old.items
   pub update : (s : ℕ) → (at_stamp s new).update ≡ (at_stamp s old).update
-  pub looks : (s : ℕ) → (at_stamp s new).looks ≡ (at_stamp s old).looks
+  pub read_only : (s : ℕ) → (at_stamp s new).read_only ≡ (at_stamp s old).read_only
   pub known : (V : ℕ → List ℕ) → member_numbers v.members ≡ V v.epoch → (marks : List Mark) (s : ℕ) → 1 ≤ s →
       IsKnownBy V marks s (at_stamp s old).evidence → IsKnownBy V (with_mark (is_in s tags) (mark_by c v s) marks) s (at_stamp s new).evidence
   pub since : (s : ℕ) → IsSinceThen c.event (at_stamp s old).evidence (at_stamp s new).evidence
@@ -168,13 +168,13 @@ row_touches key row = (key, tag_of row.stamp) ∷ wait_touches key row.pending
 abbrev pub touches_now : NodeState → List ℕ → List Touch
 touches_now x key = row_touches key (row_at key x.rows)
 
-abbrev pub former_waits : List ℕ → Option Row → List Touch
-former_waits key None = []
-former_waits key (Some row) = wait_touches key row.pending
+abbrev pub prior_waits : List ℕ → Option Row → List Touch
+prior_waits key None = []
+prior_waits key (Some row) = wait_touches key row.pending
 
--- of a changed row: where the epoch rose, what waited in the former row counts in the new epoch too
-abbrev pub changed_touches : NodeState → Bool → Former → List Touch
-changed_touches x rose f = touches_now x f.key ++ (if rose then former_waits f.key f.row else [])
+-- of a changed row: where the epoch rose, what waited in the prior row counts in the new epoch too
+abbrev pub changed_touches : NodeState → Bool → PriorRow → List Touch
+changed_touches x rose f = touches_now x f.key ++ (if rose then prior_waits f.key f.row else [])
 
 abbrev pub ack_touches : Body → List Touch
 ack_touches (AckBody key s top) = (key, tag_of s) ∷ []
@@ -222,12 +222,12 @@ abbrev pub AreTouchedAt : ℕ → Option Acted → Keys → Keys → WorldState 
 AreTouchedAt n None old new w letters = new ≡ old
 AreTouchedAt n (Some acted) old new w letters = AreTouchedBy n (node_at acted.node.0 w.processes) old new acted letters
 
--- the stamps of what waited in the former rows are within the limit
-abbrev pub IsFormer : Former → Type 0
-IsFormer f = IfSome f.row (λ row. IsWithin row.stamp × IfSome row.pending (λ p. IsWithin p.stamp))
+-- the stamps of what waited in the prior rows are within the limit
+abbrev pub IsPrior : PriorRow → Type 0
+IsPrior f = IfSome f.row (λ row. IsWithin row.stamp × IfSome row.pending (λ p. IsWithin p.stamp))
 
-abbrev pub AreFormer : Option Acted → Type 0
-AreFormer acted = IfSome acted (λ a. AllByRecursion IsFormer a.report.rows)
+abbrev pub ArePrior : Option Acted → Type 0
+ArePrior acted = IfSome acted (λ a. AllByRecursion IsPrior a.report.rows)
 
 -- ---- items
 -- by whether the call begins an update, and whether it is answered
@@ -236,12 +236,12 @@ IsTurned true answered old new s call n = IsBegunAt old new s call
 IsTurned false true old new s call n = IsLookedAt old new s (record { call = call; event = n })
 IsTurned false false old new s call n = new ≡ old
 
-pub record IsTaken (old new : KeyState) (turn : Turn) (op : Op) : Type 0 where
+pub record IsTaken (old new : KeyState) (turn : CallEffect) (op : Op) : Type 0 where
   pub items : new.items ≡ old.items ++ L.Call turn.call op ∷ []
   pub stamps : IsTurned turn.began turn.answered old.stamps new.stamps turn.tag turn.call turn.event
 
 -- the call stands in the items of its key, which is kept from then on
-pub record IsNamed (old new : Keys) (key : List ℕ) (turn : Turn) (op : Op) : Type 0 where
+pub record IsNamed (old new : Keys) (key : List ℕ) (turn : CallEffect) (op : Op) : Type 0 where
   pub keys : keys_of new ≡ with_key key (keys_of old)
   pub there : (q : List ℕ) → is_some (find_key q new) ≡ (if is_same_key q key then true else is_some (find_key q old))
   pub here : IsTaken (key_at key old) (key_at key new) turn op
@@ -263,19 +263,19 @@ pub record AreTold (old new : Keys) (lines : List ℕ → List Line) : Type 0 wh
 
 -- ---- all that is kept of an accepted event
 -- the row of the key was another one before, with another stamp
-abbrev pub former_tag : Option Row → ℕ
-former_tag None = 0
-former_tag (Some row) = tag_of row.stamp
+abbrev pub prior_tag : Option Row → ℕ
+prior_tag None = 0
+prior_tag (Some row) = tag_of row.stamp
 
-abbrev pub is_new_in : Option Former → ℕ → Bool
+abbrev pub is_new_in : Option PriorRow → ℕ → Bool
 is_new_in None tag = false
-is_new_in (Some f) tag = not (tag == former_tag f.row)
+is_new_in (Some f) tag = not (tag == prior_tag f.row)
 
 abbrev pub is_new : Option Acted → List ℕ → ℕ → Bool
 is_new None key tag = false
 is_new (Some acted) key tag = is_new_in (find (λ f. is_same_key key f.key) acted.report.rows) tag
 
-abbrev pub turn_of : ℕ → WorldState → NodeId → List ℕ → Shown → Turn
+abbrev pub turn_of : ℕ → WorldState → NodeId → List ℕ → Shown → CallEffect
 turn_of n w id key shown = record {
   event = n;
   call = record { 0 = w.calls };
@@ -299,7 +299,7 @@ pub record IsKeptAfter (n : ℕ) (old new : KeptState) (event : Event) (shown : 
   pub covers : AreTouchedAt n shown.acted told new.keys old.world shown.letters
 
 -- what the world makes of an event
-abbrev pub IsStepMade : Result Shown Unmade → WorldState → WorldState → Event → Type 0
+abbrev pub IsStepMade : Result Shown StepError → WorldState → WorldState → Event → Type 0
 IsStepMade (Ok shown) old new event = (a : Accepted) × (world_step old event ≡ Ok a) × (a.shown ≡ shown) × (a.world ≡ new)
 IsStepMade (Err (Refused refused)) old new event = (world_step old event ≡ Err refused) × (new ≡ old)
 IsStepMade (Err Memory) old new event = new ≡ old

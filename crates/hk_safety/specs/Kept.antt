@@ -12,20 +12,20 @@ use Rattle.hk_copy.specs.Batches.{key_cmp}
 use Rattle.hk_history.specs.declared.event.Event.{Event as Line}
 use Rattle.hk_history.specs.declared.event.Entry.{Entry}
 use Rattle.hk_register.specs.Machine.{In, Mark, Update, Item, State}
-use Rattle.hk_register.specs.Machine.Item.{Called, Answered, Dropped, Looked, Missed}
+use Rattle.hk_register.specs.Machine.Item.{Called, Answered, Dropped, ReadOnly, Rejected}
 use Rattle.hk_register.specs.Facts.{Complete}
 use Rattle.hk_register.specs.Printed.{is_mark}
 use Rattle.hk_world.specs.World.{WorldState}
 use Rattle.hk_world.specs.declared.event.Event.{Event}
 use Rattle.hk_world.specs.declared.event.Event.TheVariants.{Call}
-use Rattle.hk_effects.specs.View.{Trace, view}
+use Rattle.hk_effects.specs.Projection.{Trace, project}
 use Rattle.hk_effects.specs.Orders.{family, history_of}
 use Rattle.hk_safety.specs.declared.evidence.Group.{Group}
 use Rattle.hk_safety.specs.declared.evidence.Evidence.{Evidence}
 use Rattle.hk_safety.specs.declared.evidence.Evidence.TheVariants.{Covers}
 use Rattle.hk_safety.specs.declared.evidence.Evidence.TheVariants as E
 use Rattle.hk_safety.specs.declared.key_run.AtStamp.{AtStamp}
-use Rattle.hk_safety.specs.declared.key_run.Look.{Look}
+use Rattle.hk_safety.specs.declared.key_run.ReadOnlyCall.{ReadOnlyCall}
 use Rattle.hk_safety.specs.Run.{RunState, world_of, trace_of, named}
 use Rattle.hk_safety.specs.Moment.{completed_at, replied_at}
 
@@ -52,7 +52,7 @@ abbrev pub nobody : Evidence
 nobody = Covers []
 
 abbrev pub no_stamp : AtStamp
-no_stamp = record { update = None; evidence = nobody; looks = [] }
+no_stamp = record { update = None; evidence = nobody; read_only = [] }
 
 abbrev pub at_stamp : ℕ → KeyState → AtStamp
 at_stamp s k = unwrap_or (lookup (is_at (nat_cmp s)) k.stamps) no_stamp
@@ -60,11 +60,11 @@ at_stamp s k = unwrap_or (lookup (is_at (nat_cmp s)) k.stamps) no_stamp
 -- the calls that found the stamp and changed nothing, the first one first, of items that are newest first
 abbrev pub looks_at : ℕ → List Item → List CallNo
 looks_at s [] = []
-looks_at s (Looked c t op held a ∷ items) = looks_at s items ++ (if t == s then record { 0 = c } ∷ [] else [])
+looks_at s (ReadOnly c t op held a ∷ items) = looks_at s items ++ (if t == s then record { 0 = c } ∷ [] else [])
 looks_at s (Called c t op ∷ items) = looks_at s items
 looks_at s (Answered c t a ∷ items) = looks_at s items
 looks_at s (Dropped c t a ∷ items) = looks_at s items
-looks_at s (Missed c op a ∷ items) = looks_at s items
+looks_at s (Rejected c op a ∷ items) = looks_at s items
 
 abbrev pub call_of : Update → CallNo
 call_of u = record { 0 = u.call }
@@ -93,16 +93,16 @@ abbrev pub IsKnown : (ℕ → List ℕ) → State → ℕ → Evidence → Type 
 IsKnown V st s (E.Complete event) = Complete V st s
 IsKnown V st s (Covers groups) = (Complete V st s → ⊥) × AreToldBy st.marks s groups
 
-abbrev pub calls_in : List Look → List CallNo
-calls_in looks = map (λ l. l.call) looks
+abbrev pub calls_in : List ReadOnlyCall → List CallNo
+calls_in read_only = map (λ l. l.call) read_only
 
 -- What is kept is what the trace of the key has. Whether a cover was exact is not kept: no order asks it. Nor is who covered the stamp of no
 -- update.
 pub record IsKeyOf (key : List ℕ) (k : KeyState) (t : Trace) : Type 0 where
   pub items : k.items ≡ history_of t
   pub update : (s : ℕ) → (at_stamp s k).update ≡ update_at s t.begun
-  pub looks : (s : ℕ) → calls_in (at_stamp s k).looks ≡ looks_at s t.history
-  pub known : (s : ℕ) → 1 ≤ s → IsKnown (family t.world.views) (view key t) s (at_stamp s k).evidence
+  pub read_only : (s : ℕ) → calls_in (at_stamp s k).read_only ≡ looks_at s t.history
+  pub known : (s : ℕ) → 1 ≤ s → IsKnown (family t.world.views) (project key t) s (at_stamp s k).evidence
 
 -- ---- its events
 -- An update is kept with the event that completed it; where none did, its place is behind all moments.
@@ -111,12 +111,12 @@ IsSince run key s (E.Complete event) = (completed_at run key s ≡ event) × (ev
 IsSince run key s (Covers groups) = completed_at run key s ≡ length run.events + 1
 
 -- and a look with the event that replied to it
-abbrev pub IsRepliedAt : RunState → List ℕ → Look → Type 0
+abbrev pub IsRepliedAt : RunState → List ℕ → ReadOnlyCall → Type 0
 IsRepliedAt run key l = (replied_at run key l.call.0 ≡ l.event) × (l.event ≤ length run.events)
 
 pub record HasEvents (run : RunState) (key : List ℕ) (k : KeyState) : Type 0 where
   pub since : (s : ℕ) → 1 ≤ s → IsSince run key s (at_stamp s k).evidence
-  pub replied : (s : ℕ) (l : Look) → In (at_stamp s k).looks l → IsRepliedAt run key l
+  pub replied : (s : ℕ) (l : ReadOnlyCall) → In (at_stamp s k).read_only l → IsRepliedAt run key l
 
 -- ---- all keys
 abbrev pub Keys : Type 0
@@ -159,12 +159,12 @@ abbrev pub update_entry : Bool → ℕ → Option CallNo → List Entry
 update_entry complete s None = []
 update_entry complete s (Some call) = if complete then record { call = call; tag = Some s } ∷ [] else []
 
-abbrev pub look_entry : Look → Entry
+abbrev pub look_entry : ReadOnlyCall → Entry
 look_entry look = record { call = look.call; tag = None }
 
 -- the update of a stamp, if it is complete, and the calls that found it
 abbrev pub entries_at : ℕ × AtStamp → List Entry
-entries_at p = update_entry (is_complete p.1.evidence) p.0 p.1.update ++ map look_entry p.1.looks
+entries_at p = update_entry (is_complete p.1.evidence) p.0 p.1.update ++ map look_entry p.1.read_only
 
 abbrev pub kept_order : KeyState → List Entry
 kept_order k = flat_map entries_at k.stamps

@@ -7,7 +7,7 @@ use Rattle.hk_register.specs.Facts.{Complete}
 use Rattle.hk_register.specs.Printed.{is_complete}
 use Rattle.hk_world.specs.declared.event.Event.{Event}
 use Rattle.hk_world.specs.Steps.{world_step}
-use Rattle.hk_effects.specs.View.{Trace, view}
+use Rattle.hk_effects.specs.Projection.{Trace, project}
 use Rattle.hk_effects.specs.Runs.{start_trace}
 use Rattle.hk_effects.specs.Orders.{family, history_of}
 use Rattle.hk_safety.specs.Run.{RunState, trace_with, trace_of}
@@ -23,7 +23,7 @@ traces run key = start_trace run.header ∷ traces_after key (start_trace run.he
 
 -- an update of the key with a stamp of at least s is complete
 abbrev pub is_reached : List ℕ → ℕ → Trace → Bool
-is_reached key s t = list_any (λ u. nat_le s u.stamp && is_complete (family t.world.views) (view key t) u.stamp) t.begun
+is_reached key s t = list_any (λ u. nat_le s u.stamp && is_complete (family t.world.views) (project key t) u.stamp) t.begun
 
 -- Moment: the number of the first event after which an update of the key with a stamp of at least s is complete.
 abbrev pub moment : RunState → List ℕ → ℕ → ℕ
@@ -40,7 +40,7 @@ up_to n run = record { header = run.header; events = take n run.events }
 
 -- the update is complete in the trace
 abbrev pub IsComplete : List ℕ → Trace → Update → Type 0
-IsComplete key t u = In t.begun u × Complete (family t.world.views) (view key t) u.stamp
+IsComplete key t u = In t.begun u × Complete (family t.world.views) (project key t) u.stamp
 
 -- a complete update of the key has a stamp of at least s
 abbrev pub IsReached : List ℕ → ℕ → Trace → Type 0
@@ -59,7 +59,7 @@ MomentsAreFirst = (run : RunState) (key : List ℕ) (s : ℕ) → IsReached key 
 -- ---- moments by completions
 -- the update of the stamp is complete
 abbrev pub is_completed : List ℕ → ℕ → Trace → Bool
-is_completed key s t = list_any (λ u. (u.stamp == s) && is_complete (family t.world.views) (view key t) u.stamp) t.begun
+is_completed key s t = list_any (λ u. (u.stamp == s) && is_complete (family t.world.views) (project key t) u.stamp) t.begun
 
 -- the number of the event that completed the update of the stamp
 abbrev pub completed_at : RunState → List ℕ → ℕ → ℕ

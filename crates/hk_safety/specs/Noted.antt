@@ -10,9 +10,9 @@ use Rattle.hk_world.specs.Steps.{Accepted, world_step}
 use Rattle.hk_world.specs.Sound.{IsEvent}
 use Rattle.hk_effects.specs.Own.{IsOwn}
 use Rattle.hk_effects.specs.Runs.{IsKept}
-use Rattle.hk_effects.specs.View.{Trace, traced}
-use Rattle.hk_safety.specs.declared.kept.Unmade.{Unmade}
-use Rattle.hk_safety.specs.declared.kept.Unmade.TheVariants.{Memory, Refused, Lost}
+use Rattle.hk_effects.specs.Projection.{Trace, traced}
+use Rattle.hk_safety.specs.declared.kept.StepError.{StepError}
+use Rattle.hk_safety.specs.declared.kept.StepError.TheVariants.{Memory, Refused, Lost}
 use Rattle.hk_safety.specs.Run.{with_named}
 use Rattle.hk_safety.specs.Kept.{KeptState, IsKeyOf, find_key, key_at, called_from}
 use Rattle.hk_safety.specs.Grown.{GoesAt}
@@ -42,7 +42,7 @@ pub record IsMade (n : ℕ) (old new : KeptState) (event : Event) (a : Accepted)
 
 -- An event that is made, or is refused, or for which no memory was there: then nothing has changed, unless it is lost that all that was kept
 -- belongs to one run.
-abbrev pub IsMadeBy : ℕ → Result Shown Unmade → KeptState → KeptState → Event → Type 0
+abbrev pub IsMadeBy : ℕ → Result Shown StepError → KeptState → KeptState → Event → Type 0
 IsMadeBy n (Ok shown) old new event = (a : Accepted) × (a.shown ≡ shown) × IsMade n old new event a
 IsMadeBy n (Err (Refused refused)) old new event = (world_step old.world event ≡ Err refused) × (new ≡ old)
 IsMadeBy n (Err Memory) old new event = new ≡ old

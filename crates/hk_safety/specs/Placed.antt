@@ -8,7 +8,7 @@ use Rattle.hk_safety.specs.declared.evidence.Evidence.{Evidence}
 use Rattle.hk_safety.specs.declared.evidence.Evidence.TheVariants.{Covers}
 use Rattle.hk_safety.specs.declared.evidence.Evidence.TheVariants as E
 use Rattle.hk_safety.specs.declared.key_run.AtStamp.{AtStamp}
-use Rattle.hk_safety.specs.declared.key_run.Look.{Look}
+use Rattle.hk_safety.specs.declared.key_run.ReadOnlyCall.{ReadOnlyCall}
 use Rattle.hk_safety.specs.declared.placed.Placed.{Placed}
 use Rattle.hk_safety.specs.Run.{RunState, printed}
 use Rattle.hk_safety.specs.Moment.{moment, replied_at}
@@ -33,11 +33,11 @@ change_placed evidence s None = []
 change_placed (E.Complete event) s (Some call) = record { event = event; entry = record { call = call; tag = Some s } } ∷ []
 change_placed (Covers groups) s (Some call) = []
 
-abbrev pub look_placed : Look → Placed
+abbrev pub look_placed : ReadOnlyCall → Placed
 look_placed look = record { event = look.event; entry = look_entry look }
 
 abbrev pub placed_at : ℕ × AtStamp → List Placed
-placed_at p = change_placed p.1.evidence p.0 p.1.update ++ map look_placed p.1.looks
+placed_at p = change_placed p.1.evidence p.0 p.1.update ++ map look_placed p.1.read_only
 
 abbrev pub kept_placed : KeyState → List Placed
 kept_placed k = flat_map placed_at k.stamps

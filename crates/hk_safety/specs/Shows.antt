@@ -12,7 +12,7 @@ use Rattle.hk_world.specs.declared.shown.Shown.{Shown}
 use Rattle.hk_world.specs.World.{WorldState, numbered}
 use Rattle.hk_world.specs.Start.{start}
 use Rattle.hk_world.specs.Steps.{Accepted, world_step}
-use Rattle.hk_effects.specs.View.{is_same_key}
+use Rattle.hk_effects.specs.Projection.{is_same_key}
 use Rattle.hk_safety.specs.Run.{RunState, world_with, IsRun, history}
 use Rattle.hk_safety.specs.Kept.{called_from}
 

@@ -4,7 +4,7 @@ ghost use Rattle.std.specs.Prelude.{◌≡◌, ◌++◌, ◌∷◌, [], IfOk, On
 ghost use Rattle.hk_world.specs.World.{numbered};
 ghost use Rattle.hk_world.specs.Start.{start};
 ghost use Rattle.hk_world.specs.Sound.{IsHeader, IsEvent};
-ghost use Rattle.hk_effects.specs.View.{is_same_key};
+ghost use Rattle.hk_effects.specs.Projection.{is_same_key};
 ghost use Rattle.hk_safety.specs.Run.{AreAccepted};
 ghost use Rattle.hk_safety.specs.Kept.{called_from};
 ghost use Rattle.hk_safety.specs.Shows.{call_line, line_at, lines_at, lines_from};

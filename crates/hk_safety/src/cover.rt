@@ -5,14 +5,14 @@ ghost use Rattle.std.specs.List.{flat_map, AllByRecursion};
 ghost use Rattle.hk_base.specs.Range.{IsLetter, IsWithin};
 ghost use Rattle.hk_node.specs.Sound.{IsNode};
 ghost use Rattle.hk_world.specs.Sound.{IsWorld};
-ghost use Rattle.hk_safety.specs.Grown.{AreCovered, wait_touches, touches_now, changed_touches, IsFormer, AreFormer, AreOpenCovered, letter_touches};
+ghost use Rattle.hk_safety.specs.Grown.{AreCovered, wait_touches, touches_now, changed_touches, IsPrior, ArePrior, AreOpenCovered, letter_touches};
 ghost use Rattle.hk_safety.specs.Grown.{AreTouchedIn, AreTouchedAt};
 
 use crate::evidence::Cover;
 use crate::key_run::KeyRun;
 use hk_base::{Body, Key, Letter, Memory, View};
 use hk_key::Pending;
-use hk_node::{Former, Node};
+use hk_node::{Node, PriorRow};
 use hk_world::{Acted, Shown, World};
 use std::alloc::Global;
 use std::collections::BTreeMap;
@@ -86,26 +86,26 @@ fn cover_row(
     cover_pending(keys, alloc, view, cover, key, &row.pending)
 }
 
-// What waited in a former row may be complete at once where a view was installed, so that no later moment shows it.
-fn cover_former(
+// What waited in a prior row may be complete at once where a view was installed, so that no later moment shows it.
+fn cover_prior(
     keys: &mut BTreeMap<Key, KeyRun>,
     alloc: Global,
     view: &View,
     cover: Cover,
     node: &Node,
     rose: bool,
-    former: &Former,
+    prior: &PriorRow,
 ) -> Result<(), Memory>
     requires node { IsNode node.now }
-    requires former { IsFormer former.now }
-    ensures { OnOk result (AreCovered view.now cover keys.old.entries keys.new.entries (changed_touches node.now rose former.now)) }
+    requires prior { IsPrior prior.now }
+    ensures { OnOk result (AreCovered view.now cover keys.old.entries keys.new.entries (changed_touches node.now rose prior.now)) }
 {
-    cover_row(keys, alloc, view, cover, node, &former.key)?;
+    cover_row(keys, alloc, view, cover, node, &prior.key)?;
     if !rose {
         return Ok(());
     }
-    match &former.row {
-        Some(row) => cover_pending(keys, alloc, view, cover, &former.key, &row.pending),
+    match &prior.row {
+        Some(row) => cover_pending(keys, alloc, view, cover, &prior.key, &row.pending),
         None => Ok(()),
     }
 }
@@ -117,14 +117,14 @@ fn cover_changed(
     cover: Cover,
     node: &Node,
     rose: bool,
-    rows: &[Former],
+    rows: &[PriorRow],
 ) -> Result<(), Memory>
     requires node { IsNode node.now }
-    requires rows { AllByRecursion IsFormer rows.now }
+    requires rows { AllByRecursion IsPrior rows.now }
     ensures { OnOk result (AreCovered view.now cover keys.old.entries keys.new.entries (flat_map (changed_touches node.now rose) rows.now)) }
 {
-    for former in rows {
-        cover_former(keys, alloc, view, cover, node, rose, former)?;
+    for prior in rows {
+        cover_prior(keys, alloc, view, cover, node, rose, prior)?;
     }
     Ok(())
 }
@@ -199,7 +199,7 @@ fn cover_acted(
     letters: &[Letter],
 ) -> Result<(), Memory>
     requires node { IsNode node.now }
-    requires rows { AllByRecursion IsFormer acted.now.report.rows }
+    requires rows { AllByRecursion IsPrior acted.now.report.rows }
     requires letters { AllByRecursion IsLetter letters.now }
     ensures { OnOk result (AreTouchedIn number node.now.view keys.old.entries keys.new.entries node.now acted.now letters.now) }
 {
@@ -235,7 +235,7 @@ pub(crate) fn cover_event(
     shown: &Shown,
 ) -> Result<(), Memory>
     requires sound { IsWorld world.now }
-    requires rows { AreFormer shown.now.acted }
+    requires rows { ArePrior shown.now.acted }
     requires letters { AllByRecursion IsLetter shown.now.letters }
     ensures { OnOk result (AreTouchedAt number shown.now.acted keys.old.entries keys.new.entries world.now shown.now.letters) }
 {

@@ -10,14 +10,14 @@ ghost use Rattle.hk_node.specs.Sound.{IsNode};
 ghost use Rattle.hk_world.specs.World.{numbered};
 ghost use Rattle.hk_world.specs.Sound.{IsEvent, IsWorld};
 ghost use Rattle.hk_safety.specs.Kept.{called_from};
-ghost use Rattle.hk_effects.specs.View.{key_node, node_at, is_same_key};
-ghost use Rattle.hk_safety.specs.Grown.{IsStepMade, is_answer, IsNamed, AreTold, IsFormer, AreFormer, former_tag, is_new, IsCallKept, IsKeptAfter};
+ghost use Rattle.hk_effects.specs.Projection.{key_node, node_at, is_same_key};
+ghost use Rattle.hk_safety.specs.Grown.{IsStepMade, is_answer, IsNamed, AreTold, IsPrior, ArePrior, prior_tag, is_new, IsCallKept, IsKeptAfter};
 ghost use Rattle.hk_safety.specs.Shows.{lines_at};
 
 use crate::cover::cover_event;
-use crate::key_run::{KeyRun, Turn};
+use crate::key_run::{CallEffect, KeyRun};
 use hk_base::{Answer, CallNo, Key, Memory, NodeId, Op, Reply};
-use hk_node::{Former, Node};
+use hk_node::{Node, PriorRow};
 use hk_world::{Acted, Event, Refused, Shown, World, WorldFault};
 use std::alloc::Global;
 use std::collections::BTreeMap;
@@ -41,7 +41,7 @@ impl Model for Kept {
 
 /// Why an event is not made.
 #[derive(Clone, Copy, Debug, PartialEq, Eq)]
-pub enum Unmade {
+pub enum StepError {
     /// An allocation was refused, and nothing has changed.
     Memory,
     /// The world refuses the event, and nothing has changed.
@@ -50,14 +50,14 @@ pub enum Unmade {
     Lost,
 }
 
-fn step(world: &mut World, alloc: Global, event: &Event) -> Result<Shown, Unmade>
+fn step(world: &mut World, alloc: Global, event: &Event) -> Result<Shown, StepError>
     requires { IsEvent event.now }
     ensures { IsStepMade result world.old world.new event.now }
 {
     match world.step(alloc, event) {
         Ok(shown) => Ok(shown),
-        Err(WorldFault::Memory) => Err(Unmade::Memory),
-        Err(WorldFault::Refused(refused)) => Err(Unmade::Refused(refused)),
+        Err(WorldFault::Memory) => Err(StepError::Memory),
+        Err(WorldFault::Refused(refused)) => Err(StepError::Refused(refused)),
     }
 }
 
@@ -102,32 +102,32 @@ fn tag_at(world: &World, id: NodeId, key: &Key) -> u64
     }
 }
 
-fn former_tag(former: &Former) -> u64
-    requires { IsFormer former.now }
-    ensures { result ≡ former_tag former.now.row }
+fn prior_tag(prior: &PriorRow) -> u64
+    requires { IsPrior prior.now }
+    ensures { result ≡ prior_tag prior.now.row }
 {
-    match &former.row {
+    match &prior.row {
         Some(row) => row.stamp.tag(),
         None => 0,
     }
 }
 
-fn find_former<'a>(rows: &'a [Former], key: &Key) -> Option<&'a Former>
+fn find_prior<'a>(rows: &'a [PriorRow], key: &Key) -> Option<&'a PriorRow>
     ensures { option_copied result ≡ find (λ f. is_same_key key.now f.key) rows.now }
 {
-    rows.iter().find(|former| key.cmp(&former.key).is_eq())
+    rows.iter().find(|prior| key.cmp(&prior.key).is_eq())
 }
 
 // Whether the row of the key had another tag before the event.
 fn is_new(acted: &Option<Acted>, key: &Key, tag: u64) -> bool
-    requires { AreFormer acted.now }
+    requires { ArePrior acted.now }
     ensures { result ≡ is_new acted.now key.now tag }
 {
     let Some(acted) = acted else {
         return false;
     };
-    match find_former(acted.report.rows.as_slice(), key) {
-        Some(former) => tag != former_tag(former),
+    match find_prior(acted.report.rows.as_slice(), key) {
+        Some(prior) => tag != prior_tag(prior),
         None => false,
     }
 }
@@ -137,7 +137,7 @@ fn put_call(
     keys: &mut BTreeMap<Key, KeyRun>,
     alloc: Global,
     key: &Key,
-    turn: Turn,
+    turn: CallEffect,
     op: &Op,
 ) -> Result<(), Memory>
     ensures { OnOk result (IsNamed keys.old.entries keys.new.entries key.now turn op.now) }
@@ -189,7 +189,7 @@ fn put_event(
     shown: &Shown,
 ) -> Result<(), Memory>
     requires sound { IsWorld world.now }
-    requires rows { AreFormer shown.now.acted }
+    requires rows { ArePrior shown.now.acted }
     ensures call { OnOk result (IsCallKept number keys.old.entries keys.new.entries world.now event.now shown.now) }
     ensures calls { OnOk result (calls.new.items ≡ calls.old.items ++ called_from (event.now ∷ [])) }
 {
@@ -197,7 +197,7 @@ fn put_event(
         return Ok(());
     };
     let tag = tag_at(world, *node, key);
-    let turn = Turn {
+    let turn = CallEffect {
         event: number,
         call: CallNo(world.calls()),
         began: is_new(&shown.acted, key, tag),
@@ -222,7 +222,7 @@ impl Kept {
         shown: &Shown,
     ) -> Result<(), Memory>
         requires sound { IsWorld self.old.world }
-        requires rows { AreFormer shown.now.acted }
+        requires rows { ArePrior shown.now.acted }
         requires letters { AllByRecursion IsLetter shown.now.letters }
         ensures { OnOk result (IsKeptAfter number self.old self.new event.now shown.now) }
     {
@@ -245,7 +245,7 @@ impl Kept {
         alloc: Global,
         number: u64,
         event: &Event,
-    ) -> Result<Shown, Unmade>
+    ) -> Result<Shown, StepError>
         requires { MayMake self.old event.now }
         ensures { IsMadeBy number result self.old self.new event.now }
     {
@@ -255,7 +255,7 @@ impl Kept {
         };
         match self.keep(alloc, number, event, &shown) {
             Ok(()) => Ok(shown),
-            Err(Memory) => Err(Unmade::Lost),
+            Err(Memory) => Err(StepError::Lost),
         }
     }
 }

@@ -14,13 +14,13 @@ use std::marker::Model;
 
 /// A call that found a stamp and changed nothing, and the number of the event at which it was answered.
 #[derive(Clone, Copy, Debug, PartialEq, Eq)]
-pub struct Look {
+pub struct ReadOnlyCall {
     pub call: CallNo,
     pub event: u64,
 }
 
-/// Looks, the first one first.
-pub type Looks = Sequence<Look>;
+/// Such calls, the first one first.
+pub type ReadOnlyCalls = Sequence<ReadOnlyCall>;
 
 /// What a run keeps of one stamp of a key.
 #[derive(Drop)]
@@ -30,12 +30,12 @@ pub struct AtStamp {
     /// Whether that update is complete, or who covered the stamp so far.
     pub evidence: Evidence,
     /// The calls that found the stamp and changed nothing, in the order of their replies.
-    pub looks: Looks,
+    pub read_only: ReadOnlyCalls,
 }
 
 /// What a call made of the row of its key at an event: whether it began an update, the row's tag after it, and whether it was answered, and not refused.
 #[derive(Clone, Copy, Debug, PartialEq, Eq)]
-pub struct Turn {
+pub struct CallEffect {
     pub event: u64,
     pub call: CallNo,
     pub began: bool,
@@ -65,7 +65,7 @@ impl AtStamp {
         AtStamp {
             update: None,
             evidence: Evidence::new(alloc),
-            looks: Looks::new(alloc),
+            read_only: ReadOnlyCalls::new(alloc),
         }
     }
 }
@@ -113,28 +113,32 @@ fn look_stamp(
     stamps: &mut BTreeMap<u64, AtStamp>,
     alloc: Global,
     tag: u64,
-    look: Look,
+    look: ReadOnlyCall,
 ) -> Result<(), Memory>
     ensures { OnOk result (IsLookedAt stamps.old.entries stamps.new.entries tag look) }
 {
     if let Some(at) = stamps.get_mut(&tag) {
-        return at.looks.push(look);
+        return at.read_only.push(look);
     }
     let mut at = AtStamp::new(alloc);
-    at.looks.push(look)?;
+    at.read_only.push(look)?;
     stamps.insert(tag, at)?;
     Ok(())
 }
 
 // What a call made of the stamps: it began an update, or looked, or was refused.
-fn turn_stamps(stamps: &mut BTreeMap<u64, AtStamp>, alloc: Global, turn: Turn) -> Result<(), Memory>
+fn turn_stamps(
+    stamps: &mut BTreeMap<u64, AtStamp>,
+    alloc: Global,
+    turn: CallEffect,
+) -> Result<(), Memory>
     ensures { OnOk result (IsTurned turn.began turn.answered stamps.old.entries stamps.new.entries turn.tag turn.call turn.event) }
 {
     if turn.began {
         return begin_stamp(stamps, alloc, turn.tag, turn.call);
     }
     if turn.answered {
-        let look = Look {
+        let look = ReadOnlyCall {
             call: turn.call,
             event: turn.event,
         };
@@ -174,7 +178,7 @@ impl KeyRun {
     }
 
     /// A call on the key.
-    pub(crate) fn take(&mut self, alloc: Global, turn: Turn, op: &Op) -> Result<(), Memory>
+    pub(crate) fn take(&mut self, alloc: Global, turn: CallEffect, op: &Op) -> Result<(), Memory>
         ensures { OnOk result (IsTaken self.old self.new turn op.now) }
     {
         let op = op.share()?;

@@ -3,7 +3,7 @@
 ghost use Rattle.std.specs.Prelude.{◌≡◌, [], ◌∷◌, ◌++◌, IfOk};
 ghost use Rattle.std.specs.Map.{keys_of};
 
-use crate::kept::{Kept, Unmade};
+use crate::kept::{Kept, StepError};
 use crate::key_run::KeyRun;
 use crate::laws::runs_are_legal;
 use crate::marked::Mark;
@@ -102,9 +102,9 @@ impl LiveRun {
                 self.count = number;
                 Ok(shown)
             }
-            Err(Unmade::Memory) => Err(WorldFault::Memory),
-            Err(Unmade::Refused(refused)) => Err(WorldFault::Refused(refused)),
-            Err(Unmade::Lost) => {
+            Err(StepError::Memory) => Err(WorldFault::Memory),
+            Err(StepError::Refused(refused)) => Err(WorldFault::Refused(refused)),
+            Err(StepError::Lost) => {
                 self.kept = None;
                 Err(WorldFault::Memory)
             }

@@ -7,7 +7,7 @@ ghost use Rattle.std.specs.Ordering.{nat_cmp};
 ghost use Rattle.hk_safety.specs.Placed.{change_placed, look_placed, placed_at, kept_placed, at_moments};
 
 use crate::evidence::Evidence;
-use crate::key_run::{AtStamp, KeyRun, Looks};
+use crate::key_run::{AtStamp, KeyRun, ReadOnlyCalls};
 use hk_base::{CallNo, Memory, Sequence};
 use hk_history::Entry;
 use std::alloc::Global;
@@ -51,10 +51,10 @@ fn place_change(
 }
 
 // Puts the calls that found the stamp behind the others, each at the event that replied to it.
-fn place_looks(placed: &mut Vec<Placed>, looks: &Looks) -> Result<(), Memory>
-    ensures { OnOk result (placed.new.items ≡ placed.old.items ++ map look_placed looks.now) }
+fn place_looks(placed: &mut Vec<Placed>, read_only: &ReadOnlyCalls) -> Result<(), Memory>
+    ensures { OnOk result (placed.new.items ≡ placed.old.items ++ map look_placed read_only.now) }
 {
-    for look in looks.as_slice() {
+    for look in read_only.as_slice() {
         let entry = Entry {
             call: look.call,
             tag: None,
@@ -71,7 +71,7 @@ fn place_stamp(placed: &mut Vec<Placed>, stamp: u64, at: &AtStamp) -> Result<(),
     ensures { OnOk result (placed.new.items ≡ placed.old.items ++ placed_at (stamp, at.now)) }
 {
     place_change(placed, stamp, at.update, &at.evidence)?;
-    place_looks(placed, &at.looks)
+    place_looks(placed, &at.read_only)
 }
 
 // Brings each change forward to the least event of its own and those of the changes behind it.

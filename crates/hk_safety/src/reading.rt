@@ -8,7 +8,7 @@ ghost use Rattle.hk_safety.specs.Marks.{mark_of};
 ghost use Rattle.hk_safety.specs.Kept.{kept_order, is_complete, update_entry, look_entry, entries_at};
 
 use crate::evidence::Evidence;
-use crate::key_run::{AtStamp, KeyRun, Looks};
+use crate::key_run::{AtStamp, KeyRun, ReadOnlyCalls};
 use crate::marked::Mark;
 use hk_base::Memory;
 use hk_history::{Entries, Entry};
@@ -40,10 +40,10 @@ fn put_update(order: &mut Entries, stamp: u64, at: &AtStamp) -> Result<(), Memor
 }
 
 // Puts the calls that found the stamp behind the others.
-fn put_looks(order: &mut Entries, looks: &Looks) -> Result<(), Memory>
-    ensures { OnOk result (order.new ≡ order.old ++ map look_entry looks.now) }
+fn put_looks(order: &mut Entries, read_only: &ReadOnlyCalls) -> Result<(), Memory>
+    ensures { OnOk result (order.new ≡ order.old ++ map look_entry read_only.now) }
 {
-    for look in looks.as_slice() {
+    for look in read_only.as_slice() {
         order.push(Entry {
             call: look.call,
             tag: None,
@@ -56,7 +56,7 @@ fn put_stamp(order: &mut Entries, stamp: u64, at: &AtStamp) -> Result<(), Memory
     ensures { OnOk result (order.new ≡ order.old ++ entries_at (stamp, at.now)) }
 {
     put_update(order, stamp, at)?;
-    put_looks(order, &at.looks)
+    put_looks(order, &at.read_only)
 }
 
 impl KeyRun {

@@ -10,9 +10,9 @@ use Rattle.hk_base.specs.declared.call.CallNo.{CallNo}
 use Rattle.hk_copy.specs.Batches.{key_cmp}
 use Rattle.hk_key.specs.declared.row.Row.{Row}
 use Rattle.hk_key.specs.Table.{first_row}
-use Rattle.hk_node.specs.declared.report.Former.{Former}
+use Rattle.hk_node.specs.declared.report.PriorRow.{PriorRow}
 use Rattle.hk_node.specs.Rows.{Rows, find_row}
-use Rattle.hk_node.specs.Report.{is_changed, former_at, changed_rows}
+use Rattle.hk_node.specs.Report.{is_changed, prior_at, changed_rows}
 use Rattle.hk_node.specs.Node.{NodeState}
 use Rattle.hk_node.specs.Sound.{IsNode, IsEvent}
 use Rattle.hk_node.proofs.Order.{same_key, same_true, find_here, find_next, lt_ne_back}
@@ -43,13 +43,13 @@ abbrev pub shown_of : ℕ → Option CallNo → List ℕ × Row → ShownRow
 shown_of ticket call r = record { key = r.0; row = r.1; ticket = ticket; call = call }
 
 module _ (old new : Rows) (ticket : ℕ) (call : Option CallNo) where
-  shown_one : (b : Bool) (x : List ℕ × Row) (former : List Former) (rest : Rows) → find_row x.0 new ≡ Some x.1
-      → publications new ticket call former ≡ map publication (map (shown_of ticket call) rest)
-      → publications new ticket call ((if b then former_at old x.0 ∷ [] else []) ++ former) ≡ map publication (map (shown_of ticket call) (cond b (x ∷ rest) rest))
-  shown_one true x former rest found more =
-      ap (λ row. published x.0 row ticket call ∷ publications new ticket call former) (ap (λ o. unwrap_or o first_row) found)
+  shown_one : (b : Bool) (x : List ℕ × Row) (prior : List PriorRow) (rest : Rows) → find_row x.0 new ≡ Some x.1
+      → publications new ticket call prior ≡ map publication (map (shown_of ticket call) rest)
+      → publications new ticket call ((if b then prior_at old x.0 ∷ [] else []) ++ prior) ≡ map publication (map (shown_of ticket call) (cond b (x ∷ rest) rest))
+  shown_one true x prior rest found more =
+      ap (λ row. published x.0 row ticket call ∷ publications new ticket call prior) (ap (λ o. unwrap_or o first_row) found)
       ∙ ap (λ l. published x.0 x.1 ticket call ∷ l) more
-  shown_one false x former rest found more = more
+  shown_one false x prior rest found more = more
 
   are_shown : (xs : Rows) → AllByRecursion (λ (r : List ℕ × Row). find_row r.0 new ≡ Some r.1) xs
       → publications new ticket call (changed_rows old xs) ≡ map publication (map (shown_of ticket call) (changed old xs))
@@ -140,9 +140,9 @@ module _ (key : List ℕ) (cell : ℕ) (here : cell_of key ≡ cell) (new : Rows
           (λ (h : last_row key (picked xs) before ≡ find_row key new). inr (first ∙ h))
           (more before)
 
-any_former : (key : List ℕ) (xs : List Former) → list_any (λ f. same_key key f.key) xs ≡ list_any (same_key key) (map (λ f. f.key) xs)
-any_former key [] = refl
-any_former key (x ∷ xs) = ap (λ b. same_key key x.key || b) (any_former key xs)
+any_prior : (key : List ℕ) (xs : List PriorRow) → list_any (λ f. same_key key f.key) xs ≡ list_any (same_key key) (map (λ f. f.key) xs)
+any_prior key [] = refl
+any_prior key (x ∷ xs) = ap (λ b. same_key key x.key || b) (any_prior key xs)
 
 any_shown : (key : List ℕ) (ticket : ℕ) (call : Option CallNo) (xs : Rows) → list_any (λ (s : ShownRow). same_key key s.key) (map (shown_of ticket call) xs) ≡ list_any (same_key key) (map (λ r. r.0) xs)
 any_shown key ticket call [] = refl
@@ -161,7 +161,7 @@ covers_more cell front node entry ok within covers key here =
     whole ∙ ⊎_elim
     (λ (h : (list_any (λ (s : ShownRow). same_key key s.key) shown ≡ false) × (last_row key (map publication (filter (λ s. is_in cell s.key) shown)) row ≡ row)).
     h.1 ∙ (covers key here ∙ sym (changed_are_all node entry.event key ok within
-    (any_former key (changed_rows node.rows new) ∙ (ap (list_any (same_key key)) (sym (changed_are_reported node.rows new))
+    (any_prior key (changed_rows node.rows new) ∙ (ap (list_any (same_key key)) (sym (changed_are_reported node.rows new))
     ∙ (sym (any_shown key entry.ticket (call_of entry.event) (changed node.rows new)) ∙ h.0))))))
     (λ (h : last_row key (map publication (filter (λ s. is_in cell s.key) shown)) row ≡ find_row key new). h)
     (is_last key cell here new shown found row)

@@ -10,7 +10,7 @@ use Rattle.std.specs.declared.cmp.Ordering.TheVariants.{Less}
 use Rattle.hk_base.specs.Range.{IsWithin}
 use Rattle.hk_base.specs.declared.call.CallNo.{CallNo}
 use Rattle.hk_copy.specs.Batches.{key_cmp}
-use Rattle.hk_node.specs.declared.report.Former.{Former}
+use Rattle.hk_node.specs.declared.report.PriorRow.{PriorRow}
 use Rattle.hk_node.specs.Rows.{Rows, row_at}
 use Rattle.hk_snap.specs.declared.rule.Publication.{Publication}
 use Rattle.hk_snap.specs.Snapshots.{cell_of, published, IsBefore, IsNext}
@@ -99,32 +99,32 @@ may ends (p ∷ ps) long before turns within = (
 
 -- ---- those of a step, whose ticket is above what was published
 module _ (rows : Rows) (ticket : ℕ) (call : Option CallNo) where
-  below_all : (q : Publication) (former : List Former) → q.ticket < ticket → AllByRecursion (IsBefore q) (publications rows ticket call former)
+  below_all : (q : Publication) (prior : List PriorRow) → q.ticket < ticket → AllByRecursion (IsBefore q) (publications rows ticket call prior)
   below_all q [] below = tt
-  below_all q (f ∷ former) below = (inl below, below_all q former below)
+  below_all q (f ∷ prior) below = (inl below, below_all q prior below)
 
-  all_below : (seen : List Publication) (last : ℕ) (former : List Former) → last < ticket → AllByRecursion (λ q. q.ticket ≤ last) seen
-      → AllByRecursion (λ q. AllByRecursion (IsBefore q) (publications rows ticket call former)) seen
-  all_below [] last former up all = tt
-  all_below (q ∷ seen) last former up all = (below_all q former (omega (arith, all.0)), all_below seen last former up all.1)
+  all_below : (seen : List Publication) (last : ℕ) (prior : List PriorRow) → last < ticket → AllByRecursion (λ q. q.ticket ≤ last) seen
+      → AllByRecursion (λ q. AllByRecursion (IsBefore q) (publications rows ticket call prior)) seen
+  all_below [] last prior up all = tt
+  all_below (q ∷ seen) last prior up all = (below_all q prior (omega (arith, all.0)), all_below seen last prior up all.1)
 
-  by_key : (f : Former) (former : List Former) → AllByRecursion (λ k. key_cmp f.key k ≡ Less) (map (λ g. g.key) former)
-      → AllByRecursion (IsBefore (published f.key (row_at f.key rows) ticket call)) (publications rows ticket call former)
+  by_key : (f : PriorRow) (prior : List PriorRow) → AllByRecursion (λ k. key_cmp f.key k ≡ Less) (map (λ g. g.key) prior)
+      → AllByRecursion (IsBefore (published f.key (row_at f.key rows) ticket call)) (publications rows ticket call prior)
   by_key f [] all = tt
-  by_key f (g ∷ former) all = (inr (refl, all.0), by_key f former all.1)
+  by_key f (g ∷ prior) all = (inr (refl, all.0), by_key f prior all.1)
 
-  in_turn : (former : List Former) → IsStrictlySortedBy key_cmp (map (λ f. f.key) former) → InTurn (publications rows ticket call former)
+  in_turn : (prior : List PriorRow) → IsStrictlySortedBy key_cmp (map (λ f. f.key) prior) → InTurn (publications rows ticket call prior)
   in_turn [] sorted = tt
-  in_turn (f ∷ former) sorted = (
-    by_key f former (sorted_head key_cmp f.key (map (λ g. g.key) former) sorted),
-    in_turn former (sorted_tail key_cmp f.key (map (λ g. g.key) former) sorted),
+  in_turn (f ∷ prior) sorted = (
+    by_key f prior (sorted_head key_cmp f.key (map (λ g. g.key) prior) sorted),
+    in_turn prior (sorted_tail key_cmp f.key (map (λ g. g.key) prior) sorted),
   )
 
-  all_within : (former : List Former) → ((key : List ℕ) → IsWithin (row_at key rows).stamp) → AllByRecursion (λ p. IsWithin p.row.stamp) (publications rows ticket call former)
+  all_within : (prior : List PriorRow) → ((key : List ℕ) → IsWithin (row_at key rows).stamp) → AllByRecursion (λ p. IsWithin p.row.stamp) (publications rows ticket call prior)
   all_within [] within = tt
-  all_within (f ∷ former) within = (within f.key, all_within former within)
+  all_within (f ∷ prior) within = (within f.key, all_within prior within)
 
-  pub may_be_published : (ends : List End) (last : ℕ) (former : List Former) → length ends ≡ 32 → last < ticket → ((cell : ℕ) → AllByRecursion (λ q. q.ticket ≤ last) (seen_at ends cell))
-      → IsStrictlySortedBy key_cmp (map (λ f. f.key) former) → ((key : List ℕ) → IsWithin (row_at key rows).stamp) → MayBePublished ends (publications rows ticket call former)
-  may_be_published ends last former long up tickets sorted within = may ends (publications rows ticket call former) long
-      (λ cell. all_below (seen_at ends cell) last former up (tickets cell)) (in_turn former sorted) (all_within former within)
+  pub may_be_published : (ends : List End) (last : ℕ) (prior : List PriorRow) → length ends ≡ 32 → last < ticket → ((cell : ℕ) → AllByRecursion (λ q. q.ticket ≤ last) (seen_at ends cell))
+      → IsStrictlySortedBy key_cmp (map (λ f. f.key) prior) → ((key : List ℕ) → IsWithin (row_at key rows).stamp) → MayBePublished ends (publications rows ticket call prior)
+  may_be_published ends last prior long up tickets sorted within = may ends (publications rows ticket call prior) long
+      (λ cell. all_below (seen_at ends cell) last prior up (tickets cell)) (in_turn prior sorted) (all_within prior within)

@@ -3,13 +3,13 @@ use Rattle.std.proofs.Common.{◌≡◌, List, [], ◌∷◌, ◌++◌, refl, sy
 use Rattle.hk_node.specs.Node.{NodeState}
 use Rattle.hk_node.specs.declared.event.NodeEvent.{NodeEvent}
 use Rattle.hk_node.specs.declared.out.NodeOut.{NodeOut}
-use Rattle.hk_node.specs.declared.report.Beside.TheVariants.{Nothing}
+use Rattle.hk_node.specs.declared.report.Undo.TheVariants.{Nothing}
 use Rattle.hk_node.specs.Outs.{IsOutOf}
 use Rattle.hk_node.specs.Steps.{node_step}
 use Rattle.hk_node.specs.Sound.{IsNode}
 use Rattle.hk_shard.specs.declared.replaced.Replaced.{Replaced}
 use Rattle.hk_shard.specs.Replaced.{before_all, replaced_of, AreKept, IsReplaced, AreReplaced}
-use Rattle.hk_node.specs.Report.{given_back}
+use Rattle.hk_node.specs.Report.{rolled_back}
 
 pub one_more : (first old new : NodeState) (replaced : List Replaced) (last : Replaced) → AreReplaced first replaced old → IsReplaced old last new → AreReplaced first (replaced ++ last ∷ []) new
 one_more first old new [] last are is = (new, subst (λ n. IsReplaced n last new) are is, refl)
@@ -28,8 +28,8 @@ one_back first new (x ∷ replaced) last are =
 
 -- what a step told is what it replaced
 pub replaced_by : (old new : NodeState) (event : NodeEvent) (out : NodeOut) → IsNode old → IsOutOf out old (node_step old event) → new ≡ (node_step old event).node
-    → IsReplaced old (record { report = out.report; beside = out.beside }) new
-replaced_by old new event out ok is same = subst (IsReplaced old (record { report = out.report; beside = out.beside })) (sym same) (record {
+    → IsReplaced old (record { report = out.report; undo = out.undo }) new
+replaced_by old new event out ok is same = subst (IsReplaced old (record { report = out.report; undo = out.undo })) (sym same) (record {
   node = ok;
   rising = is.changed.rising;
   there = is.changed.there;
@@ -42,7 +42,7 @@ last_back first new all rest last is are = one_back first new rest last (subst (
 -- the node before all of them
 pub back_at_first : (first new : NodeState) (replaced : List Replaced) → AreReplaced first replaced new → before_all replaced new ≡ first
 back_at_first first new [] are = are
-back_at_first first new (x ∷ replaced) are = ap (given_back x.report.rows x.beside) (back_at_first are.0 new replaced are.2) ∙ are.1.undone
+back_at_first first new (x ∷ replaced) are = ap (rolled_back x.report.rows x.undo) (back_at_first are.0 new replaced are.2) ∙ are.1.undone
 
 -- nothing was replaced
 pub none_replaced : (node : NodeState) (replaced : List Replaced) → replaced ≡ [] → AreReplaced node replaced node
@@ -53,8 +53,8 @@ pub kept_more : (first old new : NodeState) (event : NodeEvent) (out : NodeOut) 
     → AreKept out before after → AreReplaced first before old → AreReplaced first after new
 kept_more first old new event out before after ok is same kept are = ⊎_elim
     (λ (more : after ≡ before ++ replaced_of out ∷ []). subst (λ l. AreReplaced first l new) (sym more) (one_more first old new before (replaced_of out) are by))
-    (λ (none : (after ≡ before) × (out.report.rows ≡ []) × (out.beside ≡ Nothing)).
-    let stays : new ≡ old = sym (λ i. given_back (none.1 i) (none.2 i) new) ∙ by.undone in
+    (λ (none : (after ≡ before) × (out.report.rows ≡ []) × (out.undo ≡ Nothing)).
+    let stays : new ≡ old = sym (λ i. rolled_back (none.1 i) (none.2 i) new) ∙ by.undone in
     subst (λ (x : List Replaced × NodeState). AreReplaced first x.0 x.1) (λ i. (sym none.0 i, sym stays i)) are)
     kept
   where

@@ -5,14 +5,14 @@ ghost use Rattle.hk_shard.specs.Replaced.{replaced_of};
 
 use hk_base::{Key, Memory, Sequence, View};
 use hk_key::Row;
-use hk_node::{Beside, Former, FormerRows, NodeOut, Report};
+use hk_node::{NodeOut, PriorRow, PriorRows, Report, Undo};
 use std::alloc::Global;
 
 /// What a step replaced at its node, by which it is undone.
 #[derive(Drop)]
 pub struct Replaced {
     pub report: Report,
-    pub beside: Beside,
+    pub undo: Undo,
 }
 
 fn copy_row(alloc: Global, row: &Option<Row>) -> Result<Option<Row>, Memory>
@@ -27,21 +27,21 @@ fn copy_row(alloc: Global, row: &Option<Row>) -> Result<Option<Row>, Memory>
     }
 }
 
-fn copy_former(alloc: Global, former: &Former) -> Result<Former, Memory>
-    ensures { IfOk result (λ same. same ≡ former.now) }
+fn copy_prior(alloc: Global, prior: &PriorRow) -> Result<PriorRow, Memory>
+    ensures { IfOk result (λ same. same ≡ prior.now) }
 {
-    let key = former.key.share()?;
-    let row = copy_row(alloc, &former.row)?;
-    Ok(Former { key, row })
+    let key = prior.key.share()?;
+    let row = copy_row(alloc, &prior.row)?;
+    Ok(PriorRow { key, row })
 }
 
-fn copy_rows(alloc: Global, rows: &[Former]) -> Result<FormerRows, Memory>
+fn copy_rows(alloc: Global, rows: &[PriorRow]) -> Result<PriorRows, Memory>
     ensures { IfOk result (λ same. same ≡ rows.now) }
 {
     let mut same = Vec::with_capacity(alloc, rows.len())?;
-    for former in rows {
-        let former = copy_former(alloc, former)?;
-        same.push(former)?;
+    for prior in rows {
+        let prior = copy_prior(alloc, prior)?;
+        same.push(prior)?;
     }
     Ok(Sequence::from_vec(same))
 }
@@ -88,32 +88,32 @@ fn share_key(key: &Option<Key>) -> Result<Option<Key>, Memory>
     }
 }
 
-fn copy_beside(alloc: Global, beside: &Beside) -> Result<Beside, Memory>
-    ensures { IfOk result (λ same. same ≡ beside.now) }
+fn copy_undo(alloc: Global, undo: &Undo) -> Result<Undo, Memory>
+    ensures { IfOk result (λ same. same ≡ undo.now) }
 {
-    match beside {
-        Beside::Nothing => Ok(Beside::Nothing),
-        Beside::Clock(now) => Ok(Beside::Clock(*now)),
-        Beside::Lease(end) => Ok(Beside::Lease(*end)),
-        Beside::Granted { granted, ends } => {
+    match undo {
+        Undo::Nothing => Ok(Undo::Nothing),
+        Undo::Clock(now) => Ok(Undo::Clock(*now)),
+        Undo::Lease(end) => Ok(Undo::Lease(*end)),
+        Undo::Granted { granted, ends } => {
             let ends = copy_numbers(alloc, ends)?;
-            Ok(Beside::Granted {
+            Ok(Undo::Granted {
                 granted: *granted,
                 ends,
             })
         }
-        Beside::Activated(activated) => {
+        Undo::Activated(activated) => {
             let activated = copy_numbers(alloc, activated)?;
-            Ok(Beside::Activated(activated))
+            Ok(Undo::Activated(activated))
         }
-        Beside::View { view, activated } => {
+        Undo::View { view, activated } => {
             let view = copy_view(alloc, view)?;
             let activated = copy_numbers(alloc, activated)?;
-            Ok(Beside::View { view, activated })
+            Ok(Undo::View { view, activated })
         }
-        Beside::Cursor(cursor) => {
+        Undo::Cursor(cursor) => {
             let cursor = share_key(cursor)?;
-            Ok(Beside::Cursor(cursor))
+            Ok(Undo::Cursor(cursor))
         }
     }
 }
@@ -123,16 +123,16 @@ pub(crate) fn replaced_of(alloc: Global, out: &NodeOut) -> Result<Replaced, Memo
     ensures { IfOk result (λ replaced. replaced ≡ replaced_of out.now) }
 {
     let report = copy_report(alloc, &out.report)?;
-    let beside = copy_beside(alloc, &out.beside)?;
-    Ok(Replaced { report, beside })
+    let undo = copy_undo(alloc, &out.undo)?;
+    Ok(Replaced { report, undo })
 }
 
 fn share(alloc: Global, replaced: &Replaced) -> Result<Replaced, Memory>
     ensures { IfOk result (λ same. same ≡ replaced.now) }
 {
     let report = copy_report(alloc, &replaced.report)?;
-    let beside = copy_beside(alloc, &replaced.beside)?;
-    Ok(Replaced { report, beside })
+    let undo = copy_undo(alloc, &replaced.undo)?;
+    Ok(Replaced { report, undo })
 }
 
 /// The same of all these steps.

@@ -9,7 +9,7 @@ ghost use Rattle.hk_journal.specs.Journal.{call_of};
 ghost use Rattle.hk_shard.specs.Publishing.{publications, with_all, MayBePublished};
 
 use hk_base::CallNo;
-use hk_node::{Former, Node, NodeEvent};
+use hk_node::{Node, NodeEvent, PriorRow};
 use hk_snap::SnapWriter;
 use std::sync::Wait;
 
@@ -37,13 +37,13 @@ pub(crate) fn publish_rows<R: Wait>(
     part: &Node,
     ticket: u64,
     call: Option<CallNo>,
-    former: &[Former],
+    prior: &[PriorRow],
 )
-    requires there { AllByRecursion (λ f. IsSome (find_row f.key part.now.rows)) former.now }
-    requires next { MayBePublished writer.old (publications part.now.rows ticket call former.now) }
-    ensures { writer.new ≡ with_all writer.old (publications part.now.rows ticket call former.now) }
+    requires there { AllByRecursion (λ f. IsSome (find_row f.key part.now.rows)) prior.now }
+    requires next { MayBePublished writer.old (publications part.now.rows ticket call prior.now) }
+    ensures { writer.new ≡ with_all writer.old (publications part.now.rows ticket call prior.now) }
 {
-    for changed in former {
+    for changed in prior {
         if let Some(row) = part.row(&changed.key) {
             writer.publish(rt, &changed.key, row, ticket, call);
         }

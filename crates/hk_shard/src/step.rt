@@ -5,7 +5,7 @@ ghost use Rattle.hk_node.specs.Node.{NodeState};
 ghost use Rattle.hk_node.specs.Outs.{IsOutOf};
 ghost use Rattle.hk_node.specs.Steps.{node_step};
 ghost use Rattle.hk_node.specs.Sound.{IsNode, IsEvent};
-ghost use Rattle.hk_node.specs.declared.report.Beside.TheVariants.{Nothing};
+ghost use Rattle.hk_node.specs.declared.report.Undo.TheVariants.{Nothing};
 ghost use Rattle.hk_journal.specs.Journal.{entry_of};
 ghost use Rattle.hk_shard.specs.Shard.{step_entry};
 ghost use Rattle.hk_shard.specs.Replaced.{replaced_of, before_all, AreKept, AreReplaced};
@@ -13,15 +13,15 @@ ghost use Rattle.hk_shard.specs.Replaced.{replaced_of, before_all, AreKept, AreR
 use crate::replaced::{Replaced, replaced_of, share_all};
 use hk_base::Memory;
 use hk_journal::{Journal, entry};
-use hk_node::{Beside, Node, NodeEvent, NodeOut};
+use hk_node::{Node, NodeEvent, NodeOut, Undo};
 use std::alloc::Global;
 
 // Whether the step left its node as it was.
 fn changed_nothing(out: &NodeOut) -> bool
-    ensures { result ≡ true → (out.now.report.rows ≡ []) × (out.now.beside ≡ Nothing) }
+    ensures { result ≡ true → (out.now.report.rows ≡ []) × (out.now.undo ≡ Nothing) }
 {
-    match out.beside {
-        Beside::Nothing => out.report.rows.is_empty(),
+    match out.undo {
+        Undo::Nothing => out.report.rows.is_empty(),
         _ => false,
     }
 }
@@ -108,7 +108,7 @@ pub(crate) fn make(
 {
     let out = part.step(alloc, &event)?;
     if let Err(fault) = record(alloc, journal, replaced, ticket, event, &out) {
-        part.undo(out.report, out.beside);
+        part.undo(out.report, out.undo);
         return Err(fault);
     }
     Ok(out)
@@ -121,8 +121,8 @@ fn take_back(node: &mut Node, replaced: Vec<Replaced>)
 {
     let mut replaced = replaced;
     while let Some(last) = replaced.pop() {
-        let Replaced { report, beside } = last;
-        node.undo(report, beside);
+        let Replaced { report, undo } = last;
+        node.undo(report, undo);
     }
 }
 

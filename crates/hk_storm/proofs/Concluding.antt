@@ -13,7 +13,7 @@ use Rattle.hk_world.specs.World.{WorldState}
 use Rattle.hk_world.specs.Start.{start}
 use Rattle.hk_world.specs.Sound.{IsHeader, IsEvent}
 use Rattle.hk_safety.specs.Run.{RunState, IsRun, AreAccepted, RunsAreLegal}
-use Rattle.hk_merge.specs.Merged.{Item, Step, Look, IsOf, IsEventOf, tickets_after, Goes}
+use Rattle.hk_merge.specs.Merged.{Item, Step, LocalRead, IsOf, IsEventOf, tickets_after, Goes}
 use Rattle.hk_assemble.specs.declared.gap.Gap.{Gap}
 use Rattle.hk_assemble.specs.declared.gap.Gap.TheVariants as G
 use Rattle.hk_assemble.specs.Assembled.{IsAssembled}
@@ -33,7 +33,7 @@ event_of_ok node letters tickets ticket e event is = absurd is
 
 item_ok : (item : Item) (letters : List Letter) (tickets : List ℕ) (event : Event) (shown : Shown) → IsOf item letters tickets event shown → IsEvent event
 item_ok (Step node entry) letters tickets event shown is = event_of_ok node letters tickets entry.ticket entry.event event is.0
-item_ok (Look listed note) letters tickets event shown is = subst IsEvent (sym is) tt
+item_ok (LocalRead listed note) letters tickets event shown is = subst IsEvent (sym is) tt
 
 goes_accepted : (world : WorldState) (tickets : List ℕ) (items : List Item) (events : List Event) (last : WorldState) → Goes world tickets items events last → AreAccepted world events
 goes_accepted world tickets [] [] last goes = tt

@@ -13,7 +13,7 @@ use Rattle.hk_key.specs.declared.row.Row.{Row}
 use Rattle.hk_key.specs.Table.{first_row}
 use Rattle.hk_key.specs.Same.{is_same_row}
 use Rattle.hk_key.proofs.SameNotes.{each_is_same}
-use Rattle.hk_node.specs.declared.report.Former.{Former}
+use Rattle.hk_node.specs.declared.report.PriorRow.{PriorRow}
 use Rattle.hk_node.specs.Rows.{Rows, find_row, row_at}
 use Rattle.hk_node.specs.Report.{is_changed, changed_rows, AreChanged}
 use Rattle.hk_node.specs.Node.{NodeState}
@@ -129,18 +129,18 @@ module _ (key : List ℕ) (old : Rows) (ticket : ℕ) (call : Option CallNo) whe
           past (is_changed old r) (is_here (shown r)) (λ k. false≢true (sym e ∙ same_of key r.0 k)) (published key row ticket call) (rest found)
 
 -- ---- a key among those that changed
-listed : (P : Former → Type 0) (key : List ℕ) (former : List Former) → list_any (λ f. is_eq (key_cmp key f.key)) former ≡ true → AllByRecursion P former → (f : Former) × (key ≡ f.key) × P f
+listed : (P : PriorRow → Type 0) (key : List ℕ) (prior : List PriorRow) → list_any (λ f. is_eq (key_cmp key f.key)) prior ≡ true → AllByRecursion P prior → (f : PriorRow) × (key ≡ f.key) × P f
 listed P key [] e all = absurd (false≢true e)
-listed P key (f ∷ former) e all = at (is_eq (key_cmp key f.key)) refl e (listed P key former)
+listed P key (f ∷ prior) e all = at (is_eq (key_cmp key f.key)) refl e (listed P key prior)
   where
-    at : (b : Bool) → is_eq (key_cmp key f.key) ≡ b → (b || list_any (λ g. is_eq (key_cmp key g.key)) former) ≡ true →
-        (list_any (λ g. is_eq (key_cmp key g.key)) former ≡ true → AllByRecursion P former → (g : Former) × (key ≡ g.key) × P g) → (g : Former) × (key ≡ g.key) × P g
+    at : (b : Bool) → is_eq (key_cmp key f.key) ≡ b → (b || list_any (λ g. is_eq (key_cmp key g.key)) prior) ≡ true →
+        (list_any (λ g. is_eq (key_cmp key g.key)) prior ≡ true → AllByRecursion P prior → (g : PriorRow) × (key ≡ g.key) × P g) → (g : PriorRow) × (key ≡ g.key) × P g
     at true is e rest = (f, same_true key f.key is, all.0)
     at false is e rest = rest e all.1
 
-both : (P Q : Former → Type 0) (former : List Former) → AllByRecursion P former → AllByRecursion Q former → AllByRecursion (λ f. P f × Q f) former
+both : (P Q : PriorRow → Type 0) (prior : List PriorRow) → AllByRecursion P prior → AllByRecursion Q prior → AllByRecursion (λ f. P f × Q f) prior
 both P Q [] p q = tt
-both P Q (f ∷ former) p q = ((p.0, q.0), both P Q former p.1 q.1)
+both P Q (f ∷ prior) p q = ((p.0, q.0), both P Q prior p.1 q.1)
 
 adds_rows : (key : List ℕ) (old new : Rows) (ticket : ℕ) (call : Option CallNo) → Rising new → AreChanged (changed_rows old new) old new →
     Adds key (find_row key old) (find_row key new) ticket call (made key old ticket call new)

@@ -9,8 +9,8 @@ use Rattle.hk_base.specs.declared.call.CallNo.{CallNo}
 use Rattle.hk_told.specs.declared.ask.Ask.{Ask}
 use Rattle.hk_base.specs.declared.call.Answer.{Answer}
 use Rattle.hk_base.specs.declared.call.Reply.{Reply}
-use Rattle.hk_told.specs.declared.asks.Look.{Look}
-use Rattle.hk_told.specs.declared.asks.Look.TheVariants.{Gone, Waits, Told}
+use Rattle.hk_told.specs.declared.asks.AskState.{AskState}
+use Rattle.hk_told.specs.declared.asks.AskState.TheVariants.{Gone, Waits, Told}
 use Rattle.hk_told.specs.Held.{Asks, IsWaitingAt, answer_to, heard, Delivers, DeliversInTurn, AreFewer}
 use Rattle.hk_told.specs.Kept.{by_number, asks_in, told_ask, unwanted_ask, is_of, is_told, is_left, given_up, answered, look_at, AreOthersSame, LooksAs, TakesOut}
 use Rattle.hk_told.proofs.Moving.{some_same}

@@ -9,4 +9,4 @@ pub mod OneKey
 pub mod Staying
 pub mod Steps
 pub mod Telling
-pub mod Ways
+pub mod StepCases

@@ -6,13 +6,13 @@ use Rattle.hk_node.specs.declared.event.NodeEvent.TheVariants.{Call}
 use Rattle.hk_node.specs.Node.{NodeState}
 use Rattle.hk_node.specs.Stepped.{Stepped}
 use Rattle.hk_node.specs.Laws.{key_of}
-use Rattle.hk_node.proofs.Ways.{CallWays, Ways, by_call, by_event}
+use Rattle.hk_node.proofs.StepCases.{CallCases, StepCases, by_call, by_event}
 use Rattle.hk_told.specs.Steps.{StepsKeepNumbers}
 
 abbrev Keeps : NodeState → Stepped → Type 0
 Keeps node stepped = (stepped.node.id ≡ node.id) × (stepped.node.skew ≡ node.skew)
 
-ways : (node : NodeState) (named : Option (List ℕ)) → Ways (Keeps node) node named
+ways : (node : NodeState) (named : Option (List ℕ)) → StepCases (Keeps node) node named
 ways node named = record {
   quiet = λ clock granted ends activated. (refl, refl);
   sends = λ letters within. (refl, refl);
@@ -21,7 +21,7 @@ ways node named = record {
   installs = λ view activated none acts. (refl, refl);
 }
 
-call_ways : (node : NodeState) (call : CallNo) (key : List ℕ) (op : Op) → CallWays (Keeps node) node call key op
+call_ways : (node : NodeState) (call : CallNo) (key : List ℕ) (op : Op) → CallCases (Keeps node) node call key op
 call_ways node call key op = record { answered = λ answer. (refl, refl); begins = λ s ready valid next. (refl, refl) }
 
 pub steps_keep_numbers : StepsKeepNumbers

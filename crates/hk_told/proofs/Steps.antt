@@ -46,7 +46,7 @@ use Rattle.hk_told.specs.Answers.{tells_stay}
 use Rattle.hk_told.specs.Steps.{told_at, StepMoves, AtOnce, Starts, CallsAnswerOrStart, ReadsLeaveNodes}
 use Rattle.hk_told.proofs.Moving.{CompletesAtOnce, BeginsAt, unmoved, begin_starts, view_moves}
 use Rattle.hk_told.proofs.Acted.{changes_alike, stays_tell, read_stays}
-use Rattle.hk_told.proofs.Ways.{Does, Ways, by_event}
+use Rattle.hk_told.proofs.StepCases.{Does, StepCases, by_event}
 
 -- ---- what is told at a key
 told_first : (key : List ℕ) (o : Option Reply) (rest : List (List ℕ × Reply)) → told_at key rest ≡ None → told_at key (told_of key o ++ rest) ≡ o
@@ -163,7 +163,7 @@ module _ (node : NodeState) (ok : IsNode node) (key : List ℕ) where
       by_found None = unmoved first_row first_row refl
       by_found (Some row) = view_moves node.id view.members row
 
-  ways : (named : Option (List ℕ)) → Ways At node named
+  ways : (named : Option (List ℕ)) → StepCases At node named
   ways named = record {
     quiet = λ clock granted ends activated. still_at;
     sends = λ letters within. still_at;

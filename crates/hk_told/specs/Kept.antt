@@ -8,8 +8,8 @@ use Rattle.std.specs.Map.{lookup}
 use Rattle.hk_base.specs.declared.call.CallNo.{CallNo}
 use Rattle.hk_base.specs.declared.call.Answer.{Answer}
 use Rattle.hk_told.specs.declared.ask.Ask.{Ask}
-use Rattle.hk_told.specs.declared.asks.Look.{Look}
-use Rattle.hk_told.specs.declared.asks.Look.TheVariants.{Gone, Waits, Told}
+use Rattle.hk_told.specs.declared.asks.AskState.{AskState}
+use Rattle.hk_told.specs.declared.asks.AskState.TheVariants.{Gone, Waits, Told}
 use Rattle.hk_told.specs.Held.{Asks}
 
 abbrev pub by_number : CallNo → CallNo → Ordering
@@ -56,18 +56,18 @@ abbrev pub answered : Answer → Option Ask → Option Ask
 answered answer None = None
 answered answer (Some ask) = if ask.wanted then Some (told_ask answer ask) else None
 
-abbrev pub look_at : Option Answer → Look
+abbrev pub look_at : Option Answer → AskState
 look_at None = Waits
 look_at (Some answer) = Told answer
 
 -- How the ask of a call and a ticket stands: there is none, or it was told this, or nothing yet.
-abbrev pub LooksAs : ℕ → Option Ask → Look → Type 0
+abbrev pub LooksAs : ℕ → Option Ask → AskState → Type 0
 LooksAs ticket asked Gone = (ask : Ask) → asked ≡ Some ask → ask.ticket ≢ ticket
 LooksAs ticket asked Waits = IsSomeAnd asked (λ ask. (ask.ticket ≡ ticket) × (ask.told ≡ None))
 LooksAs ticket asked (Told answer) = IsSomeAnd asked (λ ask. (ask.ticket ≡ ticket) × (ask.told ≡ Some answer))
 
 -- What a look leaves: one that was told something is taken out, and nothing else changes.
-abbrev pub TakesOut : CallNo → List (CallNo × Ask) → List (CallNo × Ask) → Look → Type 0
+abbrev pub TakesOut : CallNo → List (CallNo × Ask) → List (CallNo × Ask) → AskState → Type 0
 TakesOut call old new Gone = new ≡ old
 TakesOut call old new Waits = new ≡ old
 TakesOut call old new (Told answer) = (asks_in new call ≡ None) × AreOthersSame call (asks_in old) (asks_in new)

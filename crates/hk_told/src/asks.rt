@@ -16,7 +16,7 @@ use std::marker::Model;
 
 /// How an ask stands.
 #[derive(PartialEq, Eq, Drop)]
-pub enum Look {
+pub enum AskState {
     /// There is none.
     Gone,
     /// Nothing was delivered yet.
@@ -61,12 +61,12 @@ fn leave(kept: &mut BTreeMap<CallNo, Ask>, call: CallNo)
     }
 }
 
-fn look_at(told: Option<Answer>) -> Look
+fn look_at(told: Option<Answer>) -> AskState
     ensures { result ≡ look_at told }
 {
     match told {
-        Some(answer) => Look::Told(answer),
-        None => Look::Waits,
+        Some(answer) => AskState::Told(answer),
+        None => AskState::Waits,
     }
 }
 
@@ -125,20 +125,20 @@ impl Asks {
     }
 
     /// How the ask of the call stands, if it was begun under the ticket. One that was told something is taken out. It takes no memory.
-    pub fn look(&mut self, call: CallNo, ticket: u64) -> Look
+    pub fn look(&mut self, call: CallNo, ticket: u64) -> AskState
         ensures stands { LooksAs ticket (asks_in self.old call) result }
         ensures takes { TakesOut call self.old self.new result }
         ensures fewer { AreFewer (asks_in self.old) (asks_in self.new) }
     {
         if !self.is_of(call, ticket) {
-            return Look::Gone;
+            return AskState::Gone;
         }
         if !self.is_told(call) {
-            return Look::Waits;
+            return AskState::Waits;
         }
         match self.forget(call) {
             Some(ask) => look_at(ask.told),
-            None => Look::Gone,
+            None => AskState::Gone,
         }
     }
 

@@ -14,7 +14,7 @@ mod asks;
 mod laws;
 
 pub use ask::Ask;
-pub use asks::{Asks, Look};
+pub use asks::{AskState, Asks};
 pub use laws::{
     asks_are_shown, asks_stay_held, key_events_change_one_row, reads_leave_nodes, told_is_shown,
     waiting_calls_move,

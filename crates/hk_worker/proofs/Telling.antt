@@ -6,8 +6,8 @@ use Rattle.hk_base.specs.declared.call.Op.{Op}
 use Rattle.hk_base.specs.declared.call.Answer.{Answer}
 use Rattle.hk_outside.specs.Desk.{answers}
 use Rattle.hk_outside.specs.declared.desk.DeskReply.TheVariants.{Told, Unknown}
-use Rattle.hk_told.specs.declared.asks.Look.{Look}
-use Rattle.hk_told.specs.declared.asks.Look.TheVariants as how
+use Rattle.hk_told.specs.declared.asks.AskState.{AskState}
+use Rattle.hk_told.specs.declared.asks.AskState.TheVariants as how
 use Rattle.hk_told.specs.Shown.{LooksAt, TellsShown}
 use Rattle.hk_told.proofs.Telling.{looks_are_joined, at_once_is_shown, after_looks_is_shown, unknown_is_shown, shown_suits}
 use Rattle.hk_locked.specs.Locked.{ReaderState}
@@ -65,11 +65,11 @@ not_told call key ticket op old mid new s l =
     (unknown_is_shown call key ticket op mid.lease.end mid.lease.now mid.skew 100000 (end_at key old) (end_at key mid) (end_at key new) s.starts l.looks, refl)
 
 -- ---- the turns of the loop
-pub waits_after : (turns : ℕ) (key : List ℕ) (ticket : ℕ) (look : Look) (old mid new : ReaderState) → WaitsOn turns key ticket old mid → turns < 100000 → look ≡ how.Waits
+pub waits_after : (turns : ℕ) (key : List ℕ) (ticket : ℕ) (look : AskState) (old mid new : ReaderState) → WaitsOn turns key ticket old mid → turns < 100000 → look ≡ how.Waits
     → LooksFor key ticket mid new look → WaitsOn (turns + 1) key ticket old new × (turns + 1 ≤ 100000)
 waits_after turns key ticket look old mid new w below is looks = (waits_more turns key ticket old mid new w (subst (LooksFor key ticket mid new) is looks), omega (arith, below))
 
-pub told_after : (turns : ℕ) (key : List ℕ) (ticket : ℕ) (look : Look) (answer : Answer) (old mid new : ReaderState) → WaitsOn turns key ticket old mid → look ≡ how.Told answer
+pub told_after : (turns : ℕ) (key : List ℕ) (ticket : ℕ) (look : AskState) (answer : Answer) (old mid new : ReaderState) → WaitsOn turns key ticket old mid → look ≡ how.Told answer
     → LooksFor key ticket mid new look → (all : ℕ) × (Some answer ≡ None → all ≡ 100000) × LooksOften all key ticket old new (Some answer)
 told_after turns key ticket look answer old mid new w is looks =
     (turns + 1, (λ none. absurd (false≢true (sym (ap is_some none)))), one_more turns key ticket (Some answer) old mid new w (subst (LooksFor key ticket mid new) is looks))

@@ -17,7 +17,7 @@ use hk_link::Outlet;
 use hk_locked::{LockedShard, Places, ShardReader, Started};
 use hk_outside::DeskReply;
 use hk_overseer::send_all;
-use hk_told::Look;
+use hk_told::AskState;
 use std::alloc::Global;
 use std::sync::{MutexGuard, Wait};
 use std::{hint, thread};
@@ -138,7 +138,7 @@ fn look<F: Completion + Copy + Drop, P: Places>(
     key: &Key,
     call: CallNo,
     ticket: u64,
-) -> Result<Look, Memory>
+) -> Result<AskState, Memory>
     ensures looks { IfOk result (λ look. LooksFor key.now ticket reader.old reader.new look) }
     ensures grown { IsGrown key.now reader.old reader.new }
     ensures left { OnErr result (IsLeft call held.new) }
@@ -179,7 +179,7 @@ fn turn<F: Completion + Copy + Drop, P: Places, R: Wait>(
     key: &Key,
     call: CallNo,
     ticket: u64,
-) -> Result<Look, Memory>
+) -> Result<AskState, Memory>
     ensures looks { IfOk result (λ look. LooksFor key.now ticket reader.old reader.new look) }
     ensures grown { IsGrown key.now reader.old reader.new }
 {
@@ -203,9 +203,9 @@ fn wait<F: Completion + Copy + Drop, P: Places, R: Wait>(
     for looked in 0..TURNS {
         let steps = shards.steps_at(shard);
         match turn(rt, shards, reader, key, call, ticket)? {
-            Look::Told(answer) => return Ok(Some(answer)),
-            Look::Waits => wait_for_step(rt, shards, shard, steps, looked),
-            Look::Gone => return Err(Memory),
+            AskState::Told(answer) => return Ok(Some(answer)),
+            AskState::Waits => wait_for_step(rt, shards, shard, steps, looked),
+            AskState::Gone => return Err(Memory),
         }
     }
     Ok(None)

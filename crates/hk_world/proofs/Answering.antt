@@ -19,7 +19,7 @@ use Rattle.hk_node.specs.Node.{NodeState}
 use Rattle.hk_node.specs.Stepped.{Stepped, replies_of}
 use Rattle.hk_node.specs.Steps.{node_step}
 use Rattle.hk_node.specs.Outs.{IsOutOf}
-use Rattle.hk_node.specs.Report.{given_back}
+use Rattle.hk_node.specs.Report.{rolled_back}
 use Rattle.hk_world.specs.declared.process.Process.{Process}
 use Rattle.hk_world.specs.declared.shown.Shown.{Shown}
 use Rattle.hk_world.specs.declared.refused.Refused.{Refused}
@@ -67,8 +67,8 @@ stays w id p node entries letters found same put sent =
     let back : entries ≡ w.processes = put ∙ ap (λ (n : NodeState). set_value (is_at (by_number id)) w.processes (process_with p.crashed n)) same ∙ set_value_same (is_at (by_number id)) w.processes p found in
     ap (λ (es : Processes). world_with w es letters w.calls) back ∙ ap (λ (ls : List Letter). world_with w w.processes ls w.calls) sent
 
-pub taken_back : (out : NodeOut) (old : NodeState) (stepped : Stepped) (after node : NodeState) → IsOutOf out old stepped → after ≡ stepped.node → node ≡ given_back out.report.rows out.beside after → node ≡ old
-taken_back out old stepped after node told made undone = undone ∙ ap (λ (n : NodeState). given_back out.report.rows out.beside n) made ∙ told.undone
+pub taken_back : (out : NodeOut) (old : NodeState) (stepped : Stepped) (after node : NodeState) → IsOutOf out old stepped → after ≡ stepped.node → node ≡ rolled_back out.report.rows out.undo after → node ≡ old
+taken_back out old stepped after node told made undone = undone ∙ ap (λ (n : NodeState). rolled_back out.report.rows out.undo n) made ∙ told.undone
 
 -- ---- an accepted step
 abbrev shown_with : Option CallNo → NodeId → List Letter → NodeState → Option ℕ → List Letter → List Reply → Report → Shown

@@ -68,10 +68,10 @@ fn is_of(proposer: &Proposer, epoch: u64) -> bool
 }
 
 // The epoch of a view that is held in place of another one.
-fn epoch_learned(former: &Option<View>, epoch: u64) -> Option<u64>
-    ensures { result ≡ option_map (λ _view. epoch) former.now }
+fn epoch_learned(prior: &Option<View>, epoch: u64) -> Option<u64>
+    ensures { result ≡ option_map (λ _view. epoch) prior.now }
 {
-    match former {
+    match prior {
         Some(_) => Some(epoch),
         None => None,
     }
@@ -89,13 +89,13 @@ impl Manager {
         ensures made { IsMadeOf result self.old self.new (sends (with_instance self.old epoch instance) letters) }
         ensures replaced { TellsReplaced result self.old self.new }
     {
-        let former = self.put_instance(epoch, instance)?;
+        let prior = self.put_instance(epoch, instance)?;
         Ok(ManagerOut {
             letters,
             chosen: None,
             replaced: Replaced::Instance {
                 epoch,
-                instance: former,
+                instance: prior,
             },
         })
     }

@@ -4,7 +4,7 @@ ghost use Rattle.std.specs.Prelude.{◌≡◌, Some, None, IsSome, IfOk, OnOk, O
 ghost use Rattle.hk_base.specs.View.{IsView};
 ghost use Rattle.hk_manager.specs.Manager.{instance_at, with_instance};
 ghost use Rattle.hk_manager.specs.Sound.{IsInstance, IsProposal};
-ghost use Rattle.hk_manager.specs.Undone.{known_of, instance_given_back};
+ghost use Rattle.hk_manager.specs.Undone.{known_of, instance_rolled_back};
 
 use super::Manager;
 use crate::instance::Instance;
@@ -34,18 +34,18 @@ impl Manager {
         requires { IsInstance instance }
         ensures ok { OnOk result (self.new ≡ with_instance self.old epoch instance) }
         ensures there { OnOk result (IsSome (known_of epoch self.new.instances)) }
-        ensures former { IfOk result (λ former. instance_given_back epoch former self.new.instances ≡ self.old.instances) }
+        ensures prior { IfOk result (λ prior. instance_rolled_back epoch prior self.new.instances ≡ self.old.instances) }
         ensures err { OnErr result (self.new ≡ self.old) }
     {
-        let former = self.instances.insert(epoch, instance)?;
-        Ok(former)
+        let prior = self.instances.insert(epoch, instance)?;
+        Ok(prior)
     }
 
     /// Puts its latest proposal. It gives the one before, if there was one.
     pub(super) fn put_proposal(&mut self, proposer: Proposer) -> Option<Proposer>
         requires { IsProposal self.old.id self.old.managers proposer }
         ensures put { self.new ≡ record self.old { proposal = Some proposer } }
-        ensures former { result ≡ self.old.proposal }
+        ensures prior { result ≡ self.old.proposal }
     {
         self.proposal.replace(proposer)
     }
@@ -54,7 +54,7 @@ impl Manager {
     pub(super) fn learn(&mut self, view: View) -> Option<View>
         requires { IsView view }
         ensures held { self.new ≡ record self.old { held = (if nat_lt self.old.held.epoch view.epoch then view else self.old.held) } }
-        ensures former { result ≡ (if nat_lt self.old.held.epoch view.epoch then Some self.old.held else None) }
+        ensures prior { result ≡ (if nat_lt self.old.held.epoch view.epoch then Some self.old.held else None) }
     {
         if view.epoch <= self.held.epoch {
             return None;

@@ -42,10 +42,10 @@ impl Manager {
         let view = view.copy(alloc)?;
         let epoch = view.epoch;
         match self.learn(view) {
-            Some(former) => Ok(ManagerOut {
+            Some(prior) => Ok(ManagerOut {
                 letters: Letters::new(alloc),
                 chosen: Some(epoch),
-                replaced: Replaced::Held(former),
+                replaced: Replaced::Held(prior),
             }),
             None => Ok(idle(alloc)),
         }

@@ -21,12 +21,12 @@ impl Manager {
         ensures made { made self.new result ≡ ticks self.old now }
         ensures replaced { HasReplaced result.replaced self.old self.new }
     {
-        let former = self.clock;
+        let prior = self.clock;
         self.clock = self.clock.max(now);
         ManagerOut {
             letters: Letters::new(alloc),
             chosen: None,
-            replaced: Replaced::Clock(former),
+            replaced: Replaced::Clock(prior),
         }
     }
 

@@ -16,7 +16,7 @@ use super::Node;
 use crate::decide::{Decision, decide};
 use crate::letters::post_sent;
 use crate::out::NodeOut;
-use crate::report::Beside;
+use crate::report::Undo;
 use hk_base::{
     Answer, CallNo, Content, Key, Kind, Letters, Memory, Op, Replies, Reply, Stamp, State, Why,
 };
@@ -118,7 +118,7 @@ impl Node {
         let mut letters = Letters::new(alloc);
         let out = row.resend();
         post_sent(&mut letters, self.id, view, key, row, &out.send)?;
-        Ok(self.tells(alloc, letters, Replies::new(alloc), Beside::Nothing))
+        Ok(self.tells(alloc, letters, Replies::new(alloc), Undo::Nothing))
     }
 
     // Replays a row.

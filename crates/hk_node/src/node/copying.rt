@@ -9,7 +9,7 @@ ghost use Rattle.hk_node.specs.Outs.{IsOutOf};
 use super::Node;
 use crate::letters::post;
 use crate::out::NodeOut;
-use crate::report::Beside;
+use crate::report::Undo;
 use hk_base::{Body, Key, Letters, Memory, NodeId, Replies};
 use hk_copy::batch;
 use std::alloc::Global;
@@ -38,7 +38,7 @@ impl Node {
         };
         let mut letters = Letters::new(alloc);
         post(&mut letters, self.id, view, to, body)?;
-        Ok(self.tells(alloc, letters, Replies::new(alloc), Beside::Nothing))
+        Ok(self.tells(alloc, letters, Replies::new(alloc), Undo::Nothing))
     }
 
     /// Asks another member for the rows behind the last one that was copied. A ready node does not.

@@ -12,7 +12,7 @@ use crate::give::put_row;
 use crate::letters::{post_sent, replies};
 use crate::open::list_row;
 use crate::out::NodeOut;
-use crate::report::{Beside, FormerRows, Report};
+use crate::report::{PriorRows, Report, Undo};
 use hk_base::{Answer, CallNo, Key, Letters, Memory, Replies, Reply};
 use hk_key::{Out, Row};
 use std::alloc::Global;
@@ -24,13 +24,13 @@ impl Node {
         alloc: Global,
         letters: Letters,
         replies: Replies,
-        beside: Beside,
+        undo: Undo,
     ) -> NodeOut
         ensures letters { result.letters ≡ letters }
         ensures replies { result.replies ≡ replies }
         ensures installed { result.installed ≡ None }
         ensures report { result.report ≡ rows_report self.now [] }
-        ensures beside { result.beside ≡ beside }
+        ensures undo { result.undo ≡ undo }
         ensures node { IsNode self.now }
     {
         NodeOut {
@@ -40,29 +40,29 @@ impl Node {
             report: Report {
                 epoch: epoch_in(&self.view),
                 readied: false,
-                rows: FormerRows::new(alloc),
+                rows: PriorRows::new(alloc),
             },
-            beside,
+            undo,
         }
     }
 
     /// Something beside rows is replaced, or nothing, and nothing is sent or answered. It takes no memory.
-    pub(super) fn replaces(&self, alloc: Global, beside: Beside) -> NodeOut
+    pub(super) fn replaces(&self, alloc: Global, undo: Undo) -> NodeOut
         ensures letters { result.letters ≡ [] }
         ensures replies { result.replies ≡ [] }
         ensures installed { result.installed ≡ None }
         ensures report { result.report ≡ rows_report self.now [] }
-        ensures beside { result.beside ≡ beside }
+        ensures undo { result.undo ≡ undo }
         ensures node { IsNode self.now }
     {
-        self.tells(alloc, Letters::new(alloc), Replies::new(alloc), beside)
+        self.tells(alloc, Letters::new(alloc), Replies::new(alloc), undo)
     }
 
     /// Nothing happens. It takes no memory.
     pub(super) fn idle(&self, alloc: Global) -> NodeOut
         ensures { IsOutOf result self.now (idle self.now) }
     {
-        self.replaces(alloc, Beside::Nothing)
+        self.replaces(alloc, Undo::Nothing)
     }
 
     /// A call is answered at once, and nothing changes.
@@ -77,7 +77,7 @@ impl Node {
     {
         let mut told = Replies::new(alloc);
         told.push(Reply { call, answer })?;
-        Ok(self.tells(alloc, Letters::new(alloc), told, Beside::Nothing))
+        Ok(self.tells(alloc, Letters::new(alloc), told, Undo::Nothing))
     }
 
     /// One row made a step: its letters and its reply are made, and last it is put in its place.
@@ -113,7 +113,7 @@ impl Node {
                 readied: false,
                 rows,
             },
-            beside: Beside::Nothing,
+            undo: Undo::Nothing,
         })
     }
 }

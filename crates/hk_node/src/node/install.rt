@@ -12,7 +12,7 @@ use crate::give::give_rows_back;
 use crate::heard::share;
 use crate::open::mend;
 use crate::out::NodeOut;
-use crate::report::{Beside, Report};
+use crate::report::{Report, Undo};
 use crate::viewed::view_rows;
 use hk_base::{Memory, Sequence, View};
 use std::alloc::Global;
@@ -55,9 +55,9 @@ impl Node {
             report: Report {
                 epoch,
                 readied: false,
-                rows: viewed.former,
+                rows: viewed.prior,
             },
-            beside: Beside::View {
+            undo: Undo::View {
                 view: view_before,
                 activated: activated_before,
             },

@@ -15,7 +15,7 @@ ghost use Rattle.hk_node.specs.Outs.{IsOutOf};
 use super::Node;
 use crate::heard::{has_majority, is_greatest, raised};
 use crate::out::NodeOut;
-use crate::report::Beside;
+use crate::report::Undo;
 use hk_base::{Actor, Body, Letter, Letters, Memory, Replies, Sequence, View};
 use hk_lease::node_end;
 use std::alloc::Global;
@@ -50,11 +50,11 @@ impl Node {
         let granted = self.end_by(&ends);
         let granted_before = mem::replace(&mut self.granted, granted);
         let ends_before = mem::replace(&mut self.ends, ends);
-        let beside = Beside::Granted {
+        let undo = Undo::Granted {
             granted: granted_before,
             ends: ends_before,
         };
-        Ok(self.replaces(alloc, beside))
+        Ok(self.replaces(alloc, undo))
     }
 
     // So far no more than the ACTIVATEs change.
@@ -64,7 +64,7 @@ impl Node {
         ensures out { IsOutOf result self.old (idle (record self.old { activated = activated })) }
     {
         let before = mem::replace(&mut self.activated, activated);
-        self.replaces(alloc, Beside::Activated(before))
+        self.replaces(alloc, Undo::Activated(before))
     }
 
     // A manager activated a view.
@@ -164,6 +164,6 @@ impl Node {
         }
         let mut letters = Letters::new(alloc);
         letters.push(self.lease_ask(manager))?;
-        Ok(self.tells(alloc, letters, Replies::new(alloc), Beside::Nothing))
+        Ok(self.tells(alloc, letters, Replies::new(alloc), Undo::Nothing))
     }
 }

@@ -10,7 +10,7 @@ ghost use Rattle.hk_copy.specs.Batches.{key_cmp, last_key};
 ghost use Rattle.hk_node.specs.Rows.{find_row, put_row};
 ghost use Rattle.hk_node.specs.Node.{is_other};
 ghost use Rattle.hk_node.specs.Copies.{is_next, takes_copy};
-ghost use Rattle.hk_node.specs.Copying.{IsQuiet, IsMerge, change_of, put_change, row_now, put_rows, former_of};
+ghost use Rattle.hk_node.specs.Copying.{IsQuiet, IsMerge, change_of, put_change, row_now, put_rows, prior_of};
 ghost use Rattle.hk_node.specs.Outs.{IsOutOf};
 
 use super::Node;
@@ -18,7 +18,7 @@ use super::copying::share_key;
 use crate::give::{give_rows_back, swap_row};
 use crate::open::list_rows;
 use crate::out::NodeOut;
-use crate::report::{Beside, Former, FormerRows, Report};
+use crate::report::{PriorRow, PriorRows, Report, Undo};
 use hk_base::{CopyItem, CopyItems, Key, Letters, Memory, NodeId, Replies};
 use hk_key::Row;
 use std::alloc::Global;
@@ -113,22 +113,22 @@ fn merge(
     Ok(changes)
 }
 
-// Puts a row in its place. What it took the place of comes behind the former rows.
+// Puts a row in its place. What it took the place of comes behind the prior rows.
 fn put_next(
     rows: &mut BTreeMap<Key, Row>,
-    former: &mut Vec<Former>,
+    prior: &mut Vec<PriorRow>,
     key: Key,
     row: Row,
 ) -> Result<(), Memory>
     ensures put { OnOk result (rows.new.entries ≡ put_row key row rows.old.entries) }
-    ensures former { OnOk result (former.new.items ≡ former.old.items ++ record { key = key; row = find_row key rows.old.entries } ∷ []) }
+    ensures prior { OnOk result (prior.new.items ≡ prior.old.items ++ record { key = key; row = find_row key rows.old.entries } ∷ []) }
     ensures stay { OnErr result (rows.new.entries ≡ rows.old.entries) }
-    ensures kept { OnErr result (former.new.items ≡ former.old.items) }
+    ensures kept { OnErr result (prior.new.items ≡ prior.old.items) }
 {
-    former.reserve(1)?;
+    prior.reserve(1)?;
     if rows.contains_key(&key) {
         let old = swap_row(rows, &key, row);
-        former.push_reserved(Former {
+        prior.push_reserved(PriorRow {
             key,
             row: Some(old),
         });
@@ -136,7 +136,7 @@ fn put_next(
     }
     let name = key.share()?;
     rows.insert(name, row)?;
-    former.push_reserved(Former { key, row: None });
+    prior.push_reserved(PriorRow { key, row: None });
     Ok(())
 }
 
@@ -145,22 +145,22 @@ fn put_all(
     rows: &mut BTreeMap<Key, Row>,
     alloc: Global,
     changes: BTreeMap<Key, Row>,
-) -> Result<Vec<Former>, Memory>
+) -> Result<Vec<PriorRow>, Memory>
     requires ordered { IsStrictlySortedBy key_cmp (keys_of rows.old.entries) }
     requires rising { IsStrictlySortedBy key_cmp (keys_of changes.entries) }
     ensures put { OnOk result (rows.new.entries ≡ put_rows changes.entries rows.old.entries) }
-    ensures former { IfOk result (λ former. former.items ≡ former_of changes.entries rows.old.entries) }
+    ensures prior { IfOk result (λ prior. prior.items ≡ prior_of changes.entries rows.old.entries) }
     ensures err { OnErr result (rows.new.entries ≡ rows.old.entries) }
 {
     let mut changes = changes;
-    let mut former = Vec::new(alloc);
+    let mut prior = Vec::new(alloc);
     while let Some((key, row)) = changes.pop_first() {
-        if let Err(fault) = put_next(rows, &mut former, key, row) {
-            give_rows_back(rows, former);
+        if let Err(fault) = put_next(rows, &mut prior, key, row) {
+            give_rows_back(rows, prior);
             return Err(fault);
         }
     }
-    Ok(former)
+    Ok(prior)
 }
 
 impl Node {
@@ -189,7 +189,7 @@ impl Node {
         let next = next_cursor(items, &self.cursor)?;
         let changes = merge(alloc, &self.rows, items)?;
         list_rows(&mut self.index, &changes)?;
-        let former = put_all(&mut self.rows, alloc, changes)?;
+        let prior = put_all(&mut self.rows, alloc, changes)?;
         let cursor = mem::replace(&mut self.cursor, next);
         self.ready = done;
         Ok(NodeOut {
@@ -199,9 +199,9 @@ impl Node {
             report: Report {
                 epoch,
                 readied: done,
-                rows: FormerRows::from_vec(former),
+                rows: PriorRows::from_vec(prior),
             },
-            beside: Beside::Cursor(cursor),
+            undo: Undo::Cursor(cursor),
         })
     }
 }

@@ -9,7 +9,7 @@ ghost use Rattle.hk_node.specs.Outs.{IsOutOf};
 use super::Node;
 use crate::event::NodeEvent;
 use crate::out::NodeOut;
-use crate::report::Beside;
+use crate::report::Undo;
 use hk_base::Memory;
 use std::alloc::Global;
 
@@ -20,7 +20,7 @@ impl Node {
         ensures node { self.new ≡ (ticks self.old now).node }
         ensures out { IsOutOf result self.old (ticks self.old now) }
     {
-        let out = self.replaces(alloc, Beside::Clock(self.clock));
+        let out = self.replaces(alloc, Undo::Clock(self.clock));
         self.clock = self.clock.max(now);
         out
     }
@@ -31,7 +31,7 @@ impl Node {
         ensures node { self.new ≡ (grants self.old end).node }
         ensures out { IsOutOf result self.old (grants self.old end) }
     {
-        let out = self.replaces(alloc, Beside::Lease(self.granted));
+        let out = self.replaces(alloc, Undo::Lease(self.granted));
         self.granted = self.granted.max(end);
         out
     }

@@ -2,7 +2,7 @@
 
 ghost use Rattle.std.specs.Prelude.{◌≡◌, ◌++◌, IfOk, OnOk, OnErr};
 ghost use Rattle.hk_manager.specs.Sound.{IsManager};
-ghost use Rattle.hk_manager.specs.Undone.{given_back, IsThere};
+ghost use Rattle.hk_manager.specs.Undone.{rolled_back, IsThere};
 ghost use Rattle.hk_world.specs.World.{last_view};
 ghost use Rattle.hk_world.specs.Steps.{held_of, learned};
 ghost use Rattle.hk_world.specs.Posted.{manager_posted};
@@ -87,12 +87,12 @@ pub(super) fn post_of_manager(
     out: ManagerOut,
 ) -> Result<Shown, Memory>
     requires there { IsThere out.replaced manager.old }
-    requires before { IsManager (given_back out.replaced manager.old) }
+    requires before { IsManager (rolled_back out.replaced manager.old) }
     ensures manager { OnOk result (manager.new ≡ manager.old) }
     ensures letters { OnOk result (sent.new.items ≡ sent.old.items ++ out.letters) }
     ensures views { OnOk result (views.new.items ≡ learned views.old.items manager.old.held) }
     ensures shown { IfOk result (λ shown. shown ≡ manager_posted sent.old.items number manager.old out) }
-    ensures undone { OnErr result (manager.new ≡ given_back out.replaced manager.old) }
+    ensures undone { OnErr result (manager.new ≡ rolled_back out.replaced manager.old) }
     ensures unsent { OnErr result (sent.new.items ≡ sent.old.items) }
     ensures unlearned { OnErr result (views.new.items ≡ views.old.items) }
 {

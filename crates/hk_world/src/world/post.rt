@@ -7,7 +7,7 @@ ghost use Rattle.std.specs.List.Sorted.{IsStrictlySortedBy};
 ghost use Rattle.hk_copy.specs.Batches.{key_cmp};
 ghost use Rattle.hk_node.specs.Rows.{find_row};
 ghost use Rattle.hk_node.specs.Sound.{IsNode};
-ghost use Rattle.hk_node.specs.Report.{given_back};
+ghost use Rattle.hk_node.specs.Report.{rolled_back};
 ghost use Rattle.hk_world.specs.Steps.{nothing, first_number, view_of};
 ghost use Rattle.hk_world.specs.Posted.{posted};
 
@@ -131,11 +131,11 @@ pub(crate) fn post(
 ) -> Result<Shown, Memory>
     requires rising { IsStrictlySortedBy key_cmp (map (λ f. f.key) out.report.rows) }
     requires there { AllByRecursion (λ f. IsSome (find_row f.key node.old.rows)) out.report.rows }
-    requires node { IsNode (given_back out.report.rows out.beside node.old) }
+    requires node { IsNode (rolled_back out.report.rows out.undo node.old) }
     ensures node { OnOk result (node.new ≡ node.old) }
     ensures letters { OnOk result (letters.new.items ≡ letters.old.items ++ out.letters) }
     ensures shown { IfOk result (λ shown. shown ≡ posted letters.old.items id node.old out call) }
-    ensures undone { OnErr result (node.new ≡ given_back out.report.rows out.beside node.old) }
+    ensures undone { OnErr result (node.new ≡ rolled_back out.report.rows out.undo node.old) }
     ensures unsent { OnErr result (letters.new.items ≡ letters.old.items) }
 {
     let first_letter = first_number(letters, &out.letters);
@@ -154,7 +154,7 @@ pub(crate) fn post(
             }),
         }),
         Err(error) => {
-            node.undo(out.report, out.beside);
+            node.undo(out.report, out.undo);
             Err(error)
         }
     }

@@ -1,4 +1,4 @@
-use Rattle.hk_due.proofs.Followed.{following_keeps, open_keys_stay}
+use Rattle.hk_due.proofs.Following.{following_keeps, open_keys_stay}
 use Rattle.hk_due.proofs.laws.steps_keep_the_open_keys.Goals as goal
 
 pub returns-clause-kept : goal.returns-clause-kept

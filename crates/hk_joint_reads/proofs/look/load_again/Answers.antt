@@ -1,7 +1,7 @@
 use Rattle.std.proofs.Common.{◌∙◌, ◌∷◌, ◌+◌, List, ℕ, drop, sym, ap, subst, arith}
 use Rattle.std.proofs.Math.ListN.{drop_of_length-le}
 use Rattle.std.proofs.lemmas.List.{drop_more}
-use Rattle.hk_joint_reads.specs.declared.look.Look.{Look}
+use Rattle.hk_joint_reads.specs.declared.look.KeyLoads.{KeyLoads}
 use Rattle.hk_joint_reads.proofs.Loading.{loads_names}
 use Rattle.hk_joint_reads.proofs.Rounds.{SecondRound, second_more, second_ends}
 use Rattle.hk_joint_reads.proofs.look.load_again.Goals as goal
@@ -19,7 +19,7 @@ loop-at-preserved g c =
     let long = c.requires in
     record {
       same = loads_names l.reader c.look_again.new.reader _ c.look_again.ensures.loads ∙ l.invariant.same;
-      round = subst (λ (k : List Look). SecondRound c.args.reader.now c.look_again.new.reader c.args.keys.now (drop (l.at + 1) c.args.keys.now) c.args.first.now (drop (l.at + 1) c.args.first.now) k)
+      round = subst (λ (k : List KeyLoads). SecondRound c.args.reader.now c.look_again.new.reader c.args.keys.now (drop (l.at + 1) c.args.keys.now) c.args.first.now (drop (l.at + 1) c.args.first.now) k)
           (sym c.in_ok-push.ensures.items)
           (second_more c.args.reader.now l.reader c.look_again.new.reader c.args.keys.now (drop l.at c.args.keys.now) (drop (l.at + 1) c.args.keys.now) c.args.first.now (drop l.at c.args.first.now)
           (drop (l.at + 1) c.args.first.now) c.index-keys-at.result _ l.looks.items _ l.invariant.round

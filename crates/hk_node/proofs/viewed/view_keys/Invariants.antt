@@ -12,4 +12,4 @@ invariant-loop-key l =
     (l.viewed.letters ++ flat_map (at_key (view_letters l.id l.view) l.rows.entries) l.key-iterator ≡ flat_map (at_key (view_letters l.id l.view) l.rows.entries) l.keys.keys) ×
     (l.viewed.replies ++ map (λ t. t.1) (flat_map (at_key (view_told l.id l.view) l.rows.entries) l.key-iterator) ≡ map (λ t. t.1) (flat_map (at_key (view_told l.id l.view) l.rows.entries) l.keys.keys)) ×
     (l.viewed.fresh ++ flat_map (at_key (view_new l.id l.view) l.rows.entries) l.key-iterator ≡ flat_map (at_key (view_new l.id l.view) l.rows.entries) l.keys.keys) ×
-    (l.viewed.former ++ flat_map (at_key (view_old l.id l.view) l.rows.entries) l.key-iterator ≡ flat_map (at_key (view_old l.id l.view) l.rows.entries) l.keys.keys)
+    (l.viewed.prior ++ flat_map (at_key (view_old l.id l.view) l.rows.entries) l.key-iterator ≡ flat_map (at_key (view_old l.id l.view) l.rows.entries) l.keys.keys)

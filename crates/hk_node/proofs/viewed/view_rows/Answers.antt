@@ -14,6 +14,6 @@ pub returns-clause-fresh : goal.returns-clause-fresh
 returns-clause-fresh c = if_as c.view_keys.result (λ v. v.fresh) _ _
     (new_walk c.args.id c.args.view.now c.args.keys.now.keys c.args.rows.now.entries c.view_keys.ensures.ordered c.requires.ordered c.requires.has c.requires.rest) c.view_keys.ensures.fresh
 
-pub returns-clause-former : goal.returns-clause-former
-returns-clause-former c = if_as c.view_keys.result (λ v. v.former) _ _
-    (old_walk c.args.id c.args.view.now c.args.keys.now.keys c.args.rows.now.entries c.view_keys.ensures.ordered c.requires.ordered c.requires.has c.requires.rest) c.view_keys.ensures.former
+pub returns-clause-prior : goal.returns-clause-prior
+returns-clause-prior c = if_as c.view_keys.result (λ v. v.prior) _ _
+    (old_walk c.args.id c.args.view.now c.args.keys.now.keys c.args.rows.now.entries c.view_keys.ensures.ordered c.requires.ordered c.requires.has c.requires.rest) c.view_keys.ensures.prior

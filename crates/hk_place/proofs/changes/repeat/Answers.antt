@@ -1,6 +1,6 @@
 use Rattle.std.proofs.Common.{◌≡◌, ℕ, List, ◌++◌, sym, ap, ◌∙◌}
 use Rattle.hk_node.specs.declared.report.Report.{Report}
-use Rattle.hk_node.specs.declared.report.Former.{Former}
+use Rattle.hk_node.specs.declared.report.PriorRow.{PriorRow}
 use Rattle.hk_node.specs.Report.{changed_rows}
 use Rattle.hk_journal.specs.Journal.{after}
 use Rattle.hk_place.specs.Past.{tickets_in}

@@ -1,5 +1,5 @@
 use Rattle.std.proofs.Common.{◌≡◌, ◌++◌, drop}
 use Rattle.hk_shard.proofs.replaced.copy_rows.Given as goal
 
-abbrev pub invariant-loop-former : goal.invariant-loop-former
-invariant-loop-former l = l.same.items ++ drop l.former-index l.rows ≡ l.rows
+abbrev pub invariant-loop-prior : goal.invariant-loop-prior
+invariant-loop-prior l = l.same.items ++ drop l.prior-index l.rows ≡ l.rows

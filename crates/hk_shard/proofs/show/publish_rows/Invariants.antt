@@ -7,6 +7,6 @@ use Rattle.hk_shard.proofs.show.publish_rows.Given as goal
 
 abbrev pub invariant-loop-changed : goal.invariant-loop-changed
 invariant-loop-changed g l =
-    MayBePublished l.writer (publications l.part.rows l.ticket l.call (drop l.changed-index l.former))
-    × (with_all l.writer (publications l.part.rows l.ticket l.call (drop l.changed-index l.former)) ≡ with_all l.fn.writer (publications l.part.rows l.ticket l.call l.former))
-    × AllByRecursion (λ f. IsSome (find_row f.key l.part.rows)) (drop l.changed-index l.former)
+    MayBePublished l.writer (publications l.part.rows l.ticket l.call (drop l.changed-index l.prior))
+    × (with_all l.writer (publications l.part.rows l.ticket l.call (drop l.changed-index l.prior)) ≡ with_all l.fn.writer (publications l.part.rows l.ticket l.call l.prior))
+    × AllByRecursion (λ f. IsSome (find_row f.key l.part.rows)) (drop l.changed-index l.prior)

@@ -7,4 +7,4 @@ pub returns : goal.returns
 returns c = out_of_still c.args.self.now (answers c.args.self.now c.args.key.now c.args.call c.args.answer) c.tells.result c.tells.ensures.node refl
     (c.tells.ensures.letters ∙ c.new.ensures)
     (c.tells.ensures.replies ∙ c.in_ok-push.ensures.ok ∙ ap (λ l. l ++ record { call = c.args.call; answer = c.args.answer } ∷ []) c.new-told.ensures)
-    c.tells.ensures.installed c.tells.ensures.beside c.tells.ensures.report
+    c.tells.ensures.installed c.tells.ensures.undo c.tells.ensures.report

@@ -2,7 +2,7 @@ use Rattle.std.proofs.Common.{rules, ◌≡◌, ◌∙◌, ◌&&◌, sym, ap, su
 use Rattle.hk_node.specs.Node.{NodeState, epoch_of, is_member}
 use Rattle.hk_node.specs.Steps.{installs}
 use Rattle.hk_node.specs.declared.out.NodeOut.{NodeOut}
-use Rattle.hk_node.specs.declared.report.Beside.TheVariants.{View as Viewed}
+use Rattle.hk_node.specs.declared.report.Undo.TheVariants.{View as Viewed}
 use Rattle.hk_node.specs.Outs.{IsOutOf}
 use Rattle.std.specs.List.{flat_map}
 use Rattle.hk_node.specs.Viewed.{view_new}
@@ -50,12 +50,12 @@ returns-clause-out c = let told : NodeOut = record {
   letters = c.in_ok-viewed.viewed.letters;
   replies = c.in_ok-viewed.viewed.replies;
   installed = Some c.args.view.now.epoch;
-  report = record { epoch = c.epoch-epoch.result; readied = false; rows = c.in_ok-viewed.viewed.former };
-  beside = Viewed c.replace-view_before.result c.replace-activated_before.result;
+  report = record { epoch = c.epoch-epoch.result; readied = false; rows = c.in_ok-viewed.viewed.prior };
+  undo = Viewed c.replace-view_before.result c.replace-activated_before.result;
 } in
     subst (λ (n : NodeState). IsOutOf told n (installs (record n { activated = c.args.activated }) c.args.view.now)) c.self.view_is
     (install_out _ c.args.view.now c.self.invariant.node c.requires.view
     (subst (λ (n : NodeState). (nat_lt (epoch_of n) c.args.view.now.epoch && is_member n.id c.args.view.now.members) ≡ true) (sym c.self.view_is) c.requires.later)
     c.args.activated (subst (λ (n : NodeState). length c.args.activated ≡ n.managers) (sym c.self.view_is) c.requires.activated)
-    told c.in_ok-viewed.viewed.former c.in_ok-viewed.ensures.letters c.in_ok-viewed.ensures.replies refl (beside_is _ _ _ _ c.replace-view_before.ensures.value c.replace-activated_before.ensures.value)
-    (report_as _ c.args.self.now c.epoch-epoch.result false c.in_ok-viewed.viewed.former _ c.self.view_is c.epoch-epoch.ensures refl) c.in_ok-viewed.ensures.former)
+    told c.in_ok-viewed.viewed.prior c.in_ok-viewed.ensures.letters c.in_ok-viewed.ensures.replies refl (beside_is _ _ _ _ c.replace-view_before.ensures.value c.replace-activated_before.ensures.value)
+    (report_as _ c.args.self.now c.epoch-epoch.result false c.in_ok-viewed.viewed.prior _ c.self.view_is c.epoch-epoch.ensures refl) c.in_ok-viewed.ensures.prior)

@@ -1,6 +1,6 @@
 use Rattle.std.proofs.Common.{◌≡◌, ◌∙◌, true, false, rules, refl, sym, subst, ap}
 use Rattle.hk_node.specs.Copies.{is_next}
-use Rattle.hk_node.specs.declared.report.Beside.TheVariants.{Cursor}
+use Rattle.hk_node.specs.declared.report.Undo.TheVariants.{Cursor}
 use Rattle.hk_node.proofs.Finishing.{idle_as}
 use Rattle.hk_node.proofs.Parts.{other_seen}
 use Rattle.hk_node.proofs.Merged.{quiet_rows}
@@ -28,8 +28,8 @@ invariant_of-self-2 c =
     record {
       node = taken_kept _ c.args.after.now c.args.done c.args.items.now c.in_ok-changes.changes.entries c.put_all.new.rows.entries c.replace-cursor.new.dest
           c.self.invariant.node (seen_inside _ c.args.self.now c.self.view_is (other_seen c.args.self.now c.args.from c.requires.other)) unready next c.requires.batch c.in_ok-changes.ensures
-          (c.replace-cursor.ensures.after ∙ c.in_ok-next.ensures) c.in_ok-former.ensures.put;
-      has = λ w. subst (λ (l : Rows). HasOpen c.list_rows.new.keys.keys l) (sym c.in_ok-former.ensures.put)
+          (c.replace-cursor.ensures.after ∙ c.in_ok-next.ensures) c.in_ok-prior.ensures.put;
+      has = λ w. subst (λ (l : Rows). HasOpen c.list_rows.new.keys.keys l) (sym c.in_ok-prior.ensures.put)
           (has_over c.self.inside.index.keys c.list_rows.new.keys.keys c.in_ok-changes.changes.entries c.self.inside.rows.entries c.in_ok-changes.ensures.rising
           c.list_rows.ensures.grown c.in_ok-list_rows.ensures.listed (c.self.invariant.has w));
     }
@@ -40,4 +40,4 @@ returns-clause-out c =
     let unready : c.self.inside.ready ≡ false = search rules in
     taken_told _ c.args.self.now c.args.after.now c.args.done c.args.items.now c.in_ok-changes.changes.entries _ c.self.view_is c.self.invariant.node unready next c.in_ok-changes.ensures
     c.new.ensures c.new-2.ensures refl (ap Cursor c.replace-cursor.ensures.value)
-    (report_as _ c.args.self.now c.epoch-epoch.result c.args.done c.from_vec.result _ c.self.view_is c.epoch-epoch.ensures (c.from_vec.ensures ∙ c.in_ok-former.ensures.former))
+    (report_as _ c.args.self.now c.epoch-epoch.result c.args.done c.from_vec.result _ c.self.view_is c.epoch-epoch.ensures (c.from_vec.ensures ∙ c.in_ok-prior.ensures.prior))

@@ -6,7 +6,7 @@ use Rattle.hk_world.specs.World.{WorldState}
 use Rattle.hk_world.specs.Sound.{IsWorld}
 use Rattle.hk_safety.specs.Kept.{KeptState}
 use Rattle.hk_safety.specs.Noted.{MayMake, IsMade}
-use Rattle.hk_safety.specs.Grown.{AreFormer, IsKeptAfter}
+use Rattle.hk_safety.specs.Grown.{ArePrior, IsKeptAfter}
 use Rattle.hk_safety.proofs.Making.{with_world, world_after, shown_within, is_made}
 use Rattle.hk_safety.proofs.kept.Kept.make.Goals as goal
 
@@ -22,7 +22,7 @@ keep-requires-clause-rows c =
     let old : KeptState = record { world = c.self.inside.world; keys = c.self.inside.keys.entries; calls = c.self.inside.calls.items } in
     let may : MayMake old c.args.event.now = subst (λ (k : KeptState). MayMake k c.args.event.now) (sym c.self.view_is) c.requires in
     let step = c.in-Ok.ensures in
-    subst (λ (s : Shown). AreFormer s.acted) step.2 (shown_within old.world c.args.event.now step.0 may.own may.event step.1).1
+    subst (λ (s : Shown). ArePrior s.acted) step.2 (shown_within old.world c.args.event.now step.0 may.own may.event step.1).1
 
 pub keep-requires-clause-letters : goal.keep-requires-clause-letters
 keep-requires-clause-letters c =

@@ -1,7 +1,7 @@
 use Rattle.std.proofs.Common.{◌≡◌, ◌<◌, List, sym, ap, ◌∙◌, subst}
 use Rattle.std.specs.Option.{IsSome}
 use Rattle.std.specs.List.{AllByRecursion}
-use Rattle.hk_node.specs.declared.report.Former.{Former}
+use Rattle.hk_node.specs.declared.report.PriorRow.{PriorRow}
 use Rattle.hk_node.specs.Rows.{find_row}
 use Rattle.hk_node.specs.Node.{NodeState}
 use Rattle.hk_snap.specs.Leases.{Lease, raised}
@@ -17,21 +17,21 @@ make-requires-clause-node g c = part_is_node _ c.self.invariant.0
 
 pub publish_rows-requires-clause-there : goal.publish_rows-requires-clause-there
 publish_rows-requires-clause-there g c =
-    let there = subst (λ (n : NodeState). AllByRecursion (λ (f : Former). IsSome (find_row f.key n.rows)) c.in_ok-out.out.report.rows) (sym c.in_ok-out.ensures.part)
+    let there = subst (λ (n : NodeState). AllByRecursion (λ (f : PriorRow). IsSome (find_row f.key n.rows)) c.in_ok-out.out.report.rows) (sym c.in_ok-out.ensures.part)
     c.in_ok-out.ensures.out.changed.there in
-    subst (λ (l : List Former). AllByRecursion (λ (f : Former). IsSome (find_row f.key c.make.new.part.rows)) l) (sym c.as_slice-rows.ensures) there
+    subst (λ (l : List PriorRow). AllByRecursion (λ (f : PriorRow). IsSome (find_row f.key c.make.new.part.rows)) l) (sym c.as_slice-rows.ensures) there
 
 pub publish_rows-requires-clause-next : goal.publish_rows-requires-clause-next
 publish_rows-requires-clause-next g c =
     let up : c.self.inside.last < c.args.ticket = subst (λ (s : ShardState). s.last < c.args.ticket) (sym c.self.view_is) c.requires.ticket in
-    subst (λ (l : List Former). MayBePublished c.self.inside.writer (publications c.make.new.part.rows c.args.ticket c.call_of-call.result l)) (sym c.as_slice-rows.ensures)
+    subst (λ (l : List PriorRow). MayBePublished c.self.inside.writer (publications c.make.new.part.rows c.args.ticket c.call_of-call.result l)) (sym c.as_slice-rows.ensures)
     (next_by _ c.args.ticket c.args.event c.in_ok-out.out c.make.new.part c.call_of-call.result c.self.invariant.0 up c.requires.event c.in_ok-out.ensures.out c.in_ok-out.ensures.part)
 
 pub invariant_of-self-2 : goal.invariant_of-self-2
 invariant_of-self-2 g c =
     let up : c.self.inside.last < c.args.ticket = subst (λ (s : ShardState). s.last < c.args.ticket) (sym c.self.view_is) c.requires.ticket in
     let told = c.in_ok-out.ensures in
-    let ends = c.publish_rows.ensures ∙ ap (λ (l : List Former). with_all c.self.inside.writer (publications c.make.new.part.rows c.args.ticket c.call_of-call.result l)) c.as_slice-rows.ensures in
+    let ends = c.publish_rows.ensures ∙ ap (λ (l : List PriorRow). with_all c.self.inside.writer (publications c.make.new.part.rows c.args.ticket c.call_of-call.result l)) c.as_slice-rows.ensures in
     let lease = c.raise.ensures ∙ (λ i. raised c.self.inside.keeper (c.lease_end.ensures i) (c.now.ensures i)) in
     let applied = applied_by _ c.args.ticket c.args.event c.in_ok-out.out c.make.new.part c.make.new.journal c.call_of-call.result c.publish_rows.new.writer c.raise.new.self
     c.self.invariant.0 c.requires.event told.out told.part told.journal c.call_of-call.ensures ends lease in
@@ -46,7 +46,7 @@ invariant_of-self-2 g c =
 pub returns-clause-applied : goal.returns-clause-applied
 returns-clause-applied g c =
     let told = c.in_ok-out.ensures in
-    let ends = c.publish_rows.ensures ∙ ap (λ (l : List Former). with_all c.self.inside.writer (publications c.make.new.part.rows c.args.ticket c.call_of-call.result l)) c.as_slice-rows.ensures in
+    let ends = c.publish_rows.ensures ∙ ap (λ (l : List PriorRow). with_all c.self.inside.writer (publications c.make.new.part.rows c.args.ticket c.call_of-call.result l)) c.as_slice-rows.ensures in
     let lease = c.raise.ensures ∙ (λ i. raised c.self.inside.keeper (c.lease_end.ensures i) (c.now.ensures i)) in
     let new : ShardState = record {
       base = before_all c.self.inside.replaced.items c.self.inside.part;

@@ -1,7 +1,7 @@
 use Rattle.std.proofs.Common.{◌≡◌, Some, Ok, refl, sym, subst, ◌∙◌}
 use Rattle.std.specs.Option.{IsSome}
 use Rattle.std.specs.List.{AllByRecursion}
-use Rattle.hk_node.specs.declared.report.Former.{Former}
+use Rattle.hk_node.specs.declared.report.PriorRow.{PriorRow}
 use Rattle.hk_node.specs.Rows.{find_row}
 use Rattle.hk_node.specs.Node.{NodeState}
 use Rattle.hk_node.specs.Steps.{node_step}
@@ -49,7 +49,7 @@ post-requires c =
     let told = c.in_ok-out.ensures.out in
     record {
       rising = told.changed.rising;
-      there = subst (λ (n : NodeState). AllByRecursion (λ (f : Former). IsSome (find_row f.key n.rows)) c.in_ok-out.out.report.rows) (sym c.in_ok-out.ensures.node) told.changed.there;
+      there = subst (λ (n : NodeState). AllByRecursion (λ (f : PriorRow). IsSome (find_row f.key n.rows)) c.in_ok-out.out.report.rows) (sym c.in_ok-out.ensures.node) told.changed.there;
       node = subst IsNode (sym (taken_back c.in_ok-out.out _ _ c.step.new.self _ told c.in_ok-out.ensures.node refl)) (node_at w c.args.id c.in-Some.process.now c.self.invariant.1 found);
     }
 

@@ -23,7 +23,7 @@ use Rattle.hk_node.specs.Sound.{IsNode}
 use Rattle.hk_node.specs.Stepped.{Stepped, idle}
 use Rattle.hk_node.specs.Copies.{is_next, merged}
 use Rattle.hk_node.specs.Steps.{installed_in}
-use Rattle.hk_effects.specs.View.{key_node, row_node, has_copied, pending_stamp, letters_of, told_at, reply_item, updates_of, step_marks, Trace, view}
+use Rattle.hk_effects.specs.Projection.{key_node, row_node, has_copied, pending_stamp, letters_of, told_at, reply_item, updates_of, step_marks, Trace, project}
 use Rattle.hk_effects.specs.Own.{IsChain, IsNodeOf, IsPendingOf, IsTold, IsOwn, IsTrace, Agrees}
 use Rattle.hk_effects.proofs.Order.{same_true}
 use Rattle.hk_effects.proofs.Processes.{in_members}
@@ -36,7 +36,7 @@ use Rattle.hk_effects.proofs.Gives.{gives_step}
 use Rattle.hk_effects.proofs.Merges.{after_batch, batch_step}
 use Rattle.hk_effects.proofs.Viewed.{row-viewed, letters-viewed, told-viewed}
 use Rattle.hk_effects.proofs.Installs.{viewing, view_step}
-use Rattle.hk_effects.proofs.Lives.{IsLive, here, node_own, node_sound}
+use Rattle.hk_effects.proofs.LiveSteps.{IsLive, here, node_own, node_sound}
 use Rattle.hk_effects.proofs.Takes.{Owed, GivesOwed, TakesOwed, InstallsOwed}
 use Rattle.hk_effects.proofs.Events.{AreOwed}
 
@@ -93,9 +93,9 @@ module _ (V : ℕ → List ℕ) (st : State) (parts : Parts V st) (key : List �
       view_step V st parts key x v c row is later member middle members row.pending refl shaped (answers_kept calls row.pending (own.row key).pending) new ch4
 
 -- ---- in a world
-module _ (V : ℕ → List ℕ) (key : List ℕ) (t : Trace) (parts : Parts V (view key t)) (own : IsOwn t.world) (agrees : Agrees t.world V) (tok : IsTrace t) where
+module _ (V : ℕ → List ℕ) (key : List ℕ) (t : Trace) (parts : Parts V (project key t)) (own : IsOwn t.world) (agrees : Agrees t.world V) (tok : IsTrace t) where
   pub gives_owed : GivesOwed V key t parts own agrees tok
-  gives_owed x alive from after room inside = gives_step V (view key t) parts key x (here V key t parts own agrees tok x alive) from after room (node_sound V key t parts own agrees tok x alive)
+  gives_owed x alive from after room inside = gives_step V (project key t) parts key x (here V key t parts own agrees tok x alive) from after room (node_sound V key t parts own agrees tok x alive)
 
   -- A batch that is awaited is one that was sent, so its keys rise behind the cursor.
   takes_next : (x : NodeState) (alive : IsLive V key t parts own agrees tok x) (l : Wire) (from : NodeId) (after : Option (List ℕ)) (done : Bool) (items : List CopyItem) → In t.world.letters l → l.from ≡ A.Node from → l.epoch ≡ epoch_of x →
@@ -104,7 +104,7 @@ module _ (V : ℕ → List ℕ) (key : List ℕ) (t : Trace) (parts : Parts V (v
       let at_cursor : l.body ≡ CopyGive x.cursor done items = subst (λ (a : Option (List ℕ)). l.body ≡ CopyGive a done items) next body in
       let told_so : IsTold (CopyGive x.cursor done items) = subst IsTold at_cursor (own.letter l sent_so) in
       let some = in_some t.world.views t.world.calls x (node_own V key t parts own agrees tok x alive) own.views from inside in
-      batch_step V (view key t) parts key x (here V key t parts own agrees tok x alive) some shadow from.0 done items (node_sound V key t parts own agrees tok x alive).touched (items_rise x.cursor items told_so.0 told_so.1)
+      batch_step V (project key t) parts key x (here V key t parts own agrees tok x alive) some shadow from.0 done items (node_sound V key t parts own agrees tok x alive).touched (items_rise x.cursor items told_so.0 told_so.1)
       (λ covered. letter_sent key t.world.letters l _ sent_so (rw (at_cursor, covered, sender, epoch) (inl refl)))
 
   pub takes_owed : TakesOwed V key t parts own agrees tok
@@ -119,16 +119,16 @@ module _ (V : ℕ → List ℕ) (key : List ℕ) (t : Trace) (parts : Parts V (v
       by_test true e =
           let p = and_parts (not x.ready) (is_next after x.cursor) e in
           takes_next x alive l from after done items sent_so sender epoch inside body (not_true x.ready p.0) (next_is after x.cursor p.1)
-      by_test false e = idle_step V (view key t) parts key x (here V key t parts own agrees tok x alive)
+      by_test false e = idle_step V (project key t) parts key x (here V key t parts own agrees tok x alive)
 
   pub installs_owed : InstallsOwed V key t parts own agrees tok
   installs_owed x alive v agreed inside later =
       let in_v : In (member_numbers v.members) x.id.0 = in_members x.id v.members inside in
       let own_x = node_own V key t parts own agrees tok x alive in
       let at_x = here V key t parts own agrees tok x alive in
-      let middle = between V (view key t) parts key x at_x t.world.views t.world.calls own.views own_x agrees v agreed in_v in
+      let middle = between V (project key t) parts key x at_x t.world.views t.world.calls own.views own_x agrees v agreed in_v in
       let test : (ltb (epoch_of x) v.epoch && is_member x.id v.members) ≡ true = rw (lt-ltb (epoch_of x) v.epoch later) inside in
-      let step = installed_step V (view key t) parts key x at_x (node_sound V key t parts own agrees tok x alive) t.world.calls t.world.views own_x v later (rw (← agrees v agreed) in_v) middle (agrees v agreed) in
+      let step = installed_step V (project key t) parts key x at_x (node_sound V key t parts own agrees tok x alive) t.world.calls t.world.views own_x v later (rw (← agrees v agreed) in_v) middle (agrees v agreed) in
       subst (λ (b : Bool). Owed V key t parts own agrees tok x alive (cond b (installed_in (viewing x v) v.epoch) (idle x))) (sym test) step
 
 pub all_owed : AreOwed

@@ -14,10 +14,10 @@ use Rattle.hk_copy.specs.Batches.{key_cmp}
 use Rattle.hk_key.specs.declared.row.Row.{Row}
 use Rattle.hk_key.specs.Table.{first_row}
 use Rattle.hk_key.specs.Same.{is_same_row}
-use Rattle.hk_node.specs.declared.report.Former.{Former}
+use Rattle.hk_node.specs.declared.report.PriorRow.{PriorRow}
 use Rattle.hk_node.specs.Rows.{Rows, find_row, row_at, put_row}
-use Rattle.hk_node.specs.Report.{AreChanged, row_given_back, rows_given_back}
-use Rattle.hk_node.specs.Copying.{row_now, put_rows, former_of}
+use Rattle.hk_node.specs.Report.{AreChanged, row_rolled_back, rows_rolled_back}
+use Rattle.hk_node.specs.Copying.{row_now, put_rows, prior_of}
 use Rattle.hk_node.proofs.Order.{Key, Rising, Lt, equal_keys, gt_lt, lt_ne_back, same_key, cases_key, find_here, find_next, find-put_same, find-put_other, rising_put}
 use Rattle.hk_node.proofs.Placed.{below_first, put_undone, each_found}
 use Rattle.hk_node.proofs.Givings.{Ready, There, given_last}
@@ -87,17 +87,17 @@ put_over key row changes rows rising ordered = same_rows (put_rows (put_row key 
     (cases_key k key))
 
 -- ---- what they take the place of, given back
-pub former_undone : (changes rows : Rows) → Rising rows → rows_given_back (former_of changes rows) (put_rows changes rows) ≡ rows
-former_undone [] rows rising = refl
-former_undone (c ∷ cs) rows rising = ap (row_given_back c.0 (find_row c.0 rows)) (former_undone cs (put_row c.0 c.1 rows) (rising_put c.0 c.1 rows rising))
+pub prior_undone : (changes rows : Rows) → Rising rows → rows_rolled_back (prior_of changes rows) (put_rows changes rows) ≡ rows
+prior_undone [] rows rising = refl
+prior_undone (c ∷ cs) rows rising = ap (row_rolled_back c.0 (find_row c.0 rows)) (prior_undone cs (put_row c.0 c.1 rows) (rising_put c.0 c.1 rows rising))
     ∙ put_undone c.0 c.1 rows rising
 
-pub keys_former : (changes rows : Rows) → map (λ (f : Former). f.key) (former_of changes rows) ≡ keys_of changes
-keys_former [] rows = refl
-keys_former (c ∷ cs) rows = ap (λ l. c.0 ∷ l) (keys_former cs (put_row c.0 c.1 rows))
+pub keys_prior : (changes rows : Rows) → map (λ (f : PriorRow). f.key) (prior_of changes rows) ≡ keys_of changes
+keys_prior [] rows = refl
+keys_prior (c ∷ cs) rows = ap (λ l. c.0 ∷ l) (keys_prior cs (put_row c.0 c.1 rows))
 
 -- ---- what they take the place of is what was replaced
-abbrev pub was : Rows → Key × Row → Former
+abbrev pub was : Rows → Key × Row → PriorRow
 was rows c = record { key = c.0; row = find_row c.0 rows }
 
 was_put : (k : Key) (row : Row) (rows cs : Rows) → AllByRecursion (λ (q : Key). Lt k q) (keys_of cs) → map (was (put_row k row rows)) cs ≡ map (was rows) cs
@@ -105,9 +105,9 @@ was_put k row rows [] all = refl
 was_put k row rows (c ∷ cs) all = ap (λ (o : Option Row). record { key = c.0; row = o } ∷ map (was (put_row k row rows)) cs) (find-put_other c.0 k row rows (lt_ne_back k c.0 all.0))
     ∙ ap (λ l. was rows c ∷ l) (was_put k row rows cs all.1)
 
-former_is : (changes rows : Rows) → Rising changes → former_of changes rows ≡ map (was rows) changes
-former_is [] rows rising = refl
-former_is (c ∷ cs) rows rising = ap (λ l. was rows c ∷ l) (former_is cs (put_row c.0 c.1 rows) (sorted_tail key_cmp c.0 (keys_of cs) rising)
+prior_is : (changes rows : Rows) → Rising changes → prior_of changes rows ≡ map (was rows) changes
+prior_is [] rows rising = refl
+prior_is (c ∷ cs) rows rising = ap (λ l. was rows c ∷ l) (prior_is cs (put_row c.0 c.1 rows) (sorted_tail key_cmp c.0 (keys_of cs) rising)
     ∙ was_put c.0 c.1 rows cs (sorted_head key_cmp c.0 (keys_of cs) rising))
 
 -- a change that is there now, and differs from what was there before
@@ -122,32 +122,32 @@ each_changed changes rows (c ∷ cs) rising differ all = (
   each_changed changes rows cs rising differ all.1,
 )
 
-each_differs : (rows new cs : Rows) → AllByRecursion (Changed rows new) cs → AllByRecursion (λ (f : Former). (find_row f.key rows ≡ f.row) × (is_same_row (row_at f.key rows) (row_at f.key new) ≡ false)) (map (was rows) cs)
+each_differs : (rows new cs : Rows) → AllByRecursion (Changed rows new) cs → AllByRecursion (λ (f : PriorRow). (find_row f.key rows ≡ f.row) × (is_same_row (row_at f.key rows) (row_at f.key new) ≡ false)) (map (was rows) cs)
 each_differs rows new [] all = tt
 each_differs rows new (c ∷ cs) all = ((refl, ap (λ (o : Option Row). is_same_row (row_at c.0 rows) (unwrap_or o first_row)) all.0.0 ∙ all.0.1), each_differs rows new cs all.1)
 
-each_there : (rows new cs : Rows) → AllByRecursion (Changed rows new) cs → AllByRecursion (λ (f : Former). IsSome (find_row f.key new)) (map (was rows) cs)
+each_there : (rows new cs : Rows) → AllByRecursion (Changed rows new) cs → AllByRecursion (λ (f : PriorRow). IsSome (find_row f.key new)) (map (was rows) cs)
 each_there rows new [] all = tt
 each_there rows new (c ∷ cs) all = (ap is_some all.0.0, each_there rows new cs all.1)
 
-none_of : (key : Key) (rows cs : Rows) → list_any (λ (f : Former). is_eq (key_cmp key f.key)) (map (was rows) cs) ≡ false → find_row key cs ≡ None
+none_of : (key : Key) (rows cs : Rows) → list_any (λ (f : PriorRow). is_eq (key_cmp key f.key)) (map (was rows) cs) ≡ false → find_row key cs ≡ None
 none_of key rows [] e = refl
 none_of key rows (c ∷ cs) e = by_test (same_key key c.0) e (none_of key rows cs)
   where
     rest : Bool
-    rest = list_any (λ (f : Former). is_eq (key_cmp key f.key)) (map (was rows) cs)
+    rest = list_any (λ (f : PriorRow). is_eq (key_cmp key f.key)) (map (was rows) cs)
 
     by_test : (b : Bool) → (b || rest) ≡ false → (rest ≡ false → find_row key cs ≡ None) → cond b (Some c.1) (find_row key cs) ≡ None
     by_test true h more = absurd (false≢true (sym h))
     by_test false h more = more h
 
-was_keys : (rows cs : Rows) → map (λ (f : Former). f.key) (map (was rows) cs) ≡ keys_of cs
+was_keys : (rows cs : Rows) → map (λ (f : PriorRow). f.key) (map (was rows) cs) ≡ keys_of cs
 was_keys rows [] = refl
 was_keys rows (c ∷ cs) = ap (λ l. c.0 ∷ l) (was_keys rows cs)
 
 pub laid_replaced : (changes rows : Rows) → Rising changes → ((key : Key) (row : Row) → find_row key changes ≡ Some row → is_same_row (row_at key rows) row ≡ false) →
-    AreChanged (former_of changes rows) rows (put_rows changes rows)
-laid_replaced changes rows rising differ = subst (λ (l : List Former). AreChanged l rows (put_rows changes rows)) (sym (former_is changes rows rising)) (record {
+    AreChanged (prior_of changes rows) rows (put_rows changes rows)
+laid_replaced changes rows rising differ = subst (λ (l : List PriorRow). AreChanged l rows (put_rows changes rows)) (sym (prior_is changes rows rising)) (record {
   rising = subst (λ (keys : List Key). IsStrictlySortedBy key_cmp keys) (sym (was_keys rows changes)) rising;
   differ = each_differs rows (put_rows changes rows) changes all;
   there = each_there rows (put_rows changes rows) changes all;
@@ -158,43 +158,43 @@ laid_replaced changes rows rising differ = subst (λ (l : List Former). AreChang
     all = each_changed changes rows changes rising differ (each_found changes rising)
 
 -- ---- one turn: the next row is put
-pub record Laying (all first left rows : Rows) (former : List Former) : Type 0 where
+pub record Laying (all first left rows : Rows) (prior : List PriorRow) : Type 0 where
   pub put : put_rows left rows ≡ put_rows all first
-  pub noted : former ++ former_of left rows ≡ former_of all first
-  pub back : rows_given_back former rows ≡ first
-  pub there : There former rows
+  pub noted : prior ++ prior_of left rows ≡ prior_of all first
+  pub back : rows_rolled_back prior rows ≡ first
+  pub there : There prior rows
   pub ordered : Rising rows
 
-there_put : (key : Key) (row : Row) (rows : Rows) (former : List Former) → There former rows → There former (put_row key row rows)
+there_put : (key : Key) (row : Row) (rows : Rows) (prior : List PriorRow) → There prior rows → There prior (put_row key row rows)
 there_put key row rows [] all = tt
-there_put key row rows (f ∷ former) all = (
+there_put key row rows (f ∷ prior) all = (
   ⊎_elim
       (λ (at : f.key ≡ key). subst (λ (k : Key). IsSome (find_row k (put_row key row rows))) (sym at) (ap is_some (find-put_same key row rows)))
       (λ (ne : f.key ≢ key). subst IsSome (sym (find-put_other f.key key row rows ne)) all.0)
       (cases_key f.key key),
-  there_put key row rows former all.1,
+  there_put key row rows prior all.1,
 )
 
-there_push : (f : Former) (rows : Rows) (former : List Former) → There former rows → IsSome (find_row f.key rows) → There (former ++ f ∷ []) rows
+there_push : (f : PriorRow) (rows : Rows) (prior : List PriorRow) → There prior rows → IsSome (find_row f.key rows) → There (prior ++ f ∷ []) rows
 there_push f rows [] all one = (one, tt)
-there_push f rows (g ∷ former) all one = (all.0, there_push f rows former all.1 one)
+there_push f rows (g ∷ prior) all one = (all.0, there_push f rows prior all.1 one)
 
-pub laid_turn : (all first left rest rows next : Rows) (former more : List Former) (key : Key) (row : Row) → left ≡ (key, row) ∷ rest → next ≡ put_row key row rows →
-    more ≡ former ++ record { key = key; row = find_row key rows } ∷ [] → Laying all first left rows former → Laying all first rest next more
-laid_turn all first left rest rows next former more key row is put push inv =
+pub laid_turn : (all first left rest rows next : Rows) (prior more : List PriorRow) (key : Key) (row : Row) → left ≡ (key, row) ∷ rest → next ≡ put_row key row rows →
+    more ≡ prior ++ record { key = key; row = find_row key rows } ∷ [] → Laying all first left rows prior → Laying all first rest next more
+laid_turn all first left rest rows next prior more key row is put push inv =
     subst (λ (n : Rows). Laying all first rest n more) (sym put)
-    (subst (λ (l : List Former). Laying all first rest (put_row key row rows) l) (sym push)
-    (turned (subst (λ (l : Rows). Laying all first l rows former) is inv)))
+    (subst (λ (l : List PriorRow). Laying all first rest (put_row key row rows) l) (sym push)
+    (turned (subst (λ (l : Rows). Laying all first l rows prior) is inv)))
   where
-    one : Former
+    one : PriorRow
     one = record { key = key; row = find_row key rows }
 
-    turned : Laying all first ((key, row) ∷ rest) rows former → Laying all first rest (put_row key row rows) (former ++ one ∷ [])
+    turned : Laying all first ((key, row) ∷ rest) rows prior → Laying all first rest (put_row key row rows) (prior ++ one ∷ [])
     turned at = record {
       put = at.put;
-      noted = append_assoc former (one ∷ []) (former_of rest (put_row key row rows)) ∙ at.noted;
-      back = given_last former one (put_row key row rows) ∙ ap (rows_given_back former) (put_undone key row rows at.ordered) ∙ at.back;
-      there = there_push one (put_row key row rows) former (there_put key row rows former at.there) (ap is_some (find-put_same key row rows));
+      noted = append_assoc prior (one ∷ []) (prior_of rest (put_row key row rows)) ∙ at.noted;
+      back = given_last prior one (put_row key row rows) ∙ ap (rows_rolled_back prior) (put_undone key row rows at.ordered) ∙ at.back;
+      there = there_push one (put_row key row rows) prior (there_put key row rows prior at.there) (ap is_some (find-put_same key row rows));
       ordered = rising_put key row rows at.ordered;
     }
 
@@ -207,28 +207,28 @@ unfolding IsStrictlySortedBy
 sorted_prefix [] ys s = tt
 sorted_prefix (x ∷ xs) ys s = (all_prefix (λ (k : Key). Lt x k) xs ys s.0, sorted_prefix xs ys s.1)
 
-map_push : (xs ys : List Former) → map (λ (f : Former). f.key) (xs ++ ys) ≡ map (λ (f : Former). f.key) xs ++ map (λ (f : Former). f.key) ys
+map_push : (xs ys : List PriorRow) → map (λ (f : PriorRow). f.key) (xs ++ ys) ≡ map (λ (f : PriorRow). f.key) xs ++ map (λ (f : PriorRow). f.key) ys
 map_push [] ys = refl
 map_push (x ∷ xs) ys = ap (λ l. x.key ∷ l) (map_push xs ys)
 
 -- what was put so far can be given back
-pub laid_ready : (all first left rows : Rows) (former : List Former) → Rising all → Laying all first left rows former → Ready former rows
-laid_ready all first left rows former rising inv = record {
-  rising = sorted_prefix (map (λ (f : Former). f.key) former) (map (λ (f : Former). f.key) (former_of left rows))
+pub laid_ready : (all first left rows : Rows) (prior : List PriorRow) → Rising all → Laying all first left rows prior → Ready prior rows
+laid_ready all first left rows prior rising inv = record {
+  rising = sorted_prefix (map (λ (f : PriorRow). f.key) prior) (map (λ (f : PriorRow). f.key) (prior_of left rows))
       (subst (λ (keys : List Key). IsStrictlySortedBy key_cmp keys)
-      (sym (sym (map_push former (former_of left rows)) ∙ ap (λ (l : List Former). map (λ (f : Former). f.key) l) inv.noted ∙ keys_former all first)) rising);
+      (sym (sym (map_push prior (prior_of left rows)) ∙ ap (λ (l : List PriorRow). map (λ (f : PriorRow). f.key) l) inv.noted ∙ keys_prior all first)) rising);
   there = inv.there;
 }
 
-pub ready_as : (former more : List Former) (rows next : Rows) → more ≡ former → next ≡ rows → Ready former rows → Ready more next
-ready_as former more rows next same put ready = subst (λ (l : List Former). Ready l next) (sym same) (subst (λ (n : Rows). Ready former n) (sym put) ready)
+pub ready_as : (prior more : List PriorRow) (rows next : Rows) → more ≡ prior → next ≡ rows → Ready prior rows → Ready more next
+ready_as prior more rows next same put ready = subst (λ (l : List PriorRow). Ready l next) (sym same) (subst (λ (n : Rows). Ready prior n) (sym put) ready)
 
 pub laid_first : (all first : Rows) → Rising first → Laying all first all first []
 laid_first all first ordered = record { put = refl; noted = refl; back = refl; there = tt; ordered = ordered }
 
 -- at the end all are put
-pub laid_put : (all first left rows : Rows) (former : List Former) → left ≡ [] → Laying all first left rows former → rows ≡ put_rows all first
-laid_put all first left rows former e inv = sym (ap (λ (l : Rows). put_rows l rows) e) ∙ inv.put
+pub laid_put : (all first left rows : Rows) (prior : List PriorRow) → left ≡ [] → Laying all first left rows prior → rows ≡ put_rows all first
+laid_put all first left rows prior e inv = sym (ap (λ (l : Rows). put_rows l rows) e) ∙ inv.put
 
-pub laid_former : (all first left rows : Rows) (former : List Former) → left ≡ [] → Laying all first left rows former → former ≡ former_of all first
-laid_former all first left rows former e inv = sym (append-nil former) ∙ sym (ap (λ (l : Rows). former ++ former_of l rows) e) ∙ inv.noted
+pub laid_prior : (all first left rows : Rows) (prior : List PriorRow) → left ≡ [] → Laying all first left rows prior → prior ≡ prior_of all first
+laid_prior all first left rows prior e inv = sym (append-nil prior) ∙ sym (ap (λ (l : Rows). prior ++ prior_of l rows) e) ∙ inv.noted

@@ -1,5 +1,5 @@
 -- The ways that a step of a node can go. What holds in each way holds of every step.
-use Rattle.std.proofs.Common.{◌≡◌, ℕ, List, [], ◌∷◌, Bool, true, false, not, ◌&&◌, ◌==◌, if◌then◌else◌, nat_lt, max, Option, Some, None, IfSome, unwrap_or, refl, sym, ap, subst, arith}
+use Rattle.std.proofs.Common.{◌≡◌, ◌+◌, ℕ, List, [], ◌∷◌, Bool, true, false, not, ◌&&◌, ◌==◌, if◌then◌else◌, nat_lt, max, Option, Some, None, IfSome, unwrap_or, refl, sym, ap, subst, arith}
 use Rattle.std.specs.Option.{option_or}
 use Rattle.std.specs.List.{AllByRecursion}
 use Rattle.std.proofs.lemmas.Bool.{and_parts}
@@ -7,8 +7,11 @@ use Rattle.std.proofs.lemmas.Bool.Decides.{nat_tests}
 use Rattle.std.proofs.lemmas.List.Elements.{recursion_from_All}
 use Rattle.hk_base.specs.declared.stamp.Stamp.{Stamp}
 use Rattle.hk_base.specs.declared.stamp.NodeId.{NodeId}
-use Rattle.hk_base.specs.declared.stamp.Kind.{Kind}
-use Rattle.hk_base.specs.declared.call.Content.{Content}
+use Rattle.hk_base.specs.declared.call.CallNo.{CallNo}
+use Rattle.hk_base.specs.declared.call.Answer.{Answer}
+use Rattle.hk_base.specs.declared.call.Op.{Op}
+use Rattle.hk_base.specs.declared.call.State.{State}
+use Rattle.hk_base.specs.declared.call.State.TheVariants.{Valid, Invalid, Write, Replay as ReplayState, Trans}
 use Rattle.hk_base.specs.declared.view.View.{View}
 use Rattle.hk_base.specs.declared.letter.Actor.{Actor}
 use Rattle.hk_base.specs.declared.letter.Actor.TheVariants.{Node, Manager}
@@ -16,7 +19,8 @@ use Rattle.hk_base.specs.declared.letter.CopyItem.{CopyItem}
 use Rattle.hk_base.specs.declared.letter.Letter.{Letter}
 use Rattle.hk_base.specs.declared.letter.Body.{Body}
 use Rattle.hk_base.specs.declared.letter.Body.TheVariants.{Inv, Ack, Val, CopyAsk, CopyGive, LeaseAsk, LeaseGive, Prepare, Promise, Accept, Accepted, Chosen, Activate}
-use Rattle.hk_base.specs.Range.{IsWithin, Leaves, IsBody, IsLetter}
+use Rattle.hk_base.specs.Range.{IsWithin, IsBody, IsLetter}
+use Rattle.hk_base.specs.Register.{act}
 use Rattle.hk_copy.specs.Batches.{is_nil, last_key}
 use Rattle.hk_lease.specs.Ends.{granted_end}
 use Rattle.hk_key.specs.declared.row.Row.{Row}
@@ -28,55 +32,62 @@ use Rattle.hk_node.specs.Rows.{Rows, find_row, row_at}
 use Rattle.hk_node.specs.Node.{NodeState, epoch_of, members_of, is_member, is_other}
 use Rattle.hk_node.specs.Sends.{letters_to}
 use Rattle.hk_node.specs.Stepped.{Stepped, idle, row_step}
+use Rattle.hk_node.specs.Calls.{kind_of, next_stamp, register_in, answers, at_limit, at_turn, at_state, at_lease, lease_end, called}
 use Rattle.hk_node.specs.Copies.{merged, is_next, batch_behind}
 use Rattle.hk_node.specs.Heard.{raised, is_greatest, has_majority}
 use Rattle.hk_node.specs.Steps.{on_found, viewed, installed_in, installs, installs_by_majority, heard, received, is_addressed, receives_from, receives, node_step}
 use Rattle.hk_node.specs.Sound.{IsNode, IsEvent}
 use Rattle.hk_node.specs.Laws.{key_in, key_of, IsNoCall}
 use Rattle.hk_node.proofs.Order.{holds_found}
-use Rattle.hk_node.proofs.Keeps.{sound_at}
+use Rattle.hk_node.proofs.Parts.{leased_is_ready}
+use Rattle.hk_node.proofs.Keeps.{begun, sound_at}
 use Rattle.hk_node.proofs.Acts.{Acts, inv_acts, ack_acts, val_acts, resend_acts, replay_acts, view_acts}
-use Rattle.hk_told.specs.Moves.{Moves}
-use Rattle.hk_told.proofs.Moving.{inv_moves, ack_moves, val_moves, view_moves, resend_moves, replay_moves}
 use Rattle.hk_node.proofs.Batched.{batch_within}
 
--- ---- what the step of a row owes to its node, and that it moves the row as the law says
-pub record Does (key : List ℕ) (row : Row) (done : Done) : Type 0 where
-  pub acts : Acts key row done
-  pub moves : Moves row done.row done.out.reply
+-- ---- a call is answered at once, or begins
+pub record CallCases (P : Stepped → Type 0) (node : NodeState) (call : CallNo) (key : List ℕ) (op : Op) : Type 0 where
+  pub answered : (answer : Answer) → P (answers node key call answer)
+  pub begins : (s : Stamp) → node.ready ≡ true → (row_at key node.rows).state ≡ Valid → next_stamp (kind_of op) (row_at key node.rows).stamp node.id ≡ Some s →
+      P (row_step node key (begun node call op (row_at key node.rows) s))
 
-module _ (key : List ℕ) (me : NodeId) (members : List NodeId) (row : Row) (sound : IsSound me members row) where
-  inv_does : (from : NodeId) (s : Stamp) (kind : Kind) (content : Option Content) → IsWithin s → Leaves kind content → Does key row (on_inv row from s kind content)
-  inv_does from s kind content within leaves = record { acts = inv_acts key me members row sound from s kind content within leaves; moves = inv_moves row from s kind content }
+pub by_call : (P : Stepped → Type 0) (node : NodeState) (call : CallNo) (key : List ℕ) (op : Op) → IsNode node → CallCases P node call key op → P (called node call key op)
+by_call P node call key op ok ways = by_lease (nat_lt (lease_end node) (node.clock + node.skew)) refl
+  where
+    the_row : Row
+    the_row = row_at key node.rows
 
-  ack_does : (from : NodeId) (s top : Stamp) → Does key row (on_ack me members row from s top)
-  ack_does from s top = record { acts = ack_acts key me members row sound from s top; moves = ack_moves me members row from s top }
+    by_limit : (o : Option Stamp) → node.ready ≡ true → the_row.state ≡ Valid → next_stamp (kind_of op) the_row.stamp node.id ≡ o → P (at_limit o node call key op the_row)
+    by_limit None ready valid e = ways.answered _
+    by_limit (Some s) ready valid e = ways.begins s ready valid e
 
-  val_does : (s : Stamp) → Does key row (still (on_val row s))
-  val_does s = record { acts = val_acts key me members row sound s; moves = val_moves row s }
+    by_turn : (b : Bool) → node.ready ≡ true → the_row.state ≡ Valid → P (at_turn b node call key op the_row)
+    by_turn false ready valid = ways.answered _
+    by_turn true ready valid = by_limit (next_stamp (kind_of op) the_row.stamp node.id) ready valid refl
 
-  resend_does : Does key row (resend row)
-  resend_does = record { acts = resend_acts key me members row sound; moves = resend_moves row }
+    by_state : (state : State) → node.ready ≡ true → the_row.state ≡ state → P (at_state state node call key op the_row)
+    by_state Valid ready e = by_turn (act op (register_in the_row) 0).changed ready e
+    by_state Invalid ready e = ways.answered _
+    by_state Write ready e = ways.answered _
+    by_state ReplayState ready e = ways.answered _
+    by_state Trans ready e = ways.answered _
 
-  replay_does : Does key row (replay me members row)
-  replay_does = record { acts = replay_acts key me members row sound; moves = replay_moves me members row }
-
-  view_does : (new : List NodeId) → Does key row (on_view me new row)
-  view_does new = record { acts = view_acts key me members row sound new; moves = view_moves me new row }
+    by_lease : (b : Bool) → nat_lt (lease_end node) (node.clock + node.skew) ≡ b → P (at_lease b node call key op)
+    by_lease true e = ways.answered _
+    by_lease false e = by_state the_row.state (leased_is_ready node ok e) refl
 
 -- ---- every other event, by the key that it names
-pub record Ways (P : Stepped → Type 0) (node : NodeState) (named : Option (List ℕ)) : Type 0 where
+pub record StepCases (P : Stepped → Type 0) (node : NodeState) (named : Option (List ℕ)) : Type 0 where
   -- no more than a clock, a lease or what was heard from managers changes
   pub quiet : (clock granted : ℕ) (ends activated : List ℕ) → P (idle (record node { clock = clock; granted = granted; ends = ends; activated = activated }))
   -- nothing changes, and something of no row is sent
   pub sends : (letters : List Letter) → AllByRecursion IsLetter letters → P (record { node = node; letters = letters; told = []; installed = None })
   -- the row of the key makes a step
-  pub row : (key : List ℕ) (done : Done) → named ≡ Some key → Does key (row_at key node.rows) done → P (row_step node key done)
+  pub row : (key : List ℕ) (done : Done) → named ≡ Some key → Acts key (row_at key node.rows) done → P (row_step node key done)
   -- rows are copied
   pub takes : (cursor : Option (List ℕ)) (done : Bool) (items : List CopyItem) → named ≡ None → node.ready ≡ false → AllByRecursion (λ item. IsWithin item.stamp) items →
       P (record { node = record node { ready = done; cursor = cursor; rows = merged items node.rows }; letters = []; told = []; installed = None })
   -- all rows make the step of a view
-  pub installs : (view : View) (activated : List ℕ) → named ≡ None → AllByRecursion (λ r. Does r.0 r.1 (viewed (record node { view = Some view; activated = activated }) r)) node.rows →
+  pub installs : (view : View) (activated : List ℕ) → named ≡ None → AllByRecursion (λ r. Acts r.0 r.1 (viewed (record node { view = Some view; activated = activated }) r)) node.rows →
       P (installed_in (record node { view = Some view; activated = activated }) view.epoch)
 
 pub letters_within : (node : NodeState) (body : Body) (to : List NodeId) → IsBody body → AllByRecursion IsLetter (letters_to node body to)
@@ -91,27 +102,27 @@ not_is : (b : Bool) → not b ≡ true → b ≡ false
 not_is true e = sym e
 not_is false e = refl
 
-views_do : (me : NodeId) (old new : List NodeId) (rows : Rows) → AllByRecursion (λ r. IsSound me old r.1) rows →
-    AllByRecursion (λ (r : List ℕ × Row). Does r.0 r.1 (on_view me new r.1)) rows
-views_do me old new [] all = tt
-views_do me old new (r ∷ rows) all = (view_does r.0 me old r.1 all.0 new, views_do me old new rows all.1)
+views_act : (me : NodeId) (old new : List NodeId) (rows : Rows) → AllByRecursion (λ r. IsSound me old r.1) rows →
+    AllByRecursion (λ (r : List ℕ × Row). Acts r.0 r.1 (on_view me new r.1)) rows
+views_act me old new [] all = tt
+views_act me old new (r ∷ rows) all = (view_acts r.0 me old r.1 all.0 new, views_act me old new rows all.1)
 
 module _ (P : Stepped → Type 0) (node : NodeState) (ok : IsNode node) where
-  by_found : (named : Option (List ℕ)) (key : List ℕ) (step : Row → Done) → Ways P node named → named ≡ Some key →
-      ((row : Row) → IsSound node.id (members_of node) row → Does key row (step row)) → P (on_found (find_row key node.rows) node key step)
+  by_found : (named : Option (List ℕ)) (key : List ℕ) (step : Row → Done) → StepCases P node named → named ≡ Some key →
+      ((row : Row) → IsSound node.id (members_of node) row → Acts key row (step row)) → P (on_found (find_row key node.rows) node key step)
   by_found named key step ways names acts = by_row (find_row key node.rows) refl
     where
       by_row : (o : Option Row) → find_row key node.rows ≡ o → P (on_found o node key step)
       by_row None e = ways.quiet node.clock node.granted node.ends node.activated
-      by_row (Some row) e = ways.row key (step row) names (subst (λ (r : Row). Does key r (step row)) (sym (ap (λ (o : Option Row). unwrap_or o first_row) e))
+      by_row (Some row) e = ways.row key (step row) names (subst (λ (r : Row). Acts key r (step row)) (sym (ap (λ (o : Option Row). unwrap_or o first_row) e))
           (acts row (subst (λ (o : Option Row). IfSome o (IsSound node.id (members_of node))) e (holds_found (IsSound node.id (members_of node)) key node.rows ok.rows))))
 
-  by_body : (body : Body) (from : NodeId) → IsBody body → Ways P node (key_in body) → P (received body node from)
+  by_body : (body : Body) (from : NodeId) → IsBody body → StepCases P node (key_in body) → P (received body node from)
   by_body (Inv key s kind content) from within ways = ways.row key (on_inv (row_at key node.rows) from s kind content) refl
-      (inv_does key node.id (members_of node) (row_at key node.rows) (sound_at node key ok) from s kind content within.0 within.1)
+      (inv_acts key node.id (members_of node) (row_at key node.rows) (sound_at node key ok) from s kind content within.0 within.1)
   by_body (Ack key s top) from within ways = by_found (Some key) key (λ row. on_ack node.id (members_of node) row from s top) ways refl
-      (λ row sound. ack_does key node.id (members_of node) row sound from s top)
-  by_body (Val key s) from within ways = by_found (Some key) key (λ row. still (on_val row s)) ways refl (λ row sound. val_does key node.id (members_of node) row sound s)
+      (λ row sound. ack_acts key node.id (members_of node) row sound from s top)
+  by_body (Val key s) from within ways = by_found (Some key) key (λ row. still (on_val row s)) ways refl (λ row sound. val_acts key node.id (members_of node) row sound s)
   by_body (CopyAsk after room) from within ways = by_if P node.ready node _ (ways.quiet node.clock node.granted node.ends node.activated)
       (λ t. ways.sends _ (letters_within node (CopyGive after (is_nil (batch_behind node after room).left) (batch_behind node after room).taken) (from ∷ []) (batch_within node after room ok within)))
   by_body (CopyGive after done items) from within ways = by_if P (not node.ready && is_next after node.cursor) node _ (ways.quiet node.clock node.granted node.ends node.activated)
@@ -127,14 +138,14 @@ module _ (P : Stepped → Type 0) (node : NodeState) (ok : IsNode node) where
   by_body (Activate view) from within ways = ways.quiet node.clock node.granted node.ends node.activated
 
   -- what a manager says names no key
-  by_heard : (body : Body) (manager : ℕ) → Ways P node (key_in body) → P (heard body node manager)
+  by_heard : (body : Body) (manager : ℕ) → StepCases P node (key_in body) → P (heard body node manager)
   by_heard (LeaseGive end) manager ways =
       let ends = raised manager end node.ends in
       ways.quiet node.clock (max node.granted (granted_end ends)) ends node.activated
   by_heard (Activate view) manager ways = by_if P (is_greatest view.epoch node.activated) node (installs_by_majority noted view) (ways.quiet node.clock node.granted node.ends node.activated)
       (λ g. by_if P (has_majority view.epoch after) noted (installs noted view) rests
       (λ m. by_if P (nat_lt (epoch_of node) view.epoch && is_member node.id view.members) noted (installed_in (record noted { view = Some view }) view.epoch) rests
-      (λ t. ways.installs view after refl (views_do node.id (members_of node) view.members node.rows ok.rows))))
+      (λ t. ways.installs view after refl (views_act node.id (members_of node) view.members node.rows ok.rows))))
     where
       after : List ℕ
       after = raised manager view.epoch node.activated
@@ -161,7 +172,7 @@ module _ (P : Stepped → Type 0) (node : NodeState) (ok : IsNode node) where
       AllByRecursion IsLetter (record { epoch = epoch_of node; from = Node node.id; to = Manager manager; body = LeaseAsk node.clock } ∷ [])
   asked_within manager there = let few = ok.heard.few in (record { from = tt; to = grind (arith, nat_tests); body = ok.clock }, tt)
 
-  by_letter : (letter : Letter) → IsLetter letter → Ways P node (key_in letter.body) → P (receives node letter)
+  by_letter : (letter : Letter) → IsLetter letter → StepCases P node (key_in letter.body) → P (receives node letter)
   by_letter letter within ways = by_sender letter.from
     where
       by_sender : (actor : Actor) → P (receives_from actor node letter)
@@ -170,12 +181,12 @@ module _ (P : Stepped → Type 0) (node : NodeState) (ok : IsNode node) where
       by_sender (Node from) = by_if P (is_addressed node letter.to && ((letter.epoch == epoch_of node) && is_other node from)) node (received letter.body node from)
           (ways.quiet node.clock node.granted node.ends node.activated) (λ t. by_body letter.body from within.body ways)
 
-  pub by_event : (event : NodeEvent) → IsEvent event → IsNoCall event → Ways P node (key_of event) → P (node_step node event)
+  pub by_event : (event : NodeEvent) → IsEvent event → IsNoCall event → StepCases P node (key_of event) → P (node_step node event)
   by_event (Call call key op) within other ways = absurd other
   by_event (Receive letter) within other ways = by_letter letter within ways
-  by_event (Resend key) within other ways = by_found (Some key) key resend ways refl (λ row sound. resend_does key node.id (members_of node) row sound)
+  by_event (Resend key) within other ways = by_found (Some key) key resend ways refl (λ row sound. resend_acts key node.id (members_of node) row sound)
   by_event (Replay key) within other ways = by_if P node.ready node (on_found (find_row key node.rows) node key (replay node.id (members_of node))) (ways.quiet node.clock node.granted node.ends node.activated)
-      (λ t. by_found (Some key) key (replay node.id (members_of node)) ways refl (λ row sound. replay_does key node.id (members_of node) row sound))
+      (λ t. by_found (Some key) key (replay node.id (members_of node)) ways refl (λ row sound. replay_acts key node.id (members_of node) row sound))
   by_event (AskLease manager) within other ways = by_if P (nat_lt manager node.managers) node _ (ways.quiet node.clock node.granted node.ends node.activated)
       (λ t. ways.sends _ (asked_within manager t))
   by_event (AskCopy from room) within other ways = by_if P (not node.ready && is_other node from) node _ (ways.quiet node.clock node.granted node.ends node.activated)
@@ -183,4 +194,4 @@ module _ (P : Stepped → Type 0) (node : NodeState) (ok : IsNode node) where
   by_event (Tick now) within other ways = ways.quiet (max node.clock now) node.granted node.ends node.activated
   by_event (Grant end) within other ways = ways.quiet node.clock (max node.granted end) node.ends node.activated
   by_event (Install view) within other ways = by_if P (nat_lt (epoch_of node) view.epoch && is_member node.id view.members) node (installed_in (record node { view = Some view }) view.epoch)
-      (ways.quiet node.clock node.granted node.ends node.activated) (λ t. ways.installs view node.activated refl (views_do node.id (members_of node) view.members node.rows ok.rows))
+      (ways.quiet node.clock node.granted node.ends node.activated) (λ t. ways.installs view node.activated refl (views_act node.id (members_of node) view.members node.rows ok.rows))

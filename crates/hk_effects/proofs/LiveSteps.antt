@@ -19,7 +19,7 @@ use Rattle.hk_world.specs.declared.refused.Refused.{Refused}
 use Rattle.hk_world.specs.World.{WorldState, process_at, node_of}
 use Rattle.hk_world.specs.Steps.{Accepted, acting_of, aside}
 use Rattle.hk_world.specs.declared.shown.Shown.{Shown}
-use Rattle.hk_effects.specs.View.{key_node, node_at, letters_of, Trace, view, traced_by, traced}
+use Rattle.hk_effects.specs.Projection.{key_node, node_at, letters_of, Trace, project, traced_by, traced}
 use Rattle.hk_effects.specs.Own.{IsNodeOf, IsOwn, IsTrace, Agrees}
 use Rattle.hk_effects.specs.Laws.{Effects}
 use Rattle.hk_effects.proofs.Accepting.{alive}
@@ -34,10 +34,10 @@ accepts a = Ok a
 pub accepts_same : (a b : Accepted) → accepts a ≡ accepts b → a ≡ b
 accepts_same a b e = cc
 
-module _ (V : ℕ → List ℕ) (key : List ℕ) (t : Trace) (parts : Parts V (view key t)) (own : IsOwn t.world) (agrees : Agrees t.world V) (tok : IsTrace t) where
+module _ (V : ℕ → List ℕ) (key : List ℕ) (t : Trace) (parts : Parts V (project key t)) (own : IsOwn t.world) (agrees : Agrees t.world V) (tok : IsTrace t) where
   -- the event is an effect, or two
   abbrev pub IsEffects : Event → Accepted → Type 0
-  IsEffects event a = Effects V (view key t) (view key (traced key t event a))
+  IsEffects event a = Effects V (project key t) (project key (traced key t event a))
 
   -- the process of a live node
   abbrev pub IsLive : NodeState → Type 0
@@ -47,19 +47,19 @@ module _ (V : ℕ → List ℕ) (key : List ℕ) (t : Trace) (parts : Parts V (v
   live_is x alive = ap node_of alive
 
   -- the register's node
-  pub here : (x : NodeState) → IsLive x → (view key t).node x.id.0 ≡ key_node key (Some x)
+  pub here : (x : NodeState) → IsLive x → (project key t).node x.id.0 ≡ key_node key (Some x)
   here x alive = ap (key_node key) (live_is x alive)
 
   -- what its step owes
   abbrev pub OwesLive : (x : NodeState) → IsLive x → Stepped → List Item → Type 0
-  OwesLive x alive o hs = OwesNode V (view key t) parts key x (here x alive) o hs
+  OwesLive x alive o hs = OwesNode V (project key t) parts key x (here x alive) o hs
 
   -- the effect of a live node's step
   pub stepped_effect : (event : Event) (calls : ℕ) (paces : Paces) (call : Option CallNo) (id : NodeId) (x : NodeState) → x.id ≡ id → (alive : IsLive x) (o : Stepped) (a : Accepted) → OwesLive x alive o (items_said key event (t.world.calls + 1) x o) →
       accepts (accepted t.world id x o calls paces call) ≡ accepts a → IsEffects event a
   stepped_effect event calls paces call id x same alive o a owes e =
       let is : a ≡ accepted t.world x.id x o calls paces call = sym (accepts_same (accepted t.world id x o calls paces call) a e) ∙ ap (λ (i : NodeId). accepted t.world i x o calls paces call) (sym same) in
-      rw is (owes (view key (traced key t event (accepted t.world x.id x o calls paces call))) (step_change key t event calls paces call x.id x o (live_is x alive)))
+      rw is (owes (project key (traced key t event (accepted t.world x.id x o calls paces call))) (step_change key t event calls paces call x.id x o (live_is x alive)))
 
   -- no node's step: no node looks different for the key, and nothing is sent
   pub aside_effect : (event : Event) (w : WorldState) (shown : Shown) (a : Accepted) → shown.acted ≡ None → ((m : ℕ) → key_node key (node_at m w.processes) ≡ key_node key (node_at m t.world.processes)) →
@@ -93,7 +93,7 @@ module _ (V : ℕ → List ℕ) (key : List ℕ) (t : Trace) (parts : Parts V (v
       (same, subst (λ (i : NodeId). process_at i t.world.processes ≡ Some (alive x)) (sym same) at)
 
   -- no call so far has the next number
-  pub fresh_call : Fresh (view key t) (t.world.calls + 1)
+  pub fresh_call : Fresh (project key t) (t.world.calls + 1)
   fresh_call i h same = let low = tok.numbered i h in omega arith
 
   module _ (x : NodeState) (alive : IsLive x) where
@@ -110,7 +110,7 @@ module _ (V : ℕ → List ℕ) (key : List ℕ) (t : Trace) (parts : Parts V (v
     ready_some ready = rw (here x alive) at (ready_in V (parts.nodes x.id.0) (rw (here x alive) ready))
 
     -- its lease runs, so no view that was installed leaves it out
-    pub leased_now : x.ready ≡ true → x.clock + x.skew ≤ x.granted → Leased V (view key t) x.id.0
+    pub leased_now : x.ready ≡ true → x.clock + x.skew ≤ x.granted → Leased V (project key t) x.id.0
     leased_now ready runs k marked low =
         let some : 1 ≤ epoch_of x = ready_some ready in
         let u = own_view t.world.views t.world.calls x node_own some in

@@ -24,7 +24,7 @@ use Rattle.hk_copy.specs.Batches.{key_cmp, last_key}
 use Rattle.hk_register.specs.Machine.{Note, Pending, Phase, Node, Letter, Mark, Update, Item, State}
 use Rattle.hk_register.specs.Machine.Phase.{Valid, Invalid, Write, Replay, Trans}
 use Rattle.hk_register.specs.Machine.Letter.{Inv, Ack as AckL, Val, Give}
-use Rattle.hk_register.specs.Machine.Item.{Called, Answered, Dropped, Looked, Missed}
+use Rattle.hk_register.specs.Machine.Item.{Called, Answered, Dropped, ReadOnly, Rejected}
 use Rattle.hk_register.specs.Effects.{row_mark, cover_mark, register_of}
 use Rattle.hk_register.specs.Runs.{absent}
 use Rattle.hk_node.specs.Rows.{row_at}
@@ -125,8 +125,8 @@ pub record Trace : Type 0 where
   pub begun : List Update
   pub history : List Item
 
-abbrev pub view : List ℕ → Trace → State
-view key t = record { node = λ id. key_node key (node_at id t.world.processes); letters = letters_of key t.world.letters; marks = t.marks; begun = t.begun; history = t.history }
+abbrev pub project : List ℕ → Trace → State
+project key t = record { node = λ id. key_node key (node_at id t.world.processes); letters = letters_of key t.world.letters; marks = t.marks; begun = t.begun; history = t.history }
 
 -- ---- marks: what the acting node covered
 abbrev pub pending_marks : ℕ → Node → Phase → List Mark
@@ -172,12 +172,12 @@ abbrev pub reply_item : ℕ → Reply → Item
 reply_item s r = if is_unsure (Some r.answer) then Dropped r.call.0 s r.answer else Answered r.call.0 s r.answer
 
 -- a call that began nothing: it was refused, or answered from the row
-abbrev pub look_item : ℕ → Op → Node → Reply → Item
-look_item call op was r = if is_void (Some r.answer) then Missed call op r.answer else Looked call was.stamp op was.content r.answer
+abbrev pub read_only_item : ℕ → Op → Node → Reply → Item
+read_only_item call op was r = if is_void (Some r.answer) then Rejected call op r.answer else ReadOnly call was.stamp op was.content r.answer
 
 -- by whether the row has its old stamp: then the call began nothing
 abbrev pub call_items : Bool → ℕ → Op → Node → Node → List Reply → List Item
-call_items true call op was x replies = map (look_item call op was) replies
+call_items true call op was x replies = map (read_only_item call op was) replies
 call_items false call op was x replies = map (reply_item x.stamp) replies ++ Called call x.stamp op ∷ []
 
 -- call is the number of the call that the event makes, if it makes one
@@ -201,8 +201,8 @@ updates_of id x (Called call s op ∷ items) =
     } ∷ updates_of id x items
 updates_of id x (Answered call s a ∷ items) = updates_of id x items
 updates_of id x (Dropped call s a ∷ items) = updates_of id x items
-updates_of id x (Looked call s op held a ∷ items) = updates_of id x items
-updates_of id x (Missed call op a ∷ items) = updates_of id x items
+updates_of id x (ReadOnly call s op held a ∷ items) = updates_of id x items
+updates_of id x (Rejected call op a ∷ items) = updates_of id x items
 
 -- ---- the trace goes on with an accepted event
 -- what a node's step adds, from the key's part of the node before and after it

@@ -11,7 +11,7 @@ use Rattle.std.proofs.lemmas.Cmp.{nat_list_cmp_total, tied_itself}
 use Rattle.std.proofs.lemmas.Map.Lookups.{exact_bytes}
 use Rattle.hk_copy.specs.Batches.{key_cmp}
 use Rattle.hk_key.specs.Table.{first_row}
-use Rattle.hk_node.specs.declared.report.Former.{Former}
+use Rattle.hk_node.specs.declared.report.PriorRow.{PriorRow}
 use Rattle.hk_node.specs.Rows.{Rows, find_row, row_at}
 use Rattle.hk_node.specs.Copies.{is_valid}
 use Rattle.hk_node.specs.Report.{AreChanged}
@@ -46,7 +46,7 @@ module _ (rows : Rows) (ticket : ℕ) where
   whole_here k true before after (inr missed) whole = absurd (false≢true (sym missed.whole ∙ whole))
   whole_here k false before after gone whole = sym gone.whole ∙ whole
 
-  whole_before : (changed : List Former) (before after : OpenState) → AreNoted rows ticket (map (λ f. f.key) changed) before after → after.whole ≡ true → before.whole ≡ true
+  whole_before : (changed : List PriorRow) (before after : OpenState) → AreNoted rows ticket (map (λ f. f.key) changed) before after → after.whole ≡ true → before.whole ≡ true
   whole_before [] before after noted whole = ap (λ (o : OpenState). o.whole) (sym noted) ∙ whole
   whole_before (f ∷ changed) before after noted whole = whole_here f.key (is_open_at rows f.key) before noted.0 noted.1.0 (whole_before changed noted.0 after noted.2 whole)
 
@@ -61,14 +61,14 @@ module _ (rows : Rows) (ticket : ℕ) where
   settled_here k false before after e gone = record { open_one = λ there. absurd (false≢true (ap is_some (sym gone.there) ∙ there)); there = λ _ is. absurd (false≢true (sym e ∙ is)) }
 
   -- it is as it was, or as its row has it
-  abbrev IsEither : Key → List Former → OpenState → OpenState → Type 0
-  IsEither q changed before after = ((list_any (λ (f : Former). is_eq (key_cmp q f.key)) changed ≡ false) × (since_of q after ≡ since_of q before)) ⊎ IsSettled q after
+  abbrev IsEither : Key → List PriorRow → OpenState → OpenState → Type 0
+  IsEither q changed before after = ((list_any (λ (f : PriorRow). is_eq (key_cmp q f.key)) changed ≡ false) × (since_of q after ≡ since_of q before)) ⊎ IsSettled q after
 
-  either : (q : Key) (changed : List Former) (before after : OpenState) → AreNoted rows ticket (map (λ f. f.key) changed) before after → IsEither q changed before after
+  either : (q : Key) (changed : List PriorRow) (before after : OpenState) → AreNoted rows ticket (map (λ f. f.key) changed) before after → IsEither q changed before after
   either q [] before after noted = inl (refl, ap (since_of q) noted)
   either q (f ∷ changed) before after (between, noted, more) = at (either q changed between after more)
     where
-      at_key : (b : Bool) → is_at (key_cmp f.key) q ≡ b → list_any (λ (g : Former). is_eq (key_cmp q g.key)) changed ≡ false → since_of q after ≡ since_of q between → IsEither q (f ∷ changed) before after
+      at_key : (b : Bool) → is_at (key_cmp f.key) q ≡ b → list_any (λ (g : PriorRow). is_eq (key_cmp q g.key)) changed ≡ false → since_of q after ≡ since_of q between → IsEither q (f ∷ changed) before after
       at_key true e unlisted kept =
           let is : IsSettled f.key between = settled_here f.key (is_open_at rows f.key) before between refl noted.0 in
           let here : IsSettled q between = subst (λ (k : Key). IsSettled k between) (same f.key q e) is in
@@ -82,7 +82,7 @@ module _ (rows : Rows) (ticket : ℕ) where
       at (inl rest) = at_key (is_at (key_cmp f.key) q) refl rest.0 rest.1
       at (inr settled) = inr settled
 
-  stays : (q : Key) (since : ℕ) (changed : List Former) (before after : OpenState) → AreNoted rows ticket (map (λ f. f.key) changed) before after →
+  stays : (q : Key) (since : ℕ) (changed : List PriorRow) (before after : OpenState) → AreNoted rows ticket (map (λ f. f.key) changed) before after →
       after.whole ≡ true → is_open_at rows q ≡ true → since_of q before ≡ Some since → since_of q after ≡ Some since
   stays q since [] before after noted whole is was = ap (since_of q) noted ∙ was
   stays q since (f ∷ changed) before after (between, noted, more) whole is was =
@@ -106,7 +106,7 @@ following_keeps changed old new ticket before after are noted was = record {
   all_open = λ whole q is. by_all whole q is (either new ticket q changed before after noted);
 }
   where
-    same_row : (q : Key) → list_any (λ (f : Former). is_eq (key_cmp q f.key)) changed ≡ false → is_open_at new q ≡ is_open_at old q
+    same_row : (q : Key) → list_any (λ (f : PriorRow). is_eq (key_cmp q f.key)) changed ≡ false → is_open_at new q ≡ is_open_at old q
     same_row q unlisted = ap (λ (o : Option _). not (is_valid (unwrap_or o first_row).state)) (are.others q unlisted)
 
     by_one : (q : Key) → IsSome (since_of q after) → IsEither new ticket q changed before after → is_open_at new q ≡ true

@@ -37,7 +37,7 @@ use Rattle.hk_node.specs.Node.{NodeState, epoch_of, members_of, others}
 use Rattle.hk_node.specs.Rows.{Rows, row_at, with_row, is_touched}
 use Rattle.hk_node.specs.Sends.{letters_to, pending_body, body_of, notes_in, addressees, sent}
 use Rattle.hk_node.specs.Stepped.{Stepped, row_step}
-use Rattle.hk_effects.specs.View.{covers, item_at}
+use Rattle.hk_effects.specs.Projection.{covers, item_at}
 use Rattle.hk_effects.proofs.Order.{above_differs, row_here, row_next, row-with_same}
 use Rattle.hk_effects.proofs.Worlds.{all_in}
 
