@@ -1,7 +1,7 @@
 //! The steps of the row.
 
 ghost use Rattle.std.specs.Prelude.{◌<◌, IfOk};
-ghost use Rattle.hk_node.specs.Sound.{IsEvent};
+ghost use Rattle.hk_node.specs.Sound.{IsNodeEvent};
 
 use crate::opened::{Opened, SKEW};
 use bytes_told::{put, put_bytes, put_number};
@@ -44,7 +44,7 @@ fn write_of(
     flags: u32,
     data: &[u8],
 ) -> Result<NodeEvent, Memory>
-    ensures { IfOk result IsEvent }
+    ensures { IfOk result IsNodeEvent }
 {
     let key = key_of(alloc, key)?;
     let content = content_of(alloc, flags, data)?;

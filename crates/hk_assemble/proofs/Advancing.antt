@@ -10,7 +10,7 @@ use Rattle.hk_base.specs.declared.call.Answer.{Answer}
 use Rattle.hk_base.specs.declared.call.Op.TheVariants.{Read}
 use Rattle.hk_base.specs.declared.letter.Letter.{Letter}
 use Rattle.hk_node.specs.declared.event.NodeEvent.{NodeEvent}
-use Rattle.hk_node.specs.declared.event.NodeEvent.TheVariants as N
+use Rattle.hk_node.specs.declared.event.NodeEvent.TheVariants as NodeEvent
 use Rattle.hk_journal.specs.declared.step_entry.JournalEntry.{JournalEntry}
 use Rattle.hk_world.specs.declared.event.Header.{Header}
 use Rattle.hk_world.specs.declared.event.Event.{Event}
@@ -30,7 +30,7 @@ use Rattle.hk_assemble.specs.SentLetters.{Buckets, with_letters}
 use Rattle.hk_assemble.specs.Known.{IsCopy, IsTold, Knows, LettersStayKnown}
 use Rattle.hk_assemble.specs.Assembly.{Kepts, kept_at, IsAssembly}
 use Rattle.hk_assemble.specs.declared.gap.Gap.{Gap}
-use Rattle.hk_assemble.specs.declared.gap.Gap.TheVariants as G
+use Rattle.hk_assemble.specs.declared.gap.Gap.TheVariants as Gap
 use Rattle.hk_assemble.specs.Taking.{IsMarred, IsEventBy}
 use Rattle.hk_assemble.specs.Stepping.{IsStepMade, IsLooked}
 use Rattle.hk_assemble.specs.Assemblies.{OrMemory, IsFailure}
@@ -53,16 +53,16 @@ begun h = record {
 
 -- ---- the event of an entry
 pub event_is : (sent : Buckets) (letters : List Letter) (tickets : List ℕ) (node : NodeId) (ticket : ℕ) (made : NodeEvent) (event : Event) → Knows sent letters tickets → IsEventBy sent node ticket made event → IsEventOf letters tickets node ticket made event
-event_is sent letters tickets node ticket (N.Call call key op) event knows is = is
-event_is sent letters tickets node ticket (N.Receive letter) event knows (first, finds, lower, is, to) =
+event_is sent letters tickets node ticket (NodeEvent.Call call key op) event knows is = is
+event_is sent letters tickets node ticket (NodeEvent.Receive letter) event knows (first, finds, lower, is, to) =
     let copy : IsCopy first letter letters tickets = subst (λ (o : Option Sent). IsTold o letter letters tickets) finds (knows letter) in (
       first.number,
       is,
       record { there = copy.there; first = copy.first; lower = subst (λ (o : Option ℕ). IsSomeAnd o (λ (t : ℕ). t < ticket)) (sym copy.drawn) lower },
       to,
     )
-event_is sent letters tickets node ticket (N.Resend key) event knows is = is
-event_is sent letters tickets node ticket (N.Replay key) event knows is = is
+event_is sent letters tickets node ticket (NodeEvent.Resend key) event knows is = is
+event_is sent letters tickets node ticket (NodeEvent.Replay key) event knows is = is
 event_is sent letters tickets node ticket other event knows is = absurd is
 
 -- ---- lengths
@@ -192,16 +192,16 @@ module _ (header : Header) (run : RunState) (sent : Buckets) (kept : Kepts) (fro
   -- an entry whose step gives something else
   pub step_fails : {U : Type 0} → (unit : U) (gap : Gap) (items : List Item) (node : NodeId) (entry : JournalEntry) (event : Event) (new : RunState) → IsEventBy sent node entry.ticket entry.event event → IsStepMade {U = U} (Err gap) run new event node entry →
       OrMemory gap (IsFailure gap run items front (Step node entry))
-  step_fails unit G.Memory items node entry event new by made = tt
-  step_fails unit (G.Letter taken s) items node entry event new by made = absurd made
-  step_fails unit (G.Note call ticket told k) items node entry event new by made = absurd made
-  step_fails unit (G.Entry at ticket None) items node entry event new by made = absurd made
-  step_fails unit (G.Entry at ticket (Some given)) items node entry event new by (a, accepted, here, drawn, other, letters, replies) =
+  step_fails unit Gap.Memory items node entry event new by made = tt
+  step_fails unit (Gap.Letter taken s) items node entry event new by made = absurd made
+  step_fails unit (Gap.Note call ticket told k) items node entry event new by made = absurd made
+  step_fails unit (Gap.Entry at ticket None) items node entry event new by made = absurd made
+  step_fails unit (Gap.Entry at ticket (Some given)) items node entry event new by (a, accepted, here, drawn, other, letters, replies) =
       (node, entry, refl, (here, drawn, event, event_is sent (world_of run).letters (tickets_of [] front) node entry.ticket entry.event event assembly.knows by, a, accepted, other, letters, replies))
 
 -- an entry that fails whatever the world is
 pub marred_fails : (gap : Gap) (items front : List Item) (run : RunState) (node : NodeId) (entry : JournalEntry) → IsMarred gap items node entry → OrMemory gap (IsFailure gap run items front (Step node entry))
-marred_fails G.Memory items front run node entry marred = tt
-marred_fails (G.Letter taken s) items front run node entry marred = (node, entry, refl, marred (world_of run) (tickets_of [] front))
-marred_fails (G.Entry at ticket given) items front run node entry marred = (node, entry, refl, marred (world_of run) (tickets_of [] front))
-marred_fails (G.Note call ticket told k) items front run node entry marred = absurd marred
+marred_fails Gap.Memory items front run node entry marred = tt
+marred_fails (Gap.Letter taken s) items front run node entry marred = (node, entry, refl, marred (world_of run) (tickets_of [] front))
+marred_fails (Gap.Entry at ticket given) items front run node entry marred = (node, entry, refl, marred (world_of run) (tickets_of [] front))
+marred_fails (Gap.Note call ticket told k) items front run node entry marred = absurd marred

@@ -14,7 +14,7 @@ use Rattle.hk_merge.specs.declared.note.Note.{Note}
 use Rattle.hk_merge.specs.Merged.{JournalList, Item, Step, LocalRead, In, Rises, journal_or, journal_of, IsFounded, IsItem, AreMerged}
 use Rattle.hk_merge.specs.Shows.{IsKeptAt, ReadShows, KeptIsShown}
 use Rattle.hk_assemble.specs.declared.gap.Gap.{Gap}
-use Rattle.hk_assemble.specs.declared.gap.Gap.TheVariants as G
+use Rattle.hk_assemble.specs.declared.gap.Gap.TheVariants as Gap
 use Rattle.hk_assemble.specs.SentLetters.{Buckets}
 use Rattle.hk_assemble.specs.Assembly.{Kepts, kept_at, IsAssembly}
 use Rattle.hk_assemble.specs.Assemblies.{OrMemory}
@@ -83,10 +83,10 @@ module _ (header : Header) (journals : JournalList) (notes : List Note) (items :
   run_is right = record { same = assembly.same; goes = assembly.goes; told = λ listed note lists. assembly.shows listed note.answer (right listed note lists) }
 
   pub gap_is : (gap : Gap) → IsFirstWrong kept notes gap → IsGap header journals notes items gap
-  gap_is G.Memory wrong = tt
-  gap_is (G.Letter taken s) wrong = absurd wrong.wrong
-  gap_is (G.Entry node ticket given) wrong = absurd wrong.wrong
-  gap_is (G.Note call ticket told k) wrong = (
+  gap_is Gap.Memory wrong = tt
+  gap_is (Gap.Letter taken s) wrong = absurd wrong.wrong
+  gap_is (Gap.Entry node ticket given) wrong = absurd wrong.wrong
+  gap_is (Gap.Note call ticket told k) wrong = (
     run.events,
     world_of run,
     assembly.goes,
@@ -105,10 +105,10 @@ module _ (header : Header) (journals : JournalList) (notes : List Note) (items :
 
 -- an entry that fails
 pub failed_is : (header : Header) (journals : JournalList) (notes : List Note) (items : List Item) (gap : Gap) → OrMemory gap (FailsFirst header items gap) → IsGap header journals notes items gap
-failed_is header journals notes items G.Memory fails = tt
-failed_is header journals notes items (G.Letter taken s) fails = fails
-failed_is header journals notes items (G.Entry node ticket given) fails = fails
-failed_is header journals notes items (G.Note call ticket told k) fails = absurd fails.fails
+failed_is header journals notes items Gap.Memory fails = tt
+failed_is header journals notes items (Gap.Letter taken s) fails = fails
+failed_is header journals notes items (Gap.Entry node ticket given) fails = fails
+failed_is header journals notes items (Gap.Note call ticket told k) fails = absurd fails.fails
 
 -- ---- notes, one after the other
 pub right_more : (kept : Kepts) (notes : List Note) (place : ℕ) (note : Note) → AreRight kept notes place → slice_get notes place ≡ Some note → kept_at place kept ≡ Some note.answer → AreRight kept notes (place + 1)

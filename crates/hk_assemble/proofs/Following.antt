@@ -6,7 +6,7 @@ use Rattle.hk_base.specs.declared.call.Answer.{Answer}
 use Rattle.hk_base.specs.declared.call.Op.TheVariants.{Read}
 use Rattle.hk_base.specs.declared.letter.Letter.{Letter}
 use Rattle.hk_node.specs.declared.event.NodeEvent.{NodeEvent}
-use Rattle.hk_node.specs.declared.event.NodeEvent.TheVariants as N
+use Rattle.hk_node.specs.declared.event.NodeEvent.TheVariants as NodeEvent
 use Rattle.hk_node.specs.Stepped.{Stepped}
 use Rattle.hk_node.specs.Calls.{called}
 use Rattle.hk_node.specs.Steps.{receives, resent, replayed}
@@ -61,13 +61,13 @@ at_event w event made a is e = ap (λ (v : Event). world_step w v) (sym is) ∙ 
 
 pub event_adds : (w : WorldState) (tickets : List ℕ) (n : NodeId) (ticket : ℕ) (made : NodeEvent) (event : Event) (a : Accepted) → IsEventOf w.letters tickets n ticket made event → world_step w event ≡ Ok a → a.world.letters ≡ w.letters ++ a.shown.letters
 unfolding sent_in
-event_adds w tickets n ticket (N.Call call k op) event a is e =
+event_adds w tickets n ticket (NodeEvent.Call call k op) event a is e =
     live_step (a.world.letters ≡ w.letters ++ a.shown.letters) w a n (calls_at w n k op) (λ x found is. adds w a (calls_at w n k op x) (w.letters ++ (called x (record { 0 = w.calls + 1 }) k op).letters) is refl) (at_event w event (Call n k op) a is e)
-event_adds w tickets n ticket (N.Receive l) event a (number, is, first, to) e =
+event_adds w tickets n ticket (NodeEvent.Receive l) event a (number, is, first, to) e =
     takes_step (a.world.letters ≡ w.letters ++ a.shown.letters) w a l n to (numbered number w.letters) first.there (λ x found is. adds w a (acts w n x (receives x l)) (w.letters ++ (receives x l).letters) is refl) (at_event w event (Take number) a is e)
-event_adds w tickets n ticket (N.Resend k) event a is e =
+event_adds w tickets n ticket (NodeEvent.Resend k) event a is e =
     live_step (a.world.letters ≡ w.letters ++ a.shown.letters) w a n (λ x. acts w n x (resent x k)) (λ x found is. adds w a (acts w n x (resent x k)) (w.letters ++ (resent x k).letters) is refl) (at_event w event (Resend n k) a is e)
-event_adds w tickets n ticket (N.Replay k) event a is e =
+event_adds w tickets n ticket (NodeEvent.Replay k) event a is e =
     live_step (a.world.letters ≡ w.letters ++ a.shown.letters) w a n (λ x. acts w n x (replayed x k)) (λ x found is. adds w a (acts w n x (replayed x k)) (w.letters ++ (replayed x k).letters) is refl) (at_event w event (Replay n k) a is e)
 event_adds w tickets n ticket made event a is e = absurd is
 

@@ -11,7 +11,7 @@ use Rattle.hk_journal.specs.declared.step_entry.JournalEntry.{JournalEntry}
 use Rattle.hk_merge.specs.Reads.{IsMerged}
 use Rattle.hk_merge.specs.Merged.{Item, Step, LocalRead, In}
 use Rattle.hk_merge.specs.Same.{same_letter, SameIsEqual}
-use Rattle.hk_assemble.specs.declared.gap.Gap.TheVariants as G
+use Rattle.hk_assemble.specs.declared.gap.Gap.TheVariants as Gap
 use Rattle.hk_assemble.specs.Assembled.{IsSent, IsLeastSent, TakesUnsent}
 use Rattle.hk_assemble.specs.Taking.{is_copy, ticket_of, lower_of, least_from, is_below, IsMarred}
 
@@ -138,7 +138,7 @@ module _ (same : SameIsEqual) (letter : Letter) where
 
 -- ---- why an entry fails
 module _ (items : List Item) (node : NodeId) (entry : JournalEntry) where
-  pub unsent : (letter : Letter) (sent : Option ℕ) → IsLeastSent items letter sent → is_below sent entry.ticket ≡ false → entry.event ≡ Receive letter → IsMarred (G.Letter entry.ticket sent) items node entry
+  pub unsent : (letter : Letter) (sent : Option ℕ) → IsLeastSent items letter sent → is_below sent entry.ticket ≡ false → entry.event ≡ Receive letter → IsMarred (Gap.Letter entry.ticket sent) items node entry
   unsent letter None least below event world tickets = (letter, (event, λ t is. absurd (least t is)), refl, least)
   unsent letter (Some s) least below event world tickets = (letter, (event, λ t is. from s t entry.ticket below (least.1 t is)), refl, least)
     where
@@ -148,7 +148,7 @@ module _ (items : List Item) (node : NodeId) (entry : JournalEntry) where
   same_event : (letter l : Letter) → Receive letter ≡ Receive l → letter ≡ l
   same_event letter l e = cc
 
-  pub elsewhere : (letter : Letter) (sent : Option ℕ) → IsLeastSent items letter sent → is_below sent entry.ticket ≡ true → entry.event ≡ Receive letter → letter.to ≢ Node node → IsMarred (G.Entry node entry.ticket None) items node entry
+  pub elsewhere : (letter : Letter) (sent : Option ℕ) → IsLeastSent items letter sent → is_below sent entry.ticket ≡ true → entry.event ≡ Receive letter → letter.to ≢ Node node → IsMarred (Gap.Entry node entry.ticket None) items node entry
   elsewhere letter None least below event far world tickets = cc
   elsewhere letter (Some s) least below event far world tickets = (refl, refl, λ l takes. taken l takes, inr (letter, event, far))
     where
@@ -158,5 +158,5 @@ module _ (items : List Item) (node : NodeId) (entry : JournalEntry) where
       taken : (l : Letter) → TakesUnsent items entry l → ⊥
       taken l (is, none) = under s entry.ticket below (none s (subst (λ (x : Letter). IsSent items x s) (same_event letter l (sym event ∙ is)) least.0))
 
-  pub no_event : (IsMerged entry.event → ⊥) → IsMarred (G.Entry node entry.ticket None) items node entry
+  pub no_event : (IsMerged entry.event → ⊥) → IsMarred (Gap.Entry node entry.ticket None) items node entry
   no_event other world tickets = (refl, refl, λ l takes. other (subst (λ (e : NodeEvent). IsMerged e) (sym takes.0) tt), inl other)

@@ -13,7 +13,7 @@ use Rattle.hk_base.specs.declared.call.Reply.{Reply}
 use Rattle.hk_base.specs.declared.letter.Letter.{Letter}
 use Rattle.hk_node.specs.Node.{NodeState}
 use Rattle.hk_node.specs.declared.event.NodeEvent.{NodeEvent}
-use Rattle.hk_node.specs.declared.event.NodeEvent.TheVariants as N
+use Rattle.hk_node.specs.declared.event.NodeEvent.TheVariants as NodeEvent
 use Rattle.hk_journal.specs.declared.step_entry.JournalEntry.{JournalEntry}
 use Rattle.hk_world.specs.declared.event.Header.{Header}
 use Rattle.hk_world.specs.declared.event.Event.{Event}
@@ -34,7 +34,7 @@ use Rattle.hk_merge.specs.Single.{MergedIsSingle}
 use Rattle.hk_merge.proofs.Between.{never_both}
 use Rattle.hk_assemble.specs.declared.gap.Gap.{Gap}
 use Rattle.hk_assemble.specs.declared.gap.Given.{Given}
-use Rattle.hk_assemble.specs.declared.gap.Gap.TheVariants as G
+use Rattle.hk_assemble.specs.declared.gap.Gap.TheVariants as Gap
 use Rattle.hk_assemble.specs.Assembled.{IsSent, IsLeastSent, TakesUnsent, FailsAt, FailsFirst, IsKept, FailsNote, IsGap, IsRunOf, IsAssembled}
 use Rattle.hk_assemble.specs.Single.{IsTelling, AnswersAreOne}
 use Rattle.hk_assemble.proofs.Following.{event_adds, read_adds}
@@ -87,12 +87,12 @@ give letters replies = record { letters = letters; replies = replies }
 given_is : (a b : Given) → a.letters ≡ b.letters → a.replies ≡ b.replies → Some a ≡ Some b
 given_is a b letters replies = ap (λ (l : List Letter). Some (give l a.replies)) letters ∙ ap (λ (r : List Reply). Some (give b.letters r)) replies
 
-entry_is : {at at' : NodeId} {ticket ticket' : ℕ} {given given' : Option Given} → at ≡ at' → ticket ≡ ticket' → given ≡ given' → G.Entry at ticket given ≡ G.Entry at' ticket' given'
-entry_is {at} {at'} {ticket} {ticket'} {given} {given'} a t g = ap (λ (n : NodeId). G.Entry n ticket given) a ∙ (ap (λ (k : ℕ). G.Entry at' k given) t ∙ ap (λ (o : Option Given). G.Entry at' ticket' o) g)
+entry_is : {at at' : NodeId} {ticket ticket' : ℕ} {given given' : Option Given} → at ≡ at' → ticket ≡ ticket' → given ≡ given' → Gap.Entry at ticket given ≡ Gap.Entry at' ticket' given'
+entry_is {at} {at'} {ticket} {ticket'} {given} {given'} a t g = ap (λ (n : NodeId). Gap.Entry n ticket given) a ∙ (ap (λ (k : ℕ). Gap.Entry at' k given) t ∙ ap (λ (o : Option Given). Gap.Entry at' ticket' o) g)
 
-note_is : {call call' : CallNo} {ticket ticket' : ℕ} {told told' : Answer} {kept kept' : Option Answer} → call ≡ call' → ticket ≡ ticket' → told ≡ told' → kept ≡ kept' → G.Note call ticket told kept ≡ G.Note call' ticket' told' kept'
+note_is : {call call' : CallNo} {ticket ticket' : ℕ} {told told' : Answer} {kept kept' : Option Answer} → call ≡ call' → ticket ≡ ticket' → told ≡ told' → kept ≡ kept' → Gap.Note call ticket told kept ≡ Gap.Note call' ticket' told' kept'
 note_is {call} {call'} {ticket} {ticket'} {told} {told'} {kept} {kept'} c t d k =
-    ap (λ (n : CallNo). G.Note n ticket told kept) c ∙ (ap (λ (n : ℕ). G.Note call' n told kept) t ∙ (ap (λ (a : Answer). G.Note call' ticket' a kept) d ∙ ap (λ (o : Option Answer). G.Note call' ticket' told' o) k))
+    ap (λ (n : CallNo). Gap.Note n ticket told kept) c ∙ (ap (λ (n : ℕ). Gap.Note call' n told kept) t ∙ (ap (λ (a : Answer). Gap.Note call' ticket' a kept) d ∙ ap (λ (o : Option Answer). Gap.Note call' ticket' told' o) k))
 
 -- ---- one event for each item
 first_one : (letter : Letter) (ticket : ℕ) (letters : List Letter) (tickets : List ℕ) (n m : ℕ) → IsFirst letter ticket letters tickets n → IsFirst letter ticket letters tickets m → n ≡ m
@@ -104,10 +104,10 @@ first_one letter ticket letters tickets n m a b = by_order (which n m)
     by_order (inr (inr less)) = absurd (a.first m less b.there)
 
 event_one : (letters : List Letter) (tickets : List ℕ) (node : NodeId) (ticket : ℕ) (made : NodeEvent) (a b : Event) → IsEventOf letters tickets node ticket made a → IsEventOf letters tickets node ticket made b → a ≡ b
-event_one letters tickets node ticket (N.Call call key op) a b x y = x ∙ sym y
-event_one letters tickets node ticket (N.Receive letter) a b (n, x, fx, tx) (m, y, fy, ty) = x ∙ (ap (λ (k : ℕ). Take k) (first_one letter ticket letters tickets n m fx fy) ∙ sym y)
-event_one letters tickets node ticket (N.Resend key) a b x y = x ∙ sym y
-event_one letters tickets node ticket (N.Replay key) a b x y = x ∙ sym y
+event_one letters tickets node ticket (NodeEvent.Call call key op) a b x y = x ∙ sym y
+event_one letters tickets node ticket (NodeEvent.Receive letter) a b (n, x, fx, tx) (m, y, fy, ty) = x ∙ (ap (λ (k : ℕ). Take k) (first_one letter ticket letters tickets n m fx fy) ∙ sym y)
+event_one letters tickets node ticket (NodeEvent.Resend key) a b x y = x ∙ sym y
+event_one letters tickets node ticket (NodeEvent.Replay key) a b x y = x ∙ sym y
 event_one letters tickets node ticket made a b x y = absurd x
 
 of_one : (item : Item) (letters : List Letter) (tickets : List ℕ) (a b : Event) (sa sb : Shown) → IsOf item letters tickets a sa → IsOf item letters tickets b sb → a ≡ b
@@ -195,10 +195,10 @@ module _ (reads : ReadsAreAnswered) (all : List Item) where
 
 -- ---- an entry that goes does not fail
 is_merged : (letters : List Letter) (tickets : List ℕ) (node : NodeId) (ticket : ℕ) (made : NodeEvent) (event : Event) → IsEventOf letters tickets node ticket made event → IsMerged made
-is_merged letters tickets node ticket (N.Call call key op) event is = tt
-is_merged letters tickets node ticket (N.Receive letter) event is = tt
-is_merged letters tickets node ticket (N.Resend key) event is = tt
-is_merged letters tickets node ticket (N.Replay key) event is = tt
+is_merged letters tickets node ticket (NodeEvent.Call call key op) event is = tt
+is_merged letters tickets node ticket (NodeEvent.Receive letter) event is = tt
+is_merged letters tickets node ticket (NodeEvent.Resend key) event is = tt
+is_merged letters tickets node ticket (NodeEvent.Replay key) event is = tt
 is_merged letters tickets node ticket made event is = absurd is
 
 module _ (items : List Item) (w : WorldState) (tickets : List ℕ) (node : NodeId) (entry : JournalEntry) (sent : SentBy items w.letters tickets) where
@@ -209,15 +209,15 @@ module _ (items : List Item) (w : WorldState) (tickets : List ℕ) (node : NodeI
       by_ticket number there None drawn lower = absurd lower
       by_ticket number there (Some t) drawn lower = not_under t entry.ticket lower (none t (sent_numbered items w.letters tickets number letter t sent there drawn))
 
-      at : IsEventOf w.letters tickets node entry.ticket (N.Receive letter) event → ⊥
+      at : IsEventOf w.letters tickets node entry.ticket (NodeEvent.Receive letter) event → ⊥
       at (number, e, first, to) = by_ticket number first.there (numbered number tickets) refl first.lower
 
   goes_well : (gap : Gap) → FailsAt items w tickets node entry gap → (event : Event) (a : Accepted) → IsOf (Step node entry) w.letters tickets event a.shown → world_step w event ≡ Ok a → ⊥
-  goes_well (G.Letter taken s) (letter, takes, at, least) event a (is, letters, replies) ok = never_unsent letter takes event is
-  goes_well (G.Entry at ticket None) (here, drawn, none, inl other) event a (is, letters, replies) ok = other (is_merged w.letters tickets node entry.ticket entry.event event is)
-  goes_well (G.Entry at ticket None) (here, drawn, none, inr (letter, takes, far)) event a (is, letters, replies) ok =
+  goes_well (Gap.Letter taken s) (letter, takes, at, least) event a (is, letters, replies) ok = never_unsent letter takes event is
+  goes_well (Gap.Entry at ticket None) (here, drawn, none, inl other) event a (is, letters, replies) ok = other (is_merged w.letters tickets node entry.ticket entry.event event is)
+  goes_well (Gap.Entry at ticket None) (here, drawn, none, inr (letter, takes, far)) event a (is, letters, replies) ok =
       far (subst (λ (e : NodeEvent). IsEventOf w.letters tickets node entry.ticket e event) takes is).3
-  goes_well (G.Entry at ticket (Some given)) (here, drawn, e, ise, b, okb, differ, gl, gr) event a (is, letters, replies) ok = by_case differ
+  goes_well (Gap.Entry at ticket (Some given)) (here, drawn, e, ise, b, okb, differ, gl, gr) event a (is, letters, replies) ok = by_case differ
     where
       same : e ≡ event
       same = event_one w.letters tickets node entry.ticket entry.event e event ise is
@@ -228,16 +228,16 @@ module _ (items : List Item) (w : WorldState) (tickets : List ℕ) (node : NodeI
       by_case : (b.shown.letters ≢ entry.letters) ⊎ (answers_of b.shown.replies ≢ answers_of entry.replies) → ⊥
       by_case (inl other) = other (ap (λ (x : Accepted). x.shown.letters) one ∙ letters)
       by_case (inr other) = other (ap (λ (x : Accepted). answers_of x.shown.replies) one ∙ replies)
-  goes_well (G.Note call ticket told kept) fails event a is ok = absurd fails
-  goes_well G.Memory fails event a is ok = absurd fails
+  goes_well (Gap.Note call ticket told kept) fails event a is ok = absurd fails
+  goes_well Gap.Memory fails event a is ok = absurd fails
 
   -- an entry fails in one way
   fails_one : (x y : Gap) → FailsAt items w tickets node entry x → FailsAt items w tickets node entry y → x ≡ y
-  fails_one (G.Letter taken s) (G.Letter taken' s') (l, takes, at, least) (l', takes', at', least') =
-      ap (λ (t : ℕ). G.Letter t s) (at ∙ sym at') ∙ ap (λ (o : Option ℕ). G.Letter taken' o) (least_one s s' least (subst (λ (z : Letter). IsLeastSent items z s') (sym same) least'))
+  fails_one (Gap.Letter taken s) (Gap.Letter taken' s') (l, takes, at, least) (l', takes', at', least') =
+      ap (λ (t : ℕ). Gap.Letter t s) (at ∙ sym at') ∙ ap (λ (o : Option ℕ). Gap.Letter taken' o) (least_one s s' least (subst (λ (z : Letter). IsLeastSent items z s') (sym same) least'))
     where
       letter_or : Letter → NodeEvent → Letter
-      letter_or z (N.Receive m) = m
+      letter_or z (NodeEvent.Receive m) = m
       letter_or z e = z
 
       same : l ≡ l'
@@ -248,18 +248,18 @@ module _ (items : List Item) (w : WorldState) (tickets : List ℕ) (node : NodeI
       least_one None (Some b) x y = absurd (x b y.0)
       least_one (Some a) None x y = absurd (y a x.0)
       least_one (Some a) (Some b) x y = ap (λ (n : ℕ). Some n) (le_both a b (x.1 b y.0) (y.1 a x.0))
-  fails_one (G.Letter taken s) (G.Entry at' ticket' None) (l, takes, at, least) (here', drawn', none', why') = absurd (none' l takes)
-  fails_one (G.Letter taken s) (G.Entry at' ticket' (Some given')) (l, takes, at, least) (here', drawn', e, ise, b, okb, db, lb, rb) = absurd (never_unsent l takes e ise)
-  fails_one (G.Entry at ticket None) (G.Letter taken' s') (here, drawn, none, why) (l, takes, at', least) = absurd (none l takes)
-  fails_one (G.Entry at ticket (Some given)) (G.Letter taken' s') (here, drawn, e, ise, b, okb, db, lb, rb) (l, takes, at', least) = absurd (never_unsent l takes e ise)
-  fails_one (G.Entry at ticket None) (G.Entry at' ticket' None) (here, drawn, none, why) (here', drawn', none', why') = entry_is (here ∙ sym here') (drawn ∙ sym drawn') refl
-  fails_one (G.Entry at ticket None) (G.Entry at' ticket' (Some given')) (here, drawn, none, inl other) (here', drawn', e, ise, b, okb, db, lb, rb) = absurd (other (is_merged w.letters tickets node entry.ticket entry.event e ise))
-  fails_one (G.Entry at ticket None) (G.Entry at' ticket' (Some given')) (here, drawn, none, inr (l, takes, far)) (here', drawn', e, ise, b, okb, db, lb, rb) =
+  fails_one (Gap.Letter taken s) (Gap.Entry at' ticket' None) (l, takes, at, least) (here', drawn', none', why') = absurd (none' l takes)
+  fails_one (Gap.Letter taken s) (Gap.Entry at' ticket' (Some given')) (l, takes, at, least) (here', drawn', e, ise, b, okb, db, lb, rb) = absurd (never_unsent l takes e ise)
+  fails_one (Gap.Entry at ticket None) (Gap.Letter taken' s') (here, drawn, none, why) (l, takes, at', least) = absurd (none l takes)
+  fails_one (Gap.Entry at ticket (Some given)) (Gap.Letter taken' s') (here, drawn, e, ise, b, okb, db, lb, rb) (l, takes, at', least) = absurd (never_unsent l takes e ise)
+  fails_one (Gap.Entry at ticket None) (Gap.Entry at' ticket' None) (here, drawn, none, why) (here', drawn', none', why') = entry_is (here ∙ sym here') (drawn ∙ sym drawn') refl
+  fails_one (Gap.Entry at ticket None) (Gap.Entry at' ticket' (Some given')) (here, drawn, none, inl other) (here', drawn', e, ise, b, okb, db, lb, rb) = absurd (other (is_merged w.letters tickets node entry.ticket entry.event e ise))
+  fails_one (Gap.Entry at ticket None) (Gap.Entry at' ticket' (Some given')) (here, drawn, none, inr (l, takes, far)) (here', drawn', e, ise, b, okb, db, lb, rb) =
       absurd (far (subst (λ (v : NodeEvent). IsEventOf w.letters tickets node entry.ticket v e) takes ise).3)
-  fails_one (G.Entry at ticket (Some given)) (G.Entry at' ticket' None) (here, drawn, e, ise, b, okb, db, lb, rb) (here', drawn', none, inl other) = absurd (other (is_merged w.letters tickets node entry.ticket entry.event e ise))
-  fails_one (G.Entry at ticket (Some given)) (G.Entry at' ticket' None) (here, drawn, e, ise, b, okb, db, lb, rb) (here', drawn', none, inr (l, takes, far)) =
+  fails_one (Gap.Entry at ticket (Some given)) (Gap.Entry at' ticket' None) (here, drawn, e, ise, b, okb, db, lb, rb) (here', drawn', none, inl other) = absurd (other (is_merged w.letters tickets node entry.ticket entry.event e ise))
+  fails_one (Gap.Entry at ticket (Some given)) (Gap.Entry at' ticket' None) (here, drawn, e, ise, b, okb, db, lb, rb) (here', drawn', none, inr (l, takes, far)) =
       absurd (far (subst (λ (v : NodeEvent). IsEventOf w.letters tickets node entry.ticket v e) takes ise).3)
-  fails_one (G.Entry at ticket (Some given)) (G.Entry at' ticket' (Some given')) (here, drawn, e, ise, a, oka, da, la, ra) (here', drawn', f, isf, b, okb, db, lb, rb) =
+  fails_one (Gap.Entry at ticket (Some given)) (Gap.Entry at' ticket' (Some given')) (here, drawn, e, ise, a, oka, da, la, ra) (here', drawn', f, isf, b, okb, db, lb, rb) =
       entry_is (here ∙ sym here') (drawn ∙ sym drawn') (given_is given given' (la ∙ (ap (λ (x : Accepted). x.shown.letters) one ∙ sym lb)) (ra ∙ (ap (λ (x : Accepted). x.shown.replies) one ∙ sym rb)))
     where
       same : e ≡ f
@@ -267,10 +267,10 @@ module _ (items : List Item) (w : WorldState) (tickets : List ℕ) (node : NodeI
 
       one : a ≡ b
       one = ok_is a b (world_step w e) oka (ap (λ (v : Event). world_step w v) same ∙ okb)
-  fails_one x (G.Note call ticket told kept) fx fy = absurd fy
-  fails_one x G.Memory fx fy = absurd fy
-  fails_one (G.Note call ticket told kept) y fx fy = absurd fx
-  fails_one G.Memory y fx fy = absurd fx
+  fails_one x (Gap.Note call ticket told kept) fx fy = absurd fy
+  fails_one x Gap.Memory fx fy = absurd fy
+  fails_one (Gap.Note call ticket told kept) y fx fy = absurd fx
+  fails_one Gap.Memory y fx fy = absurd fx
 
 -- ---- two places in one list
 abbrev Places : List Item → Item → List Item → List Item → Item → List Item → Type 0
@@ -494,25 +494,25 @@ module _ (reads : ReadsAreAnswered) (shown : KeptIsShown) (header : Header) (jou
       by_order (inr (inr less)) = absurd (y.other (kept_same nb kb (Some nb.answer) y.kept_is (x.first lb nb less y.lists)))
 
   gaps_one : (x y : Gap) → IsTelling x → IsTelling y → IsGap header journals notes items x → IsGap header journals notes items y → x ≡ y
-  gaps_one G.Memory y tx ty gx gy = absurd tx
-  gaps_one x G.Memory tx ty gx gy = absurd ty
-  gaps_one (G.Letter taken s) (G.Letter taken' s') tx ty gx gy = firsts_one (G.Letter taken s) (G.Letter taken' s') gx gy
-  gaps_one (G.Letter taken s) (G.Entry at ticket given) tx ty gx gy = firsts_one (G.Letter taken s) (G.Entry at ticket given) gx gy
-  gaps_one (G.Entry at ticket given) (G.Letter taken' s') tx ty gx gy = firsts_one (G.Entry at ticket given) (G.Letter taken' s') gx gy
-  gaps_one (G.Entry at ticket given) (G.Entry at' ticket' given') tx ty gx gy = firsts_one (G.Entry at ticket given) (G.Entry at' ticket' given') gx gy
-  gaps_one (G.Letter taken s) (G.Note call ticket told kept) tx ty gx (events, last, goes, listed, note, c, t, d, f) = absurd (fails_never events last goes (G.Letter taken s) gx)
-  gaps_one (G.Entry at tick given) (G.Note call ticket told kept) tx ty gx (events, last, goes, listed, note, c, t, d, f) = absurd (fails_never events last goes (G.Entry at tick given) gx)
-  gaps_one (G.Note call ticket told kept) (G.Letter taken s) tx ty (events, last, goes, listed, note, c, t, d, f) gy = absurd (fails_never events last goes (G.Letter taken s) gy)
-  gaps_one (G.Note call ticket told kept) (G.Entry at tick given) tx ty (events, last, goes, listed, note, c, t, d, f) gy = absurd (fails_never events last goes (G.Entry at tick given) gy)
-  gaps_one (G.Note call ticket told kept) (G.Note call' ticket' told' kept') tx ty (ea, la, ga, listed, na, ca, ta, da, fa) (eb, lb, gb, listed', nb, cb, tb, db, fb) =
+  gaps_one Gap.Memory y tx ty gx gy = absurd tx
+  gaps_one x Gap.Memory tx ty gx gy = absurd ty
+  gaps_one (Gap.Letter taken s) (Gap.Letter taken' s') tx ty gx gy = firsts_one (Gap.Letter taken s) (Gap.Letter taken' s') gx gy
+  gaps_one (Gap.Letter taken s) (Gap.Entry at ticket given) tx ty gx gy = firsts_one (Gap.Letter taken s) (Gap.Entry at ticket given) gx gy
+  gaps_one (Gap.Entry at ticket given) (Gap.Letter taken' s') tx ty gx gy = firsts_one (Gap.Entry at ticket given) (Gap.Letter taken' s') gx gy
+  gaps_one (Gap.Entry at ticket given) (Gap.Entry at' ticket' given') tx ty gx gy = firsts_one (Gap.Entry at ticket given) (Gap.Entry at' ticket' given') gx gy
+  gaps_one (Gap.Letter taken s) (Gap.Note call ticket told kept) tx ty gx (events, last, goes, listed, note, c, t, d, f) = absurd (fails_never events last goes (Gap.Letter taken s) gx)
+  gaps_one (Gap.Entry at tick given) (Gap.Note call ticket told kept) tx ty gx (events, last, goes, listed, note, c, t, d, f) = absurd (fails_never events last goes (Gap.Entry at tick given) gx)
+  gaps_one (Gap.Note call ticket told kept) (Gap.Letter taken s) tx ty (events, last, goes, listed, note, c, t, d, f) gy = absurd (fails_never events last goes (Gap.Letter taken s) gy)
+  gaps_one (Gap.Note call ticket told kept) (Gap.Entry at tick given) tx ty (events, last, goes, listed, note, c, t, d, f) gy = absurd (fails_never events last goes (Gap.Entry at tick given) gy)
+  gaps_one (Gap.Note call ticket told kept) (Gap.Note call' ticket' told' kept') tx ty (ea, la, ga, listed, na, ca, ta, da, fa) (eb, lb, gb, listed', nb, cb, tb, db, fb) =
       let one = notes_one listed listed' na nb kept kept' fa fb in
       note_is (ca ∙ (ap (λ (n : Note). n.call) one.1 ∙ sym cb)) (ta ∙ (ap (λ (n : Note). n.ticket) one.1 ∙ sym tb)) (da ∙ (ap (λ (n : Note). n.answer) one.1 ∙ sym db)) one.2
 
   run_never : (run : RunState) (gap : Gap) → IsTelling gap → IsRunOf header notes items run → IsGap header journals notes items gap → ⊥
-  run_never run G.Memory tells is g = absurd tells
-  run_never run (G.Letter taken s) tells is g = fails_never run.events (world_of run) is.goes (G.Letter taken s) g
-  run_never run (G.Entry at ticket given) tells is g = fails_never run.events (world_of run) is.goes (G.Entry at ticket given) g
-  run_never run (G.Note call ticket told kept) tells is (events, last, goes, listed, note, c, t, d, f) = note_never listed note kept f run.events (world_of run) is.goes (is.told listed note f.lists)
+  run_never run Gap.Memory tells is g = absurd tells
+  run_never run (Gap.Letter taken s) tells is g = fails_never run.events (world_of run) is.goes (Gap.Letter taken s) g
+  run_never run (Gap.Entry at ticket given) tells is g = fails_never run.events (world_of run) is.goes (Gap.Entry at ticket given) g
+  run_never run (Gap.Note call ticket told kept) tells is (events, last, goes, listed, note, c, t, d, f) = note_never listed note kept f run.events (world_of run) is.goes (is.told listed note f.lists)
 
   runs_one : (a b : RunState) → IsRunOf header notes items a → IsRunOf header notes items b → a ≡ b
   runs_one a b x y =

@@ -6,7 +6,7 @@ use Rattle.hk_world.specs.declared.event.Header.{Header}
 use Rattle.hk_safety.specs.Run.{RunState, world_of}
 use Rattle.hk_merge.specs.Merged.{Item}
 use Rattle.hk_assemble.specs.declared.gap.Gap.{Gap}
-use Rattle.hk_assemble.specs.declared.gap.Gap.TheVariants as G
+use Rattle.hk_assemble.specs.declared.gap.Gap.TheVariants as Gap
 use Rattle.hk_assemble.specs.SentLetters.{Buckets}
 use Rattle.hk_assemble.specs.Assembly.{Kepts, IsAssembly}
 use Rattle.hk_assemble.specs.Assembled.{FailsFirst}
@@ -30,9 +30,9 @@ module _ {X : Type 0} (f : X → Item) (xs : List X) (i : ℕ) (x : X) (within :
 -- the item that fails is the first
 pub fails_first : (header : Header) (run : RunState) (sent : Buckets) (kept : Kepts) (front back items : List Item) (item : Item) (gap : Gap) → IsAssembly header run sent kept front → items ≡ front ++ (item ∷ back) →
     OrMemory gap (IsFailure gap run items front item) → OrMemory gap (FailsFirst header items gap)
-fails_first header run sent kept front back items item G.Memory assembly split fails = tt
-fails_first header run sent kept front back items item (G.Letter taken s) assembly split (node, entry, here, fails) =
+fails_first header run sent kept front back items item Gap.Memory assembly split fails = tt
+fails_first header run sent kept front back items item (Gap.Letter taken s) assembly split (node, entry, here, fails) =
     record { front = front; node = node; entry = entry; back = back; split = split ∙ ap (λ (x : Item). front ++ (x ∷ back)) here; events = run.events; world = world_of run; goes = assembly.goes; fails = fails }
-fails_first header run sent kept front back items item (G.Entry at ticket given) assembly split (node, entry, here, fails) =
+fails_first header run sent kept front back items item (Gap.Entry at ticket given) assembly split (node, entry, here, fails) =
     record { front = front; node = node; entry = entry; back = back; split = split ∙ ap (λ (x : Item). front ++ (x ∷ back)) here; events = run.events; world = world_of run; goes = assembly.goes; fails = fails }
-fails_first header run sent kept front back items item (G.Note call ticket told k) assembly split (node, entry, here, fails) = absurd fails
+fails_first header run sent kept front back items item (Gap.Note call ticket told k) assembly split (node, entry, here, fails) = absurd fails

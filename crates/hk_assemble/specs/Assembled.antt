@@ -17,7 +17,7 @@ use Rattle.hk_merge.specs.Merged.{JournalList, Item, Step, In, IsFounded, AreMer
 use Rattle.hk_merge.specs.Shows.{IsKeptAt, ReadShows}
 use Rattle.hk_safety.specs.Run.{RunState, world_of}
 use Rattle.hk_assemble.specs.declared.gap.Gap.{Gap}
-use Rattle.hk_assemble.specs.declared.gap.Gap.TheVariants as G
+use Rattle.hk_assemble.specs.declared.gap.Gap.TheVariants as Gap
 
 -- ---- letters that were sent
 -- an entry of this ticket sent the letter
@@ -35,13 +35,13 @@ TakesUnsent items entry letter = (entry.event ≡ Receive letter) × ((ticket : 
 
 -- ---- an entry that fails, where the run of the entries and notes before it has come to this world
 abbrev pub FailsAt : List Item → WorldState → List ℕ → NodeId → JournalEntry → Gap → Type 0
-FailsAt items world tickets node entry (G.Letter taken sent) = (letter : Letter) × TakesUnsent items entry letter × (taken ≡ entry.ticket) × IsLeastSent items letter sent
+FailsAt items world tickets node entry (Gap.Letter taken sent) = (letter : Letter) × TakesUnsent items entry letter × (taken ≡ entry.ticket) × IsLeastSent items letter sent
 -- it is no event of such a run, or its letter is to another node
-FailsAt items world tickets node entry (G.Entry at ticket None) =
+FailsAt items world tickets node entry (Gap.Entry at ticket None) =
     (at ≡ node) × (ticket ≡ entry.ticket) × ((letter : Letter) → TakesUnsent items entry letter → ⊥) ×
     ((IsMerged entry.event → ⊥) ⊎ ((letter : Letter) × (entry.event ≡ Receive letter) × (letter.to ≢ Node node)))
 -- the step of the run shows other letters or other answers
-FailsAt items world tickets node entry (G.Entry at ticket (Some given)) =
+FailsAt items world tickets node entry (Gap.Entry at ticket (Some given)) =
     (at ≡ node) × (ticket ≡ entry.ticket) × (event : Event) × IsEventOf world.letters tickets node entry.ticket entry.event event ×
     (a : Accepted) × (world_step world event ≡ Ok a) × ((a.shown.letters ≢ entry.letters) ⊎ (answers_of a.shown.replies ≢ answers_of entry.replies)) ×
     (given.letters ≡ a.shown.letters) × (given.replies ≡ a.shown.replies)
@@ -74,13 +74,13 @@ pub record FailsNote (header : Header) (journals : JournalList) (notes : List No
 
 -- ---- the cases
 abbrev pub IsGap : Header → JournalList → List Note → List Item → Gap → Type 0
-IsGap header journals notes items G.Memory = ⊤
+IsGap header journals notes items Gap.Memory = ⊤
 -- all entries go
-IsGap header journals notes items (G.Note call ticket told kept) =
+IsGap header journals notes items (Gap.Note call ticket told kept) =
     (events : List Event) × (last : WorldState) × Goes (start header) [] items events last ×
     (listed : ℕ) × (note : Note) × (call ≡ note.call) × (ticket ≡ note.ticket) × (told ≡ note.answer) × FailsNote header journals notes items listed note kept
-IsGap header journals notes items (G.Letter taken sent) = FailsFirst header items (G.Letter taken sent)
-IsGap header journals notes items (G.Entry node ticket given) = FailsFirst header items (G.Entry node ticket given)
+IsGap header journals notes items (Gap.Letter taken sent) = FailsFirst header items (Gap.Letter taken sent)
+IsGap header journals notes items (Gap.Entry node ticket given) = FailsFirst header items (Gap.Entry node ticket given)
 
 -- The events of the run are those of the items, each entry's step shows what the entry has, the numbers of calls aside, and each note is a Read with its answer.
 pub record IsRunOf (header : Header) (notes : List Note) (items : List Item) (run : RunState) : Type 0 where

@@ -6,7 +6,7 @@ use Rattle.hk_world.specs.declared.event.Header.{Header}
 use Rattle.hk_merge.specs.Merged.{Item, Step, tickets_of}
 use Rattle.hk_safety.specs.Run.{RunState, world_of}
 use Rattle.hk_assemble.specs.declared.gap.Gap.{Gap}
-use Rattle.hk_assemble.specs.declared.gap.Gap.TheVariants as G
+use Rattle.hk_assemble.specs.declared.gap.Gap.TheVariants as Gap
 use Rattle.hk_assemble.specs.declared.assembly.Assembly.{Assembly}
 use Rattle.hk_assemble.specs.Assembly.{IsAssembly}
 use Rattle.hk_assemble.specs.Assembled.{FailsAt, FailsFirst}
@@ -16,10 +16,10 @@ IsOn header assembly front = IsAssembly header assembly.run assembly.sent.entrie
 
 -- want of memory tells nothing
 abbrev pub OrMemory : Gap → Type 0 → Type 0
-OrMemory G.Memory P = ⊤
-OrMemory (G.Letter taken sent) P = P
-OrMemory (G.Entry node ticket given) P = P
-OrMemory (G.Note call ticket told kept) P = P
+OrMemory Gap.Memory P = ⊤
+OrMemory (Gap.Letter taken sent) P = P
+OrMemory (Gap.Entry node ticket given) P = P
+OrMemory (Gap.Note call ticket told kept) P = P
 
 -- the item is an entry that fails where the run has come to
 abbrev pub IsFailure : Gap → RunState → List Item → List Item → Item → Type 0

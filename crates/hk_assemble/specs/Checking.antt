@@ -3,15 +3,15 @@ use Rattle.std.specs.Prelude.{◌≡◌, ◌≢◌, ◌<◌, ⊤, ℕ, List, Opt
 use Rattle.hk_base.specs.declared.call.Answer.{Answer}
 use Rattle.hk_merge.specs.declared.note.Note.{Note}
 use Rattle.hk_assemble.specs.declared.gap.Gap.{Gap}
-use Rattle.hk_assemble.specs.declared.gap.Gap.TheVariants as G
+use Rattle.hk_assemble.specs.declared.gap.Gap.TheVariants as Gap
 use Rattle.hk_assemble.specs.Assembly.{Kepts, kept_at}
 
 -- what is told of a note that was told something else; want of memory tells nothing
 abbrev pub IsWrong : Gap → Option Answer → Note → Type 0
-IsWrong (G.Note call ticket told kept) answer note = (call ≡ note.call) × (ticket ≡ note.ticket) × (told ≡ note.answer) × (kept ≡ answer) × (answer ≢ Some note.answer)
-IsWrong G.Memory answer note = ⊤
-IsWrong (G.Letter taken sent) answer note = ⊥
-IsWrong (G.Entry node ticket given) answer note = ⊥
+IsWrong (Gap.Note call ticket told kept) answer note = (call ≡ note.call) × (ticket ≡ note.ticket) × (told ≡ note.answer) × (kept ≡ answer) × (answer ≢ Some note.answer)
+IsWrong Gap.Memory answer note = ⊤
+IsWrong (Gap.Letter taken sent) answer note = ⊥
+IsWrong (Gap.Entry node ticket given) answer note = ⊥
 
 abbrev pub IsChecked : {U : Type 0} → Result U Gap → Option Answer → Note → Type 0
 IsChecked (Ok done) answer note = answer ≡ Some note.answer

@@ -6,15 +6,15 @@ use Rattle.hk_safety.specs.Run.{RunState}
 use Rattle.hk_merge.specs.declared.note.Note.{Note}
 use Rattle.hk_merge.specs.Merged.{JournalList, Rises, journal_of}
 use Rattle.hk_assemble.specs.declared.gap.Gap.{Gap}
-use Rattle.hk_assemble.specs.declared.gap.Gap.TheVariants as G
+use Rattle.hk_assemble.specs.declared.gap.Gap.TheVariants as Gap
 use Rattle.hk_assemble.specs.Assembled.{IsAssembled}
 
 -- something is told, other than want of memory
 abbrev pub IsTelling : Gap → Type 0
-IsTelling G.Memory = ⊥
-IsTelling (G.Letter taken sent) = ⊤
-IsTelling (G.Entry node ticket given) = ⊤
-IsTelling (G.Note call ticket told kept) = ⊤
+IsTelling Gap.Memory = ⊥
+IsTelling (Gap.Letter taken sent) = ⊤
+IsTelling (Gap.Entry node ticket given) = ⊤
+IsTelling (Gap.Note call ticket told kept) = ⊤
 
 -- There is one run, or one entry or note that fails, and not both.
 pub record IsOne (header : Header) (journals : JournalList) (notes : List Note) : Type 0 where

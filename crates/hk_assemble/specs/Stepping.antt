@@ -13,12 +13,12 @@ use Rattle.hk_merge.specs.Merged.{answers_of}
 use Rattle.hk_safety.specs.Run.{RunState, world_of}
 use Rattle.hk_safety.specs.Push.{with_event}
 use Rattle.hk_assemble.specs.declared.gap.Gap.{Gap}
-use Rattle.hk_assemble.specs.declared.gap.Gap.TheVariants as G
+use Rattle.hk_assemble.specs.declared.gap.Gap.TheVariants as Gap
 
 -- the entry has these, or they are told
 abbrev pub IsCompared : {U : Type 0} → Result U Gap → List Letter → List Reply → NodeId → JournalEntry → Type 0
 IsCompared (Ok done) letters replies node entry = (letters ≡ entry.letters) × (answers_of replies ≡ answers_of entry.replies)
-IsCompared (Err (G.Entry at ticket (Some given))) letters replies node entry =
+IsCompared (Err (Gap.Entry at ticket (Some given))) letters replies node entry =
     (at ≡ node) × (ticket ≡ entry.ticket) × ((letters ≢ entry.letters) ⊎ (answers_of replies ≢ answers_of entry.replies)) × (given.letters ≡ letters) × (given.replies ≡ replies)
 IsCompared (Err gap) letters replies node entry = ⊥
 
@@ -26,10 +26,10 @@ IsCompared (Err gap) letters replies node entry = ⊥
 abbrev pub IsStepMade : {U : Type 0} → Result U Gap → RunState → RunState → Event → NodeId → JournalEntry → Type 0
 IsStepMade (Ok done) old new event node entry =
     (a : Accepted) × (world_step (world_of old) event ≡ Ok a) × (new ≡ with_event old event) × (a.shown.letters ≡ entry.letters) × (answers_of a.shown.replies ≡ answers_of entry.replies)
-IsStepMade (Err (G.Entry at ticket (Some given))) old new event node entry =
+IsStepMade (Err (Gap.Entry at ticket (Some given))) old new event node entry =
     (a : Accepted) × (world_step (world_of old) event ≡ Ok a) × (at ≡ node) × (ticket ≡ entry.ticket) ×
     ((a.shown.letters ≢ entry.letters) ⊎ (answers_of a.shown.replies ≢ answers_of entry.replies)) × (given.letters ≡ a.shown.letters) × (given.replies ≡ a.shown.replies)
-IsStepMade (Err G.Memory) old new event node entry = ⊤
+IsStepMade (Err Gap.Memory) old new event node entry = ⊤
 IsStepMade (Err gap) old new event node entry = ⊥
 
 abbrev pub IsLooked : Answer → RunState → RunState → NodeId → List ℕ → Type 0

@@ -5,7 +5,7 @@ use Rattle.hk_base.specs.declared.stamp.NodeId.{NodeId}
 use Rattle.hk_base.specs.declared.letter.Letter.{Letter}
 use Rattle.hk_base.specs.declared.letter.Actor.TheVariants.{Node}
 use Rattle.hk_node.specs.declared.event.NodeEvent.{NodeEvent}
-use Rattle.hk_node.specs.declared.event.NodeEvent.TheVariants as N
+use Rattle.hk_node.specs.declared.event.NodeEvent.TheVariants as NodeEvent
 use Rattle.hk_journal.specs.declared.step_entry.JournalEntry.{JournalEntry}
 use Rattle.hk_world.specs.declared.event.Event.{Event}
 use Rattle.hk_world.specs.declared.event.Event.TheVariants.{Call, Take, Resend, Replay}
@@ -13,7 +13,7 @@ use Rattle.hk_world.specs.World.{WorldState}
 use Rattle.hk_merge.specs.Merged.{Item, Step, LocalRead}
 use Rattle.hk_merge.specs.Same.{same_letter}
 use Rattle.hk_assemble.specs.declared.gap.Gap.{Gap}
-use Rattle.hk_assemble.specs.declared.gap.Gap.TheVariants as G
+use Rattle.hk_assemble.specs.declared.gap.Gap.TheVariants as Gap
 use Rattle.hk_assemble.specs.declared.sent.Sent.{Sent}
 use Rattle.hk_assemble.specs.SentLetters.{Buckets, found}
 use Rattle.hk_assemble.specs.Assembled.{FailsAt}
@@ -42,17 +42,17 @@ is_below (Some sent) ticket = nat_lt sent ticket
 -- ---- what is told of an entry
 -- why it fails, whatever the world is; want of memory tells nothing
 abbrev pub IsMarred : Gap → List Item → NodeId → JournalEntry → Type 0
-IsMarred G.Memory items node entry = ⊤
-IsMarred (G.Letter taken sent) items node entry = (world : WorldState) (tickets : List ℕ) → FailsAt items world tickets node entry (G.Letter taken sent)
-IsMarred (G.Entry at ticket given) items node entry = (world : WorldState) (tickets : List ℕ) → FailsAt items world tickets node entry (G.Entry at ticket given)
-IsMarred (G.Note call ticket told kept) items node entry = ⊥
+IsMarred Gap.Memory items node entry = ⊤
+IsMarred (Gap.Letter taken sent) items node entry = (world : WorldState) (tickets : List ℕ) → FailsAt items world tickets node entry (Gap.Letter taken sent)
+IsMarred (Gap.Entry at ticket given) items node entry = (world : WorldState) (tickets : List ℕ) → FailsAt items world tickets node entry (Gap.Entry at ticket given)
+IsMarred (Gap.Note call ticket told kept) items node entry = ⊥
 
 -- the event that it is, by what is kept of letters
 abbrev pub IsEventBy : Buckets → NodeId → ℕ → NodeEvent → Event → Type 0
-IsEventBy sent node ticket (N.Call call key op) event = event ≡ Call node key op
-IsEventBy sent node ticket (N.Receive letter) event = (first : Sent) × (found sent letter ≡ Some first) × (first.ticket < ticket) × (event ≡ Take first.number) × (letter.to ≡ Node node)
-IsEventBy sent node ticket (N.Resend key) event = event ≡ Resend node key
-IsEventBy sent node ticket (N.Replay key) event = event ≡ Replay node key
+IsEventBy sent node ticket (NodeEvent.Call call key op) event = event ≡ Call node key op
+IsEventBy sent node ticket (NodeEvent.Receive letter) event = (first : Sent) × (found sent letter ≡ Some first) × (first.ticket < ticket) × (event ≡ Take first.number) × (letter.to ≡ Node node)
+IsEventBy sent node ticket (NodeEvent.Resend key) event = event ≡ Resend node key
+IsEventBy sent node ticket (NodeEvent.Replay key) event = event ≡ Replay node key
 IsEventBy sent node ticket other event = ⊥
 
 abbrev pub IsEventFound : Result Event Gap → List Item → Buckets → NodeId → JournalEntry → Type 0

@@ -11,7 +11,7 @@ use Rattle.hk_request.specs.declared.request.RequestFault.{RequestFault}
 use Rattle.hk_conn.specs.declared.said.Said.{Said}
 use Rattle.hk_conn.specs.declared.said.Said.TheVariants.{Refused, LongLine}
 use Rattle.hk_conn.specs.declared.said.ReaderStep.{ReaderStep}
-use Rattle.hk_conn.specs.declared.said.ReaderStep.TheVariants.{Says, Head as AHead, Need}
+use Rattle.hk_conn.specs.declared.said.ReaderStep.TheVariants as ReaderStep
 use Rattle.hk_conn.specs.Said.{said_in, said_whole, store_at, Taken, is_last}
 
 -- a block is due where a head is kept, and else a line
@@ -29,7 +29,7 @@ pub record IsReader (c : Cutting) (pending : Option StoreHead) : Type 0 where
 
 -- the reader goes on behind a turn, unless that said that a line is too long
 abbrev pub GoesOn : ReaderStep → Cutting → Option StoreHead → Type 0
-GoesOn t c pending = t ≢ Says LongLine → IsReader c pending
+GoesOn t c pending = t ≢ ReaderStep.Says LongLine → IsReader c pending
 
 -- the bytes that are unread, once more came
 abbrev pub bytes_with : Cutting → List ℕ → List ℕ
@@ -49,20 +49,20 @@ abbrev pub ahead : Option StoreHead → Cutting → List ℕ → List Said
 ahead pending c more = said_after pending (bytes_with c more)
 
 abbrev pub onto_turn : ReaderStep → List Said → List Said
-onto_turn (Says s) rest = s ∷ (if is_last s then [] else rest)
-onto_turn AHead rest = rest
-onto_turn Need rest = rest
+onto_turn (ReaderStep.Says s) rest = s ∷ (if is_last s then [] else rest)
+onto_turn ReaderStep.Head rest = rest
+onto_turn ReaderStep.Need rest = rest
 
 -- less is unread after a turn that said something and was not the last
 abbrev pub IsLess : ReaderStep → ℕ → ℕ → Type 0
-IsLess (Says s) n m = is_last s ≡ false → n < m
-IsLess AHead n m = n < m
-IsLess Need n m = Unit {0}
+IsLess (ReaderStep.Says s) n m = is_last s ≡ false → n < m
+IsLess ReaderStep.Head n m = n < m
+IsLess ReaderStep.Need n m = Unit {0}
 
 -- a turn gives what is said next, whatever comes
 pub record Turns (t : ReaderStep) (p : Option StoreHead) (c : Cutting) (p' : Option StoreHead) (c' : Cutting) : Type 0 where
   pub next : (more : List ℕ) → ahead p c more ≡ onto_turn t (ahead p' c' more)
-  pub need : t ≡ Need → ahead p' c' [] ≡ []
+  pub need : t ≡ ReaderStep.Need → ahead p' c' [] ≡ []
   pub less : IsLess t (length c'.unread) (length c.unread)
 
 -- what is said by a line and the bytes behind it
@@ -74,5 +74,5 @@ after_line (Ok (Store h)) bytes = said_after (Some h) bytes
 -- a turn gives what a line says, whatever comes
 pub record LineTurns (t : ReaderStep) (line : Result Head RequestFault) (c : Cutting) (p' : Option StoreHead) (c' : Cutting) : Type 0 where
   pub next : (more : List ℕ) → after_line line (bytes_with c more) ≡ onto_turn t (ahead p' c' more)
-  pub some : t ≡ Need → ⊥
+  pub some : t ≡ ReaderStep.Need → ⊥
   pub less : length c'.unread ≤ length c.unread

@@ -7,7 +7,7 @@ use Rattle.hk_manager.specs.declared.event.ManagerEvent.{ManagerEvent}
 use Rattle.hk_manager.specs.Laws.{OfStep}
 use Rattle.hk_manager.specs.Manager.{ManagerState}
 use Rattle.hk_manager.specs.Sound.{manager_new}
-use Rattle.hk_manager.specs.Steps.{Stepped, manager_step}
+use Rattle.hk_manager.specs.Steps.{ManagerStepped, manager_step}
 use Rattle.hk_council.specs.Council.{Council, IsNode, WasSent, learned_with, start}
 use Rattle.hk_council.proofs.Learning.{Sound, Outcome, after, outcome_sound}
 use Rattle.hk_council.proofs.Handlers.{step_fine}
@@ -31,7 +31,7 @@ module _ (managers : ℕ) where
   begins d lease first one manager sent learned = same_sound (start managers lease first) d (λ n. sym (manager n)) (sym sent) (sym learned) (start_sound managers lease first one)
 
   -- manager m makes a step
-  pub steps : (c d : Council) → Sound managers c → (m : ℕ) → m < managers → (event : ManagerEvent) → WasSent c event → (stepped : Stepped) → manager_step (c.manager m) event ≡ Ok stepped →
+  pub steps : (c d : Council) → Sound managers c → (m : ℕ) → m < managers → (event : ManagerEvent) → WasSent c event → (stepped : ManagerStepped) → manager_step (c.manager m) event ≡ Ok stepped →
       ((n : ℕ) → d.manager n ≡ put m stepped.manager c.manager n) → d.sent ≡ c.sent ++ stepped.letters → d.learned ≡ learned_with c.learned stepped.manager.held → Sound managers d
   steps c d sound m known event was stepped made manager sent learned =
       let fine : OfStep (Outcome managers c m) (Ok stepped) = subst (OfStep (Outcome managers c m)) made (step_fine managers c sound m known event was) in

@@ -11,14 +11,14 @@ use Rattle.hk_base.specs.declared.view.Voted.{Voted}
 use Rattle.hk_base.specs.declared.letter.Actor.{Actor}
 use Rattle.hk_base.specs.declared.letter.Actor.TheVariants.{Node, Manager}
 use Rattle.hk_base.specs.declared.letter.Body.{Body}
-use Rattle.hk_base.specs.declared.letter.Body.TheVariants.{Inv, Ack, Val, CopyAsk, CopyGive, LeaseAsk, LeaseGive, Prepare, Promise as PromiseBody, Accept, Accepted, Chosen, Activate as ActivateBody}
+use Rattle.hk_base.specs.declared.letter.Body.TheVariants as Body
 use Rattle.hk_base.specs.declared.letter.Letter.{Letter}
 use Rattle.hk_paxos.specs.declared.acceptor.Promise.{Promise}
 use Rattle.hk_paxos.specs.declared.proposer.Proposer.{Proposer}
 use Rattle.hk_paxos.specs.Paxos.{stays, acceptor_on_prepare, acceptor_on_accept, proposer_new, proposer_on_promise, proposer_on_accepted, counts_promise, counts_acceptance, with_promise, with_acceptance, has_promises, has_acceptances, value_of}
-use Rattle.hk_paxos.specs.Run.{Letter as PaxosLetter, State as PaxosState, In, put, on_promise, on_accepted}
-use Rattle.hk_paxos.specs.Run.Letter.{PrepareLetter, PromiseLetter, AcceptLetter, AcceptedLetter, ChosenLetter}
-use Rattle.hk_paxos.specs.Run.Event.{Propose as ProposeEvent}
+use Rattle.hk_paxos.specs.Run.{PaxosLetter, PaxosState, In, put, on_promise, on_accepted}
+use Rattle.hk_paxos.specs.Run.PaxosLetter.{PrepareLetter, PromiseLetter, AcceptLetter, AcceptedLetter, ChosenLetter}
+use Rattle.hk_paxos.specs.Run.PaxosEvent.{Propose as ProposeEvent}
 use Rattle.hk_lease.specs.declared.grants.NotPast.{NotPast as StillRuns}
 use Rattle.hk_lease.specs.Grants.{with_grant}
 use Rattle.hk_lease.specs.Past.{is_member, past_answer}
@@ -33,7 +33,7 @@ use Rattle.hk_manager.specs.Manager.{ManagerState, instance_at, with_instance}
 use Rattle.hk_manager.specs.Changes.{changed, change_fault}
 use Rattle.hk_manager.specs.Laws.{OfStep}
 use Rattle.hk_manager.specs.Sends.{letter_to, to_all, to_others, to_members, told_all}
-use Rattle.hk_manager.specs.Steps.{Stepped, sends, idle, learns, promise_body, prepares, accepts, counts_promise as takes_promise, reports, counts_acceptance as takes_acceptance, proposal_in, at_proposal, asks_lease, is_too_late, from_node, from_manager, is_addressed, receives_from, receives, begins, begins_unless, proposes, activates_by, manager_step}
+use Rattle.hk_manager.specs.Steps.{ManagerStepped, sends, idle, learns, promise_body, prepares, accepts, counts_promise as takes_promise, reports, counts_acceptance as takes_acceptance, proposal_in, at_proposal, asks_lease, is_too_late, from_node, from_manager, is_addressed, receives_from, receives, begins, begins_unless, proposes, activates_by, manager_step}
 use Rattle.hk_council.specs.Council.{Council, WasSent}
 use Rattle.hk_council.specs.Agreed.{IsOneOf}
 use Rattle.hk_council.proofs.Chains.{change_epoch}
@@ -61,23 +61,23 @@ no_prepare None letter none ballot h = h
 no_prepare (Some v) letter none ballot (inl is) = none v ballot (sym is)
 no_prepare (Some v) letter none ballot (inr h) = h
 
-same_view : (v w : View) → Chosen v ≡ Chosen w → v ≡ w
+same_view : (v w : View) → Body.Chosen v ≡ Body.Chosen w → v ≡ w
 same_view v w e = cc
 
 same_prepared : (a b : Ballot) → PrepareLetter a ≡ PrepareLetter b → a ≡ b
 same_prepared a b e = cc
 
-same_activated : (v w : View) → ActivateBody v ≡ ActivateBody w → v ≡ w
+same_activated : (v w : View) → Body.Activate v ≡ Body.Activate w → v ≡ w
 same_activated v w e = cc
 
 module _ (managers : ℕ) (c : Council) (sound : Sound managers c) (m : ℕ) (known : m < managers) where
   abbrev M : ManagerState
   M = c.manager m
 
-  abbrev Fine : Stepped → Type 0
+  abbrev Fine : ManagerStepped → Type 0
   Fine stepped = Outcome managers c m stepped
 
-  choice : (b : Bool) (x y : Stepped) → Fine x → Fine y → Fine (cond b x y)
+  choice : (b : Bool) (x y : ManagerStepped) → Fine x → Fine y → Fine (cond b x y)
   choice true x y p q = p
   choice false x y p q = q
 
@@ -96,7 +96,7 @@ module _ (managers : ℕ) (c : Council) (sound : Sound managers c) (m : ℕ) (kn
 
   accept_fine : (e : ℕ) (ballot : Ballot) (view : View) → In (sound.runs e).state.sent (AcceptLetter ballot view) → Fine (accepts M e ballot view)
   accept_fine e ballot view h =
-      acceptor_outcome managers c sound m known e (AcceptLetter ballot view) (λ a. acceptor_on_accept a ballot view) (λ at. AcceptedLetter m (record { ballot = at; view = view })) (λ at. Accepted at) ballot.round h
+      acceptor_outcome managers c sound m known e (AcceptLetter ballot view) (λ a. acceptor_on_accept a ballot view) (λ at. AcceptedLetter m (record { ballot = at; view = view })) (λ at. Body.Accepted at) ballot.round h
       (λ st. refl) (λ a b is. absurd cc) (λ a sent k. (view, k)) (λ a v is. absurd cc) (λ a v is. absurd cc)
 
   module _ (e : ℕ) (p : Proposer) (is : M.proposal ≡ Some p) (of : p.epoch ≡ e) where
@@ -105,15 +105,15 @@ module _ (managers : ℕ) (c : Council) (sound : Sound managers c) (m : ℕ) (kn
       offered = option_to_list (option_map (λ view. AcceptLetter p.ballot view) (proposer_on_promise p from promise).answer)
 
       abbrev offers : List Letter
-      offers = told_all M p.epoch (option_map (λ view. Accept p.ballot view) (proposer_on_promise p from promise).answer)
+      offers = told_all M p.epoch (option_map (λ view. Body.Accept p.ballot view) (proposer_on_promise p from promise).answer)
 
       offers_spoken : (l : Letter) → In offers l → Spoken e m (offered ++ (sound.runs e).state.sent) l
       offers_spoken l k = subst (λ (x : ℕ). Spoken x m (offered ++ (sound.runs e).state.sent) l) of
-          (told M p.epoch m (proposer_on_promise p from promise).answer (λ view. Accept p.ballot view) (λ view. AcceptLetter p.ballot view) (sound.runs e).state.sent (sound.ids m) (λ a sent g. g) (λ a v g. absurd cc) l k)
+          (told M p.epoch m (proposer_on_promise p from promise).answer (λ view. Body.Accept p.ballot view) (λ view. AcceptLetter p.ballot view) (sound.runs e).state.sent (sound.ids m) (λ a sent g. g) (λ a v g. absurd cc) l k)
 
-      offers_none : (answer : Option View) (l : Letter) (v : View) → In (told_all M p.epoch (option_map (λ view. Accept p.ballot view) answer)) l → l.body ≡ Chosen v → ⊥
+      offers_none : (answer : Option View) (l : Letter) (v : View) → In (told_all M p.epoch (option_map (λ view. Body.Accept p.ballot view) answer)) l → l.body ≡ Body.Chosen v → ⊥
       offers_none None l v k says = k
-      offers_none (Some view) l v k says = let s = all_say M p.epoch (Accept p.ballot view) l k in let b : Accept p.ballot view ≡ Chosen v = ap (λ (x : Letter). x.body) (sym s.1) ∙ says in absurd cc
+      offers_none (Some view) l v k says = let s = all_say M p.epoch (Body.Accept p.ballot view) l k in let b : Body.Accept p.ballot view ≡ Body.Chosen v = ap (λ (x : Letter). x.body) (sym s.1) ∙ says in absurd cc
 
       offer_moves : Moves managers c.manager c.sent c.learned m (record M { proposal = Some (proposer_on_promise p from promise).after }) offers e (sound.runs e).state
       offer_moves =
@@ -155,14 +155,14 @@ module _ (managers : ℕ) (c : Council) (sound : Sound managers c) (m : ℕ) (kn
             change_epoch f.before view f.change ∙ f.earlier
 
         abbrev letters : List Letter
-        letters = to_others now view.epoch (Chosen view)
+        letters = to_others now view.epoch (Body.Chosen view)
 
         spoken : (l : Letter) → In letters l → Spoken e m (new ++ (sound.runs e).state.sent) l
         spoken l k = subst (λ (x : ℕ). Spoken x m (new ++ (sound.runs e).state.sent) l) epoch
-            (spoken_at now view.epoch m (new ++ (sound.runs e).state.sent) (Chosen view) l (sound.ids m) (others_say now view.epoch (Chosen view) l k) there (λ v g. absurd cc))
+            (spoken_at now view.epoch m (new ++ (sound.runs e).state.sent) (Body.Chosen view) l (sound.ids m) (others_say now view.epoch (Body.Chosen view) l k) there (λ v g. absurd cc))
 
-        said : (l : Letter) (v : View) → In letters l → l.body ≡ Chosen v → view ≡ v
-        said l v k says = let s = others_say now view.epoch (Chosen view) l k in same_view view v (ap (λ (x : Letter). x.body) (sym s.1) ∙ says)
+        said : (l : Letter) (v : View) → In letters l → l.body ≡ Body.Chosen v → view ≡ v
+        said l v k says = let s = others_say now view.epoch (Body.Chosen view) l k in same_view view v (ap (λ (x : Letter). x.body) (sym s.1) ∙ says)
 
         report_fine : Fine (learns now view letters)
         report_fine = at (nat_lt M.held.epoch view.epoch) refl
@@ -182,7 +182,7 @@ module _ (managers : ℕ) (c : Council) (sound : Sound managers c) (m : ℕ) (kn
           at None g = moving managers c sound m known now [] None e (moves_to now [] refl refl (λ l k. absurd k)) refl refl (inl refl) (le_refl M.held.epoch) (λ l v k says. absurd k) (λ l v k says. k)
           at (Some view) g = report_fine view g
 
-  at_proposal_fine : (e : ℕ) (step : Proposer → Stepped) → ((p : Proposer) → M.proposal ≡ Some p → p.epoch ≡ e → Fine (step p)) → Fine (at_proposal (proposal_in M.proposal e) M step)
+  at_proposal_fine : (e : ℕ) (step : Proposer → ManagerStepped) → ((p : Proposer) → M.proposal ≡ Some p → p.epoch ≡ e → Fine (step p)) → Fine (at_proposal (proposal_in M.proposal e) M step)
   at_proposal_fine e step each = at M.proposal refl
     where
       at : (o : Option Proposer) → M.proposal ≡ o → Fine (at_proposal (proposal_in o e) M step)
@@ -202,47 +202,47 @@ module _ (managers : ℕ) (c : Council) (sound : Sound managers c) (m : ℕ) (kn
 
   -- a manager's letter
   manager_fine : (l : Letter) (from : ℕ) (body : Body) → IsOneOf (sound.runs l.epoch).state.sent from body → Fine (from_manager body M l.epoch from)
-  manager_fine l from (Prepare ballot) one = choice (is_too_late ballot) (idle M) (prepares M l.epoch ballot) nothing (prepare_fine l.epoch ballot one)
-  manager_fine l from (PromiseBody ballot vote) one =
+  manager_fine l from (Body.Prepare ballot) one = choice (is_too_late ballot) (idle M) (prepares M l.epoch ballot) nothing (prepare_fine l.epoch ballot one)
+  manager_fine l from (Body.Promise ballot vote) one =
       at_proposal_fine l.epoch (λ p. takes_promise p M from (record { ballot = ballot; accepted = vote })) (λ p is of. promise_fine l.epoch p is of from (record { ballot = ballot; accepted = vote }) one)
-  manager_fine l from (Accept ballot view) one = choice (is_too_late ballot) (idle M) (accepts M l.epoch ballot view) nothing (accept_fine l.epoch ballot view one)
-  manager_fine l from (Accepted ballot) one =
+  manager_fine l from (Body.Accept ballot view) one = choice (is_too_late ballot) (idle M) (accepts M l.epoch ballot view) nothing (accept_fine l.epoch ballot view one)
+  manager_fine l from (Body.Accepted ballot) one =
       at_proposal_fine l.epoch (λ p. takes_acceptance p M from ballot) (λ p is of. acceptance_fine l.epoch p is of from (record { ballot = ballot; view = one.0 }) one.1)
-  manager_fine l from (Chosen view) one = chosen_fine l.epoch view one
-  manager_fine l from (LeaseAsk asked) one = nothing
-  manager_fine l from (Inv key s kind content) one = nothing
-  manager_fine l from (Ack key s top) one = nothing
-  manager_fine l from (Val key s) one = nothing
-  manager_fine l from (CopyAsk after room) one = nothing
-  manager_fine l from (CopyGive after done items) one = nothing
-  manager_fine l from (LeaseGive end) one = nothing
-  manager_fine l from (ActivateBody view) one = nothing
+  manager_fine l from (Body.Chosen view) one = chosen_fine l.epoch view one
+  manager_fine l from (Body.LeaseAsk asked) one = nothing
+  manager_fine l from (Body.Inv key s kind content) one = nothing
+  manager_fine l from (Body.Ack key s top) one = nothing
+  manager_fine l from (Body.Val key s) one = nothing
+  manager_fine l from (Body.CopyAsk after room) one = nothing
+  manager_fine l from (Body.CopyGive after done items) one = nothing
+  manager_fine l from (Body.LeaseGive end) one = nothing
+  manager_fine l from (Body.Activate view) one = nothing
 
   -- ---- leases
   ask_fine : (from : NodeId) (asked : ℕ) → Fine (asks_lease M from asked)
   ask_fine from asked = choice (is_member M.held from) _ (idle M)
-      (quiet managers c sound m known (record M { untils = with_grant M.untils from (M.clock + wait M.lease) }) (letter_to M M.held.epoch (LeaseGive (min (asked + M.lease) MAX_TIME)) (Node from) ∷ []) None
+      (quiet managers c sound m known (record M { untils = with_grant M.untils from (M.clock + wait M.lease) }) (letter_to M M.held.epoch (Body.LeaseGive (min (asked + M.lease) MAX_TIME)) (Node from) ∷ []) None
       refl refl refl refl (inl refl) (le_refl M.held.epoch) each) nothing
     where
-      each : (l : Letter) → In (letter_to M M.held.epoch (LeaseGive (min (asked + M.lease) MAX_TIME)) (Node from) ∷ []) l →
-          (l.from ≡ Manager m) × ((sent : List PaxosLetter) (n : ℕ) → IsOneOf sent n l.body) × ((v : View) → l.body ≡ ActivateBody v → (v ≡ M.held) × (v.epoch ≡ l.epoch))
+      each : (l : Letter) → In (letter_to M M.held.epoch (Body.LeaseGive (min (asked + M.lease) MAX_TIME)) (Node from) ∷ []) l →
+          (l.from ≡ Manager m) × ((sent : List PaxosLetter) (n : ℕ) → IsOneOf sent n l.body) × ((v : View) → l.body ≡ Body.Activate v → (v ≡ M.held) × (v.epoch ≡ l.epoch))
       each l (inl g) = rw g (ap Manager (sound.ids m), (λ sent n. tt), (λ v says. absurd cc))
       each l (inr h) = absurd h
 
   node_fine : (body : Body) (from : NodeId) → Fine (from_node body M from)
-  node_fine (LeaseAsk asked) from = ask_fine from asked
-  node_fine (Inv key s kind content) from = nothing
-  node_fine (Ack key s top) from = nothing
-  node_fine (Val key s) from = nothing
-  node_fine (CopyAsk after room) from = nothing
-  node_fine (CopyGive after done items) from = nothing
-  node_fine (LeaseGive end) from = nothing
-  node_fine (Prepare ballot) from = nothing
-  node_fine (PromiseBody ballot vote) from = nothing
-  node_fine (Accept ballot view) from = nothing
-  node_fine (Accepted ballot) from = nothing
-  node_fine (Chosen view) from = nothing
-  node_fine (ActivateBody view) from = nothing
+  node_fine (Body.LeaseAsk asked) from = ask_fine from asked
+  node_fine (Body.Inv key s kind content) from = nothing
+  node_fine (Body.Ack key s top) from = nothing
+  node_fine (Body.Val key s) from = nothing
+  node_fine (Body.CopyAsk after room) from = nothing
+  node_fine (Body.CopyGive after done items) from = nothing
+  node_fine (Body.LeaseGive end) from = nothing
+  node_fine (Body.Prepare ballot) from = nothing
+  node_fine (Body.Promise ballot vote) from = nothing
+  node_fine (Body.Accept ballot view) from = nothing
+  node_fine (Body.Accepted ballot) from = nothing
+  node_fine (Body.Chosen view) from = nothing
+  node_fine (Body.Activate view) from = nothing
 
   receive_fine : (l : Letter) → In c.sent l → Fine (receives M l)
   receive_fine l h = choice (is_addressed M l.to && nat_le l.epoch MAX_EPOCH) (receives_from l.from M l) (idle M) (by l.from refl) nothing
@@ -254,12 +254,12 @@ module _ (managers : ℕ) (c : Council) (sound : Sound managers c) (m : ℕ) (kn
   -- ---- views that begin
   activate_fine : (past : Result Unit StillRuns) → OfStep Fine (activates_by past M)
   activate_fine (Err running) = tt
-  activate_fine (Ok past) = quiet managers c sound m known M (to_members M M.held.epoch (ActivateBody M.held)) None refl refl refl refl (inl refl) (le_refl M.held.epoch) each
+  activate_fine (Ok past) = quiet managers c sound m known M (to_members M M.held.epoch (Body.Activate M.held)) None refl refl refl refl (inl refl) (le_refl M.held.epoch) each
     where
-      each : (l : Letter) → In (to_members M M.held.epoch (ActivateBody M.held)) l →
-          (l.from ≡ Manager m) × ((sent : List PaxosLetter) (n : ℕ) → IsOneOf sent n l.body) × ((v : View) → l.body ≡ ActivateBody v → (v ≡ M.held) × (v.epoch ≡ l.epoch))
+      each : (l : Letter) → In (to_members M M.held.epoch (Body.Activate M.held)) l →
+          (l.from ≡ Manager m) × ((sent : List PaxosLetter) (n : ℕ) → IsOneOf sent n l.body) × ((v : View) → l.body ≡ Body.Activate v → (v ≡ M.held) × (v.epoch ≡ l.epoch))
       each l h =
-          let s = members_say M M.held.epoch (ActivateBody M.held) l h in
+          let s = members_say M M.held.epoch (Body.Activate M.held) l h in
           rw s.1 (ap Manager (sound.ids m), (λ sent n. tt), (λ v says. (sym (same_activated M.held v says), ap (λ (x : View). x.epoch) (sym (same_activated M.held v says)))))
 
   -- ---- proposals
@@ -283,7 +283,7 @@ module _ (managers : ℕ) (c : Council) (sound : Sound managers c) (m : ℕ) (kn
     begun = record (with_instance M (M.held.epoch + 1) instance) { proposal = Some proposer }
 
     abbrev asks : List Letter
-    asks = to_all M (M.held.epoch + 1) (Prepare ballot)
+    asks = to_all M (M.held.epoch + 1) (Body.Prepare ballot)
 
     abbrev st : PaxosState
     st = (sound.runs (M.held.epoch + 1)).state
@@ -304,10 +304,10 @@ module _ (managers : ℕ) (c : Council) (sound : Sound managers c) (m : ℕ) (kn
     same_some x y h = cc
 
     asks_spoken : (l : Letter) → In asks l → Spoken e m (PrepareLetter own ∷ st.sent) l
-    asks_spoken l k = spoken_at M e m (PrepareLetter own ∷ st.sent) (Prepare ballot) l (sound.ids m) (all_say M e (Prepare ballot) l k) (inl (ap PrepareLetter same_ballot)) (λ v g. absurd cc)
+    asks_spoken l k = spoken_at M e m (PrepareLetter own ∷ st.sent) (Body.Prepare ballot) l (sound.ids m) (all_say M e (Body.Prepare ballot) l k) (inl (ap PrepareLetter same_ballot)) (λ v g. absurd cc)
 
-    asks_report_none : (l : Letter) (v : View) → In asks l → l.body ≡ Chosen v → ⊥
-    asks_report_none l v k says = let s = all_say M e (Prepare ballot) l k in let b : Prepare ballot ≡ Chosen v = ap (λ (x : Letter). x.body) (sym s.1) ∙ says in absurd cc
+    asks_report_none : (l : Letter) (v : View) → In asks l → l.body ≡ Body.Chosen v → ⊥
+    asks_report_none l v k says = let s = all_say M e (Body.Prepare ballot) l k in let b : Body.Prepare ballot ≡ Body.Chosen v = ap (λ (x : Letter). x.body) (sym s.1) ∙ says in absurd cc
 
     numbers : (r n k j : ℕ) → ballot_of r n ≡ ballot_of k j → (n ≡ j) × (r ≡ k)
     numbers r n k j h = let b = same_prepared (record { round = r; manager = n }) (record { round = k; manager = j }) h in (ap (λ (x : Ballot). x.manager) b, ap (λ (x : Ballot). x.round) b)

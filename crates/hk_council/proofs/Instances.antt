@@ -12,8 +12,8 @@ use Rattle.hk_base.specs.declared.letter.Body.{Body}
 use Rattle.hk_base.specs.declared.letter.Body.TheVariants.{Inv, Ack, Val, CopyAsk, CopyGive, LeaseAsk, LeaseGive, Prepare, Promise, Accept, Accepted, Chosen, Activate}
 use Rattle.hk_base.specs.declared.letter.Letter.{Letter}
 use Rattle.hk_paxos.specs.declared.proposer.Proposer.{Proposer}
-use Rattle.hk_paxos.specs.Run.{Letter as PaxosLetter, State as PaxosState, Event as PaxosEvent, In, put, next, MayHappen, IsRun as IsPaxosRun, last_state, IsChosen, Agrees, start as paxos_start}
-use Rattle.hk_paxos.specs.Run.Letter.{PrepareLetter}
+use Rattle.hk_paxos.specs.Run.{PaxosLetter, PaxosState, PaxosEvent, In, put, next, MayHappen, IsPaxosRun, last_state, IsChosen, Agrees, paxos_start}
+use Rattle.hk_paxos.specs.Run.PaxosLetter.{PrepareLetter}
 use Rattle.hk_paxos.proofs.Quorums.{in_either}
 use Rattle.hk_paxos.proofs.Runs.{last_with, run_with}
 use Rattle.hk_paxos.proofs.Events.{agreement}

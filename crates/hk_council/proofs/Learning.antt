@@ -7,10 +7,10 @@ use Rattle.hk_base.specs.declared.letter.Body.{Body}
 use Rattle.hk_base.specs.declared.letter.Body.TheVariants.{Chosen, Activate}
 use Rattle.hk_base.specs.declared.letter.Letter.{Letter}
 use Rattle.hk_paxos.specs.Run.{In, put, IsChosen}
-use Rattle.hk_paxos.specs.Run.Letter.{ChosenLetter}
+use Rattle.hk_paxos.specs.Run.PaxosLetter.{ChosenLetter}
 use Rattle.hk_paxos.proofs.Quorums.{in_either, in_right}
 use Rattle.hk_manager.specs.Manager.{ManagerState}
-use Rattle.hk_manager.specs.Steps.{Stepped}
+use Rattle.hk_manager.specs.Steps.{ManagerStepped}
 use Rattle.hk_council.specs.Chain.{IsChain, Follows}
 use Rattle.hk_council.specs.Council.{Council, last_epoch, learned_with}
 use Rattle.hk_council.specs.Agreed.{IsOneOf}
@@ -112,7 +112,7 @@ module _ (managers : ℕ) where
         (λ (low : v.epoch ≤ last_epoch learned). learned_keeps learned held v (is_known e v r low)) (cases_lt (last_epoch learned) v.epoch)
 
   -- what is known of a step of manager m
-  pub record Outcome (c : Council) (m : ℕ) (stepped : Stepped) : Type 0 where
+  pub record Outcome (c : Council) (m : ℕ) (stepped : ManagerStepped) : Type 0 where
     pub id : stepped.manager.id ≡ (c.manager m).id
     pub count : stepped.manager.managers ≡ (c.manager m).managers
     pub runs : (f : ℕ) → InstanceRun managers (put m stepped.manager c.manager) (c.sent ++ stepped.letters) c.learned f
@@ -123,13 +123,13 @@ module _ (managers : ℕ) where
     pub reports : (l : Letter) (v : View) → In stepped.letters l → l.body ≡ Chosen v → v.epoch ≤ stepped.manager.held.epoch
     pub begins : (l : Letter) (v : View) → In stepped.letters l → l.body ≡ Activate v → (v ≡ (c.manager m).held) × (v.epoch ≡ l.epoch)
 
-  abbrev pub after : Council → ℕ → Stepped → Council
+  abbrev pub after : Council → ℕ → ManagerStepped → Council
   after c m stepped = record c { manager = put m stepped.manager c.manager; sent = c.sent ++ stepped.letters; learned = learned_with c.learned stepped.manager.held }
 
   same_manager : (m n : ℕ) → Manager m ≡ Manager n → n ≡ m
   same_manager m n e = cc
 
-  module _ (c : Council) (sound : Sound c) (m : ℕ) (stepped : Stepped) (o : Outcome c m stepped) where
+  module _ (c : Council) (sound : Sound c) (m : ℕ) (stepped : ManagerStepped) (o : Outcome c m stepped) where
     found : In c.learned stepped.manager.held ⊎ IsNew (put m stepped.manager c.manager) (c.sent ++ stepped.letters) c.learned sound.chain o.runs stepped.manager.held
     found = ⊎_elim
         (λ (e : stepped.manager.held ≡ (c.manager m).held). inl (subst (λ (v : View). In c.learned v) (sym e) (sound.held m)))

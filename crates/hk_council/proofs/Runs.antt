@@ -7,12 +7,12 @@ use Rattle.hk_base.specs.declared.letter.Actor.TheVariants.{Node, Manager}
 use Rattle.hk_base.specs.declared.letter.Body.{Body}
 use Rattle.hk_base.specs.declared.letter.Body.TheVariants.{Inv, Ack, Val, CopyAsk, CopyGive, LeaseAsk, LeaseGive, Prepare, Promise, Accept, Accepted, Chosen, Activate}
 use Rattle.hk_base.specs.declared.letter.Letter.{Letter}
-use Rattle.hk_paxos.specs.Run.{State as PaxosState, In, IsChosen, start as paxos_start}
-use Rattle.hk_paxos.specs.Run.Letter.{AcceptedLetter}
+use Rattle.hk_paxos.specs.Run.{PaxosState, In, IsChosen, paxos_start}
+use Rattle.hk_paxos.specs.Run.PaxosLetter.{AcceptedLetter}
 use Rattle.hk_paxos.proofs.Quorums.{in_either}
 use Rattle.hk_manager.specs.declared.fault.ManagerFault.{ManagerFault}
 use Rattle.hk_manager.specs.Laws.{OfStep}
-use Rattle.hk_manager.specs.Steps.{Stepped, manager_step}
+use Rattle.hk_manager.specs.Steps.{ManagerStepped, manager_step}
 use Rattle.hk_council.specs.Chain.{Follows}
 use Rattle.hk_council.specs.Council.{Council, Event, IsNode, stepped_by, next, MayHappen, IsRun, last_council, start}
 use Rattle.hk_council.specs.Council.Event.{Step, Post, Stop}
@@ -28,7 +28,7 @@ no_manager (Manager manager) n is e = is
 
 module _ (managers : ℕ) where
   -- ---- one event
-  step_sound : (c : Council) → Sound managers c → (m : ℕ) (result : Result Stepped ManagerFault) → OfStep (Outcome managers c m) result → Sound managers (stepped_by c m result)
+  step_sound : (c : Council) → Sound managers c → (m : ℕ) (result : Result ManagerStepped ManagerFault) → OfStep (Outcome managers c m) result → Sound managers (stepped_by c m result)
   step_sound c sound m (Err fault) fine = sound
   step_sound c sound m (Ok stepped) fine = outcome_sound managers c sound m stepped fine
 

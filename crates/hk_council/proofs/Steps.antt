@@ -9,14 +9,14 @@ use Rattle.hk_base.specs.declared.view.View.{View}
 use Rattle.hk_base.specs.declared.letter.Actor.{Actor}
 use Rattle.hk_base.specs.declared.letter.Actor.TheVariants.{Node, Manager}
 use Rattle.hk_base.specs.declared.letter.Body.{Body}
-use Rattle.hk_base.specs.declared.letter.Body.TheVariants.{Chosen, Activate as ActivateBody}
+use Rattle.hk_base.specs.declared.letter.Body.TheVariants as Body
 use Rattle.hk_base.specs.declared.letter.Letter.{Letter}
 use Rattle.hk_paxos.specs.declared.acceptor.Acceptor.{Acceptor}
 use Rattle.hk_paxos.specs.declared.proposer.Proposer.{Proposer}
 use Rattle.hk_paxos.specs.Paxos.{Step}
-use Rattle.hk_paxos.specs.Run.{Letter as PaxosLetter, State as PaxosState, In, put, delivered, with_acceptor}
-use Rattle.hk_paxos.specs.Run.Letter.{PrepareLetter, ChosenLetter}
-use Rattle.hk_paxos.specs.Run.Event.{Deliver}
+use Rattle.hk_paxos.specs.Run.{PaxosLetter, PaxosState, In, put, delivered, with_acceptor}
+use Rattle.hk_paxos.specs.Run.PaxosLetter.{PrepareLetter, ChosenLetter}
+use Rattle.hk_paxos.specs.Run.PaxosEvent.{Deliver}
 use Rattle.hk_paxos.proofs.Quorums.{in_either, in_right}
 use Rattle.hk_manager.specs.declared.instance.Instance.{Instance}
 use Rattle.hk_manager.specs.Manager.{ManagerState, instance_at, with_instance}
@@ -59,9 +59,9 @@ pub record Spoken (e m : ℕ) (sent : List PaxosLetter) (l : Letter) : Type 0 wh
   pub of_epoch : l.epoch ≡ e
   pub sender : l.from ≡ Manager m
   pub one : IsOneOf sent m l.body
-  pub starts_none : (v : View) → l.body ≡ ActivateBody v → ⊥
+  pub starts_none : (v : View) → l.body ≡ Body.Activate v → ⊥
 
-pub spoken_at : (s : ManagerState) (e m : ℕ) (sent : List PaxosLetter) (body : Body) (l : Letter) → s.id ≡ m → Says s e body l → IsOneOf sent m body → ((v : View) → body ≡ ActivateBody v → ⊥) → Spoken e m sent l
+pub spoken_at : (s : ManagerState) (e m : ℕ) (sent : List PaxosLetter) (body : Body) (l : Letter) → s.id ≡ m → Says s e body l → IsOneOf sent m body → ((v : View) → body ≡ Body.Activate v → ⊥) → Spoken e m sent l
 spoken_at s e m sent body l id says one none = rw says.1 (record { of_epoch = refl; sender = ap Manager id; one = one; starts_none = none })
 
 pub one_of : (e m n : ℕ) (sent : List PaxosLetter) (l : Letter) → Spoken e m sent l → l.from ≡ Manager n → (l.epoch ≡ e) × IsOneOf sent n l.body
@@ -72,7 +72,7 @@ one_of e m n sent l s by = (s.of_epoch, subst (λ (k : ℕ). IsOneOf sent k l.bo
 
 -- an answer that is told to all
 pub told : {Answer : Type 0} (s : ManagerState) (e m : ℕ) (answer : Option Answer) (body : Answer → Body) (letter : Answer → PaxosLetter) (rest : List PaxosLetter) → s.id ≡ m →
-    ((a : Answer) (sent : List PaxosLetter) → In sent (letter a) → IsOneOf sent m (body a)) → ((a : Answer) (v : View) → body a ≡ ActivateBody v → ⊥) →
+    ((a : Answer) (sent : List PaxosLetter) → In sent (letter a) → IsOneOf sent m (body a)) → ((a : Answer) (v : View) → body a ≡ Body.Activate v → ⊥) →
     (l : Letter) → In (told_all s e (option_map body answer)) l → Spoken e m (option_to_list (option_map letter answer) ++ rest) l
 told s e m None body letter rest id one none l h = absurd h
 told s e m (Some a) body letter rest id one none l h = spoken_at s e m (letter a ∷ rest) (body a) l id (all_say s e (body a) l h) (one a (letter a ∷ rest) (inl refl)) (none a)
@@ -87,7 +87,7 @@ module _ (managers : ℕ) (c : Council) (sound : Sound managers c) (m : ℕ) (kn
 
   pub quiet : (now : ManagerState) (letters : List Letter) (chosen : Option ℕ) → now.id ≡ M.id → now.managers ≡ M.managers → now.instances ≡ M.instances → now.proposal ≡ M.proposal →
       (now.held ≡ M.held) ⊎ ((e : ℕ) × In (sound.runs e).state.sent (ChosenLetter now.held)) → M.held.epoch ≤ now.held.epoch →
-      ((l : Letter) → In letters l → (l.from ≡ Manager m) × IsQuiet l.body × ((v : View) → l.body ≡ ActivateBody v → (v ≡ M.held) × (v.epoch ≡ l.epoch))) →
+      ((l : Letter) → In letters l → (l.from ≡ Manager m) × IsQuiet l.body × ((v : View) → l.body ≡ Body.Activate v → (v ≡ M.held) × (v.epoch ≡ l.epoch))) →
       Outcome managers c m (record { manager = now; letters = letters; chosen = chosen })
   unfolding kept
   quiet now letters chosen id count instances proposal holds rises each = record {
@@ -105,7 +105,7 @@ module _ (managers : ℕ) (c : Council) (sound : Sound managers c) (m : ℕ) (kn
   -- ---- an instance moves
   pub moving : (now : ManagerState) (letters : List Letter) (chosen : Option ℕ) (e : ℕ) (moves : Moves managers c.manager c.sent c.learned m now letters e (sound.runs e).state) →
       now.id ≡ M.id → now.managers ≡ M.managers → (now.held ≡ M.held) ⊎ In moves.state.sent (ChosenLetter now.held) → M.held.epoch ≤ now.held.epoch →
-      ((l : Letter) (v : View) → In letters l → l.body ≡ Chosen v → v.epoch ≤ now.held.epoch) → ((l : Letter) (v : View) → In letters l → l.body ≡ ActivateBody v → ⊥) →
+      ((l : Letter) (v : View) → In letters l → l.body ≡ Body.Chosen v → v.epoch ≤ now.held.epoch) → ((l : Letter) (v : View) → In letters l → l.body ≡ Body.Activate v → ⊥) →
       Outcome managers c m (record { manager = now; letters = letters; chosen = chosen })
   moving now letters chosen e moves id count holds rises reports none = record {
     id = id;
@@ -123,8 +123,8 @@ module _ (managers : ℕ) (c : Council) (sound : Sound managers c) (m : ℕ) (kn
   module _ {Answer : Type 0} (e : ℕ) (paxos : PaxosLetter) (step : Acceptor → Step Acceptor Answer) (letter : Answer → PaxosLetter) (body : Answer → Body) (round : ℕ)
       (was_sent : In (sound.runs e).state.sent paxos) (makes : (st : PaxosState) → delivered st m paxos ≡ with_acceptor st m (step (st.acceptor m)) letter)
       (asks_none : (a : Answer) (ballot : Ballot) → letter a ≡ PrepareLetter ballot → ⊥)
-      (one : (a : Answer) (sent : List PaxosLetter) → In sent (letter a) → IsOneOf sent m (body a)) (none : (a : Answer) (v : View) → body a ≡ ActivateBody v → ⊥)
-      (no_report : (a : Answer) (v : View) → body a ≡ Chosen v → ⊥) where
+      (one : (a : Answer) (sent : List PaxosLetter) → In sent (letter a) → IsOneOf sent m (body a)) (none : (a : Answer) (v : View) → body a ≡ Body.Activate v → ⊥)
+      (no_report : (a : Answer) (v : View) → body a ≡ Body.Chosen v → ⊥) where
     abbrev known_instance : Instance
     known_instance = instance_at e M.instances
 
@@ -152,7 +152,7 @@ module _ (managers : ℕ) (c : Council) (sound : Sound managers c) (m : ℕ) (kn
     no_ballot (Some a) ballot (inl is) = asks_none a ballot (sym is)
     no_ballot (Some a) ballot (inr h) = h
 
-    reports_none : (answer : Option Answer) (l : Letter) (v : View) → In (told_all M e (option_map body answer)) l → l.body ≡ Chosen v → ⊥
+    reports_none : (answer : Option Answer) (l : Letter) (v : View) → In (told_all M e (option_map body answer)) l → l.body ≡ Body.Chosen v → ⊥
     reports_none None l v h says = h
     reports_none (Some a) l v h says = let s = all_say M e (body a) l h in no_report a v (ap (λ (x : Letter). x.body) (sym s.1) ∙ says)
 

@@ -7,8 +7,8 @@ use Rattle.hk_base.specs.declared.letter.Body.{Body}
 use Rattle.hk_base.specs.declared.letter.Body.TheVariants.{Prepare, Promise, Accept, Accepted, Chosen, Activate}
 use Rattle.hk_base.specs.declared.letter.Letter.{Letter}
 use Rattle.hk_paxos.specs.declared.proposer.Proposer.{Proposer}
-use Rattle.hk_paxos.specs.Run.{Letter as PaxosLetter, Event as PaxosEvent, In, IsRun as IsPaxosRun, last_state, IsChosen, start as paxos_start}
-use Rattle.hk_paxos.specs.Run.Letter.{PrepareLetter, PromiseLetter, AcceptLetter, AcceptedLetter, ChosenLetter}
+use Rattle.hk_paxos.specs.Run.{PaxosLetter, PaxosEvent, In, IsPaxosRun, last_state, IsChosen, paxos_start}
+use Rattle.hk_paxos.specs.Run.PaxosLetter.{PrepareLetter, PromiseLetter, AcceptLetter, AcceptedLetter, ChosenLetter}
 use Rattle.hk_manager.specs.Manager.{instance_at}
 use Rattle.hk_council.specs.Chain.{IsChain, Follows}
 use Rattle.hk_council.specs.Council.{Council, Event, next, IsRun, last_council, start}

@@ -10,7 +10,7 @@ use Rattle.hk_manager.specs.declared.event.ManagerEvent.TheVariants.{Propose, Re
 use Rattle.hk_manager.specs.declared.fault.ManagerFault.{ManagerFault}
 use Rattle.hk_manager.specs.Manager.{ManagerState}
 use Rattle.hk_manager.specs.Sound.{manager_new}
-use Rattle.hk_manager.specs.Steps.{Stepped, manager_step}
+use Rattle.hk_manager.specs.Steps.{ManagerStepped, manager_step}
 
 -- Letters stand in the order in which they were sent, and are never taken away: one that is lost is not received, and one may be
 -- received again. Learned views stand in the order of their epochs.
@@ -37,7 +37,7 @@ abbrev pub learned_with : List View → View → List View
 learned_with views view = if nat_lt (last_epoch views) view.epoch then views ++ view ∷ [] else views
 
 -- what a step makes of the council: its letters are sent, and the view that is held then is learned
-abbrev pub stepped_by : Council → ℕ → Result Stepped ManagerFault → Council
+abbrev pub stepped_by : Council → ℕ → Result ManagerStepped ManagerFault → Council
 stepped_by c m (Err fault) = c
 stepped_by c m (Ok stepped) = record c { manager = put m stepped.manager c.manager; sent = c.sent ++ stepped.letters; learned = learned_with c.learned stepped.manager.held }
 

@@ -6,7 +6,7 @@ use Rattle.hk_base.specs.declared.view.View.{View}
 use Rattle.hk_base.specs.declared.view.Voted.{Voted}
 use Rattle.hk_base.specs.declared.letter.Actor.TheVariants.{Node, Manager}
 use Rattle.hk_base.specs.declared.letter.Body.{Body}
-use Rattle.hk_base.specs.declared.letter.Body.TheVariants.{Prepare, Promise, Accept, Accepted, Chosen, Activate as ActivateBody}
+use Rattle.hk_base.specs.declared.letter.Body.TheVariants as Body
 use Rattle.hk_paxos.specs.Run.{In}
 use Rattle.hk_manager.specs.declared.event.ManagerEvent.TheVariants.{Propose, Receive, Activate, Tick}
 use Rattle.hk_council.specs.Council.{Council, Event, IsRun, last_council, start}
@@ -39,12 +39,12 @@ takes manager from body = Step manager (Receive (record { epoch = 2; from = Mana
 -- view. Once the first lease of the dropped node is past, manager 1 lets it begin.
 abbrev pub events : List Event
 events =
-    Step 0 (Propose 1 (Drop (record { 0 = 2 }))) ∷ takes 0 0 (Prepare low) ∷ takes 1 0 (Prepare low) ∷
-    takes 0 0 (Promise low None) ∷ takes 0 1 (Promise low None) ∷ takes 0 0 (Accept low dropped) ∷
-    Step 1 (Propose 1 Add) ∷ takes 1 1 (Prepare high) ∷ takes 1 0 (Accept low dropped) ∷ takes 0 1 (Prepare high) ∷ Stop 0 ∷
-    takes 1 1 (Promise high None) ∷ takes 1 0 (Promise high vote) ∷
-    takes 1 1 (Accept high dropped) ∷ takes 2 1 (Accept high dropped) ∷
-    takes 1 1 (Accepted high) ∷ takes 1 2 (Accepted high) ∷ takes 2 1 (Chosen dropped) ∷
+    Step 0 (Propose 1 (Drop (record { 0 = 2 }))) ∷ takes 0 0 (Body.Prepare low) ∷ takes 1 0 (Body.Prepare low) ∷
+    takes 0 0 (Body.Promise low None) ∷ takes 0 1 (Body.Promise low None) ∷ takes 0 0 (Body.Accept low dropped) ∷
+    Step 1 (Propose 1 Add) ∷ takes 1 1 (Body.Prepare high) ∷ takes 1 0 (Body.Accept low dropped) ∷ takes 0 1 (Body.Prepare high) ∷ Stop 0 ∷
+    takes 1 1 (Body.Promise high None) ∷ takes 1 0 (Body.Promise high vote) ∷
+    takes 1 1 (Body.Accept high dropped) ∷ takes 2 1 (Body.Accept high dropped) ∷
+    takes 1 1 (Body.Accepted high) ∷ takes 1 2 (Body.Accepted high) ∷ takes 2 1 (Body.Chosen dropped) ∷
     Step 1 (Tick 12) ∷ Step 1 Activate ∷ []
 
 abbrev pub last : Council
@@ -57,4 +57,4 @@ pub record Overtaken : Type 0 where
   pub stopped : (last.manager 0).held ≡ founders
   pub overtaker : (last.manager 1).held ≡ dropped
   pub third : (last.manager 2).held ≡ dropped
-  pub begins : In last.sent (record { epoch = 2; from = Manager 1; to = Node (record { 0 = 0 }); body = ActivateBody dropped })
+  pub begins : In last.sent (record { epoch = 2; from = Manager 1; to = Node (record { 0 = 0 }); body = Body.Activate dropped })

@@ -10,7 +10,7 @@ use Rattle.hk_drill.specs.Transcript.{DrillState, Next, Outcome, line_at, limit_
 use Rattle.hk_drill.specs.Taken.{IsTaken}
 use Rattle.hk_drill.specs.Progress.{further, IsPassed, IsBegun, IsCounted, state_under, begun_by}
 use Rattle.hk_script.specs.declared.fault.LineFault.{LineFault}
-use Rattle.hk_script.specs.declared.fault.LineFault.TheVariants.{Memory, Bad as BadRead}
+use Rattle.hk_script.specs.declared.fault.LineFault.TheVariants as LineFault
 use Rattle.hk_script.specs.Reading.{IsHeaderRead}
 use Rattle.hk_script.specs.Grammar.{IsHeaderLine}
 use Rattle.hk_script.proofs.Exact.{header_read}
@@ -180,15 +180,15 @@ begun_counts r n line next within begun =
     (λ stop is none. counted_begun n line next within (subst (λ s. IsBegun s next (begun_by line)) none is)) begun
 
 -- ---- the header
-bad_header : (line : List ℕ) (fault : LineFault) → IsHeaderRead (Err fault) line → ◌≡◌ {A = Result Header LineFault} (Err fault) (Err BadRead)
+bad_header : (line : List ℕ) (fault : LineFault) → IsHeaderRead (Err fault) line → ◌≡◌ {A = Result Header LineFault} (Err fault) (Err LineFault.Bad)
     → header_of line ≡ None
-bad_header line Memory read e = cc
-bad_header line BadRead read e = header_refused line read
+bad_header line LineFault.Memory read e = cc
+bad_header line LineFault.Bad read e = header_refused line read
 
 begun_under : (line : List ℕ) → is_skipped line ≡ false → begun_by line ≡ state_under (header_of line)
 begun_under line e = ap (λ b. if b then Ok None else state_under (header_of line)) e
 
-pub begun_bad : (line : List ℕ) (fault : LineFault) → is_skipped line ≡ false → IsHeaderRead (Err fault) line → ◌≡◌ {A = Result Header LineFault} (Err fault) (Err BadRead)
+pub begun_bad : (line : List ℕ) (fault : LineFault) → is_skipped line ≡ false → IsHeaderRead (Err fault) line → ◌≡◌ {A = Result Header LineFault} (Err fault) (Err LineFault.Bad)
     → begun_by line ≡ Err Bad
 begun_bad line fault e read is = begun_under line e ∙ ap state_under (bad_header line fault read is)
 

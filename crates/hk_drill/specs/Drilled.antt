@@ -4,7 +4,7 @@ use Rattle.std.specs.Io.KnownBytes.{Appends}
 use Rattle.hk_outside.specs.Causes.{Rose}
 use Rattle.hk_outside.specs.Records.{HasRead}
 use Rattle.hk_outside.specs.declared.status.Status.{Status}
-use Rattle.hk_outside.specs.declared.status.Status.TheVariants.{Done, Memory as Wanting, Usage, ReadFault, WriteFault, BadLine, TooLong, Gap, DoorFault, SpawnFault}
+use Rattle.hk_outside.specs.declared.status.Status.TheVariants as Status
 use Rattle.hk_history.specs.Legal.{Legal}
 use Rattle.hk_safety.specs.Run.{RunState, history, printed}
 use Rattle.hk_drill.specs.declared.fault.Fault.{Fault}
@@ -15,16 +15,16 @@ use Rattle.hk_drill.specs.Progress.{AreLines, Came, HasCome}
 
 -- the statuses with which a drill may end
 abbrev pub EndsDrill : Status → Type 0
-EndsDrill Done = ⊤
-EndsDrill Wanting = ⊤
-EndsDrill Usage = ⊥
-EndsDrill ReadFault = ⊤
-EndsDrill WriteFault = ⊤
-EndsDrill BadLine = ⊤
-EndsDrill TooLong = ⊤
-EndsDrill Gap = ⊥
-EndsDrill DoorFault = ⊥
-EndsDrill SpawnFault = ⊥
+EndsDrill Status.Done = ⊤
+EndsDrill Status.Memory = ⊤
+EndsDrill Status.Usage = ⊥
+EndsDrill Status.ReadFault = ⊤
+EndsDrill Status.WriteFault = ⊤
+EndsDrill Status.BadLine = ⊤
+EndsDrill Status.TooLong = ⊤
+EndsDrill Status.Gap = ⊥
+EndsDrill Status.DoorFault = ⊥
+EndsDrill Status.SpawnFault = ⊥
 
 -- the order that is printed for a key is legal for the history that is printed for it
 abbrev pub AllLegal : RunState → Type 0
@@ -66,7 +66,7 @@ pub record IsFront (left left' : Option (List ℕ)) (given given' : Option (List
 
 -- memory ran out; or the status is that of the transcript, whatever may still come behind what was read
 abbrev pub IsExact : Status → Option (List ℕ) → Option (List ℕ) → Option (List (List ℕ)) → Option (List (List ℕ)) → Type 0
-IsExact told left left' given given' = (told ≡ Wanting) ⊎
+IsExact told left left' given given' = (told ≡ Status.Memory) ⊎
     ((read : List ℕ) × Came left left' given given' read × ((more : List ℕ) → MayFollow left left' given given' read more → (transcript (read ++ more)).status ≡ told))
 
 -- Some bytes were read, and what was written is what the lines tell whose feed is among them.
@@ -87,14 +87,14 @@ pub record HasGone (stop : Option Stop) (left left' : Option (List ℕ)) (given 
 -- a drill that found its transcript: it is done only where it read to the end
 pub record IsDrilled (told : Status) (left left' : Option (List ℕ)) (given given' : Option (List (List ℕ))) (held held' : Option (List ℕ)) : Type 0 where
   pub stopped : IsStopped told left left' given given' held held'
-  pub ended : told ≡ Done → HasRead left left' given given' stopped.read
+  pub ended : told ≡ Status.Done → HasRead left left' given given' stopped.read
   pub ends : EndsDrill told
 
 -- ---- faults
 abbrev pub fault_status : Fault → Status
-fault_status Memory = Wanting
-fault_status Read = ReadFault
-fault_status Write = WriteFault
+fault_status Memory = Status.Memory
+fault_status Read = Status.ReadFault
+fault_status Write = Status.WriteFault
 
 -- what a fault of a call that only writes has to do with the sink's count: it rose, unless memory was wanting
 abbrev pub IsSinkFault : ℕ → ℕ → Fault → Type 0

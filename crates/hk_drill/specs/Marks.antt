@@ -2,14 +2,14 @@
 use Rattle.std.specs.Prelude.{ℕ, List, [], ◌∷◌, ◌++◌, codes, decimal}
 use Rattle.hk_history.specs.declared.event.Entry.{Entry}
 use Rattle.hk_safety.specs.declared.marked.Mark.{Mark}
-use Rattle.hk_safety.specs.declared.marked.Mark.TheVariants as M
+use Rattle.hk_safety.specs.declared.marked.Mark.TheVariants as Mark
 use Rattle.hk_script.specs.Words.{word_of}
 use Rattle.hk_drill.specs.Text.{order_text}
 
 -- a mark is written as the event that it stands for
 abbrev pub mark_text : Mark → List ℕ
-mark_text (M.Call c) = codes " c" ++ decimal c.0
-mark_text (M.Reply c) = codes " r" ++ decimal c.0
+mark_text (Mark.Call c) = codes " c" ++ decimal c.0
+mark_text (Mark.Reply c) = codes " r" ++ decimal c.0
 
 abbrev pub marks_text : List Mark → List ℕ
 marks_text [] = []

@@ -2,7 +2,7 @@
 use Rattle.std.specs.Prelude.{ℕ, ◌+◌, List, [], ◌∷◌, ◌++◌, Bool, true, false, Option, Some, None, codes, decimal}
 use Rattle.hk_base.specs.declared.stamp.NodeId.{NodeId}
 use Rattle.hk_base.specs.declared.stamp.Kind.{Kind}
-use Rattle.hk_base.specs.declared.stamp.Kind.TheVariants.{Write as Plain, Rmw}
+use Rattle.hk_base.specs.declared.stamp.Kind.TheVariants as Kind
 use Rattle.hk_base.specs.declared.stamp.Stamp.{Stamp}
 use Rattle.hk_base.specs.declared.call.CallNo.{CallNo}
 use Rattle.hk_base.specs.declared.call.Content.{Content}
@@ -34,8 +34,8 @@ abbrev pub stamp_text : Stamp → List ℕ
 stamp_text s = decimal s.version ++ codes "." ++ decimal s.node
 
 abbrev pub kind_text : Kind → List ℕ
-kind_text Plain = codes "write"
-kind_text Rmw = codes "rmw"
+kind_text Kind.Write = codes "write"
+kind_text Kind.Rmw = codes "rmw"
 
 -- `FLAGS DATA`, or `gone` where there is nothing
 abbrev pub content_text : Option Content → List ℕ

@@ -1,7 +1,7 @@
 //! What is to be sent again of an open key.
 
 ghost use Rattle.std.specs.Prelude.{◌≡◌, IfOk};
-ghost use Rattle.hk_node.specs.Sound.{IsEvent};
+ghost use Rattle.hk_node.specs.Sound.{IsNodeEvent};
 ghost use Rattle.hk_node.specs.Laws.{IsNoCall};
 ghost use Rattle.hk_due.specs.Due.{key_of, event_of, has_pending, due_at};
 
@@ -31,7 +31,7 @@ impl Due {
     /// The event that sends it.
     pub fn event(self) -> NodeEvent
         ensures same { result ≡ event_of self }
-        ensures event { IsEvent result }
+        ensures event { IsNodeEvent result }
         ensures no_call { IsNoCall result }
     {
         match self {

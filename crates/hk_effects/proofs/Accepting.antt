@@ -4,7 +4,7 @@ use Rattle.std.specs.List.{filter, find, list_any}
 use Rattle.std.proofs.lemmas.Bool.{ltb-true}
 use Rattle.hk_base.specs.declared.stamp.NodeId.{NodeId}
 use Rattle.hk_base.specs.declared.letter.Actor.{Actor}
-use Rattle.hk_base.specs.declared.letter.Actor.TheVariants as A
+use Rattle.hk_base.specs.declared.letter.Actor.TheVariants as Actor
 use Rattle.hk_base.specs.declared.letter.Letter.{Letter}
 use Rattle.hk_base.specs.declared.view.View.{View}
 use Rattle.hk_base.specs.declared.view.Change.{Change}
@@ -13,12 +13,12 @@ use Rattle.hk_base.specs.View.{member_numbers}
 use Rattle.hk_clocks.specs.Clocks.{ClockState, Paces}
 use Rattle.hk_clocks.specs.declared.fault.ClockFault.{ClockFault}
 use Rattle.hk_clocks.specs.Steps.{clock_step}
-use Rattle.hk_clocks.specs.Steps.ClockEvent.{Tick as ClockTick, TickAll as ClockTickAll, Start as ClockStart, Stop as ClockStop}
+use Rattle.hk_clocks.specs.Steps.{ClockEvent}
 use Rattle.hk_clocks.specs.Steps.{greatest_clock}
-use Rattle.hk_manager.specs.declared.event.ManagerEvent.TheVariants.{Receive as Receipt}
+use Rattle.hk_manager.specs.declared.event.ManagerEvent.TheVariants as ManagerEvent
 use Rattle.hk_manager.specs.declared.fault.ManagerFault.{ManagerFault}
 use Rattle.hk_manager.specs.Manager.{ManagerState}
-use Rattle.hk_manager.specs.Steps.{Stepped as ManagerStepped, manager_step, ticks as manager_ticks}
+use Rattle.hk_manager.specs.Steps.{ManagerStepped, manager_step, manager_ticks}
 use Rattle.hk_register.specs.Machine.{In}
 use Rattle.hk_node.specs.Node.{NodeState, epoch_of, is_member}
 use Rattle.hk_node.specs.Stepped.{Stepped}
@@ -136,8 +136,8 @@ module _ (P : Type 0) (w : WorldState) (a : Accepted) where
   -- ---- actors, letters and clocks, with managers or without
   pub any_actor_step : (actor : Actor) (step : NodeId → NodeState → Result Accepted Refused) (by_manager : ℕ → ManagerState → Result Accepted Refused) →
       ((id : NodeId) (x : NodeState) → process_at id w.processes ≡ Some (alive x) → step id x ≡ Ok a → P) → ((m : ℕ) → live_manager w m (by_manager m) ≡ Ok a → P) → live_actor w actor step by_manager ≡ Ok a → P
-  any_actor_step (A.Node id) step by_manager go_on managed e = live_step id (step id) (go_on id) e
-  any_actor_step (A.Manager m) step by_manager go_on managed e = managed m e
+  any_actor_step (Actor.Node id) step by_manager go_on managed e = live_step id (step id) (go_on id) e
+  any_actor_step (Actor.Manager m) step by_manager go_on managed e = managed m e
 
   pub live_actor_step : w.managers ≡ [] → (actor : Actor) (step : NodeId → NodeState → Result Accepted Refused) (by_manager : ℕ → ManagerState → Result Accepted Refused) →
       ((id : NodeId) (x : NodeState) → process_at id w.processes ≡ Some (alive x) → step id x ≡ Ok a → P) → live_actor w actor step by_manager ≡ Ok a → P
@@ -145,12 +145,12 @@ module _ (P : Type 0) (w : WorldState) (a : Accepted) where
 
   pub any_takes_step : (n : ℕ) →
       ((l : Letter) → numbered n w.letters ≡ Some l → (id : NodeId) (x : NodeState) → process_at id w.processes ≡ Some (alive x) → acts w id x (receives x l) ≡ Ok a → P) →
-      ((l : Letter) → numbered n w.letters ≡ Some l → (m : ℕ) → live_manager w m (λ manager. manager_acts w m (manager_step manager (Receipt l))) ≡ Ok a → P) → takes w (numbered n w.letters) ≡ Ok a → P
+      ((l : Letter) → numbered n w.letters ≡ Some l → (m : ℕ) → live_manager w m (λ manager. manager_acts w m (manager_step manager (ManagerEvent.Receive l))) ≡ Ok a → P) → takes w (numbered n w.letters) ≡ Ok a → P
   any_takes_step n go_on managed e = by_letter (numbered n w.letters) refl e
     where
       by_letter : (o : Option Letter) → numbered n w.letters ≡ o → takes w o ≡ Ok a → P
       by_letter None found e = cc
-      by_letter (Some l) found e = any_actor_step l.to (λ id node. acts w id node (receives node l)) (λ m manager. manager_acts w m (manager_step manager (Receipt l))) (go_on l found) (managed l found) e
+      by_letter (Some l) found e = any_actor_step l.to (λ id node. acts w id node (receives node l)) (λ m manager. manager_acts w m (manager_step manager (ManagerEvent.Receive l))) (go_on l found) (managed l found) e
 
   pub takes_step : w.managers ≡ [] → (n : ℕ) →
       ((l : Letter) → numbered n w.letters ≡ Some l → (id : NodeId) (x : NodeState) → process_at id w.processes ≡ Some (alive x) → acts w id x (receives x l) ≡ Ok a → P) → takes w (numbered n w.letters) ≡ Ok a → P
@@ -158,21 +158,21 @@ module _ (P : Type 0) (w : WorldState) (a : Accepted) where
 
   -- the clocks let it rise
   pub ticks_step : (to : ℕ) (id : NodeId) (x : NodeState) → ((paces : Paces) → makes w id x (ticks x to) paces ≡ Ok a → P) → ticks_at w to id x ≡ Ok a → P
-  ticks_step to id x go_on e = by_clocks (clock_step (clocks_of w) (ClockTick (A.Node id) to)) e
+  ticks_step to id x go_on e = by_clocks (clock_step (clocks_of w) (ClockEvent.Tick (Actor.Node id) to)) e
     where
       by_clocks : (r : Result ClockState ClockFault) → ticked_by r w id to x ≡ Ok a → P
       by_clocks (Ok clocks) e = go_on clocks.paces e
       by_clocks (Err fault) e = cc
 
   pub any_tick_step : (to : ℕ) → ((managers : List ManagerProcess) (paces : Paces) → aside (with_managers (with_processes w (map (process_ticked to) w.processes) paces) managers) nothing ≡ Ok a → P) → all_tick w to ≡ Ok a → P
-  any_tick_step to go_on e = by_clocks (clock_step (clocks_of w) (ClockTickAll to)) e
+  any_tick_step to go_on e = by_clocks (clock_step (clocks_of w) (ClockEvent.TickAll to)) e
     where
       by_clocks : (r : Result ClockState ClockFault) → all_ticked_by r w to ≡ Ok a → P
       by_clocks (Ok clocks) e = go_on (map (manager_ticked to) w.managers) clocks.paces e
       by_clocks (Err fault) e = cc
 
   pub all_tick_step : w.managers ≡ [] → (to : ℕ) → ((paces : Paces) → aside (with_processes w (map (process_ticked to) w.processes) paces) nothing ≡ Ok a → P) → all_tick w to ≡ Ok a → P
-  all_tick_step none to go_on e = by_clocks (clock_step (clocks_of w) (ClockTickAll to)) e
+  all_tick_step none to go_on e = by_clocks (clock_step (clocks_of w) (ClockEvent.TickAll to)) e
     where
       by_clocks : (r : Result ClockState ClockFault) → all_ticked_by r w to ≡ Ok a → P
       by_clocks (Ok clocks) e = go_on clocks.paces
@@ -181,17 +181,17 @@ module _ (P : Type 0) (w : WorldState) (a : Accepted) where
 
   -- a manager's clock rises
   pub manager_ticks_step : (to m : ℕ) (x : ManagerState) → ((managers : List ManagerProcess) (paces : Paces) → aside (with_managers (with_processes w w.processes paces) managers) nothing ≡ Ok a → P) → manager_ticks_at w to m x ≡ Ok a → P
-  manager_ticks_step to m x go_on e = by_clocks (clock_step (clocks_of w) (ClockTick (A.Manager m) to)) e
+  manager_ticks_step to m x go_on e = by_clocks (clock_step (clocks_of w) (ClockEvent.Tick (Actor.Manager m) to)) e
     where
       by_clocks : (r : Result ClockState ClockFault) → manager_ticked_by r w m to x ≡ Ok a → P
       by_clocks (Ok clocks) e = go_on (put_manager m (managing (manager_ticks x to).manager) w.managers) clocks.paces e
       by_clocks (Err fault) e = cc
 
   pub manager_crashes_step : (m : ℕ) (x : ManagerState) → ((managers : List ManagerProcess) (paces : Paces) → aside (with_managers (with_processes w w.processes paces) managers) nothing ≡ Ok a → P) → manager_crashes_at w m x ≡ Ok a → P
-  manager_crashes_step m x go_on e = go_on (put_manager m (record { manager = x; crashed = true }) w.managers) (paces_by w (ClockStop (A.Manager m))) e
+  manager_crashes_step m x go_on e = go_on (put_manager m (record { manager = x; crashed = true }) w.managers) (paces_by w (ClockEvent.Stop (Actor.Manager m))) e
 
   pub crashes_step : (id : NodeId) (x : NodeState) → ((paces : Paces) → aside (with_processes w (put_process id (record { node = x; crashed = true }) w.processes) paces) nothing ≡ Ok a → P) → crashes_at w id x ≡ Ok a → P
-  crashes_step id x go_on e = go_on (paces_by w (ClockStop (A.Node id))) e
+  crashes_step id x go_on e = go_on (paces_by w (ClockEvent.Stop (Actor.Node id))) e
 
   -- a joiner was not there
   pub any_starts_step : (id : NodeId) →
@@ -200,7 +200,7 @@ module _ (P : Type 0) (w : WorldState) (a : Accepted) where
   any_starts_step id go_on e = by_process (process_at id w.processes) refl e
     where
       paces : Paces
-      paces = paces_by w (ClockStart (A.Node id) (greatest_clock 1 w.paces))
+      paces = paces_by w (ClockEvent.Start (Actor.Node id) (greatest_clock 1 w.paces))
 
       by_member : process_at id w.processes ≡ None → (b : Bool) → may_join w id ≡ b → cond b (aside (with_processes w (put_process id (joining w id) w.processes) paces) nothing) (Err NotMember) ≡ Ok a → P
       by_member at true m e = go_on at m paces e

@@ -4,7 +4,7 @@ use Rattle.std.proofs.lemmas.Bool.{false≢true}
 use Rattle.hk_base.specs.declared.call.Content.{Content}
 use Rattle.hk_base.specs.declared.call.Op.{Op}
 use Rattle.hk_base.specs.declared.call.Op.TheVariants.{Read, Write, Cas, Incr, Decr, Add, Replace, Delete}
-use Rattle.hk_base.specs.declared.stamp.Kind.TheVariants.{Write as Plain}
+use Rattle.hk_base.specs.declared.stamp.Kind.TheVariants as Kind
 use Rattle.hk_base.specs.declared.call.Answer.TheVariants.{Stored, Exists}
 use Rattle.hk_base.specs.Register.{Register, Acted, act, stays, changes, acts_number, number_in}
 use Rattle.hk_history.specs.History.{is_answered}
@@ -77,7 +77,7 @@ write_does : (d : Content) (c : Option Content) (tag t : ℕ) → act (Write d) 
 write_does d None tag t = refl
 write_does d (Some h) tag t = refl
 
-pub plain_is_blind : (op : Op) → kind_of op ≡ Plain → IsBlind op
+pub plain_is_blind : (op : Op) → kind_of op ≡ Kind.Write → IsBlind op
 plain_is_blind (Write d) e = λ r other t. write_does d r.content r.tag t ∙ sym (write_does d other.content other.tag t)
 plain_is_blind Read e = cc
 plain_is_blind (Cas k d) e = cc

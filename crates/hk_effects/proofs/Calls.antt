@@ -4,16 +4,16 @@ use Rattle.std.proofs.lemmas.Bool.{eq-eqb, ne_eqb, ltb-false}
 use Rattle.hk_base.specs.declared.stamp.Stamp.{Stamp}
 use Rattle.hk_base.specs.declared.stamp.NodeId.{NodeId}
 use Rattle.hk_base.specs.declared.stamp.Kind.{Kind}
-use Rattle.hk_base.specs.declared.stamp.Kind.TheVariants.{Write as Plain, Rmw}
+use Rattle.hk_base.specs.declared.stamp.Kind.TheVariants as Kind
 use Rattle.hk_base.specs.declared.stamp.TheConstants.{MAX_VERSION}
 use Rattle.hk_base.specs.declared.call.CallNo.{CallNo}
-use Rattle.hk_base.specs.declared.call.State.{State as RowState}
-use Rattle.hk_base.specs.declared.call.State.TheVariants.{Valid as IsValid, Invalid as IsInvalid, Write as IsWrite, Replay as IsReplay, Trans as IsTrans}
+use Rattle.hk_base.specs.declared.call.State.{State}
+use Rattle.hk_base.specs.declared.call.State.TheVariants as State
 use Rattle.hk_base.specs.declared.call.Op.{Op}
 use Rattle.hk_base.specs.declared.call.Reply.{Reply}
 use Rattle.hk_base.specs.declared.call.Answer.{Answer}
 use Rattle.hk_base.specs.declared.call.Answer.TheVariants.{Busy, Exhausted}
-use Rattle.hk_base.specs.declared.call.Why.TheVariants.{Lease as OfLease, Row as OfRow}
+use Rattle.hk_base.specs.declared.call.Why.TheVariants as Why
 use Rattle.hk_base.specs.Stamp.{tag_of}
 use Rattle.hk_base.specs.Register.{act}
 use Rattle.hk_history.specs.History.{is_void, is_answered}
@@ -46,20 +46,20 @@ use Rattle.hk_effects.proofs.LiveSteps.{accepts, IsEffects, IsLive, here, steppe
 
 -- the next stamp, where there is one
 next_some : (kind : Kind) (s : Stamp) (n : NodeId) (u : Stamp) → next_stamp kind s n ≡ Some u → u ≡ record { version = s.version + step_of kind; node = n.0 }
-next_some Plain s n u e = by_test (ltb MAX_VERSION (s.version + 2)) e
+next_some Kind.Write s n u e = by_test (ltb MAX_VERSION (s.version + 2)) e
   where
     by_test : (b : Bool) → cond b None (Some (record { version = s.version + 2; node = n.0 })) ≡ Some u → u ≡ record { version = s.version + 2; node = n.0 }
     by_test true e = cc
     by_test false e = let same : record { version = s.version + 2; node = n.0 } ≡ u = cc in sym same
-next_some Rmw s n u e = by_test (ltb MAX_VERSION (s.version + 1)) e
+next_some Kind.Rmw s n u e = by_test (ltb MAX_VERSION (s.version + 1)) e
   where
     by_test : (b : Bool) → cond b None (Some (record { version = s.version + 1; node = n.0 })) ≡ Some u → u ≡ record { version = s.version + 1; node = n.0 }
     by_test true e = cc
     by_test false e = let same : record { version = s.version + 1; node = n.0 } ≡ u = cc in sym same
 
 step_some : (kind : Kind) → 1 ≤ step_of kind
-step_some Plain = omega arith
-step_some Rmw = omega arith
+step_some Kind.Write = omega arith
+step_some Kind.Rmw = omega arith
 
 above : (v m s n : ℕ) → m < 65536 → 1 ≤ s → v * 65536 + m < (v + s) * 65536 + n
 above v m s n small some = omega arith
@@ -108,7 +108,7 @@ module _ (V : ℕ → List ℕ) (key : List ℕ) (t : Trace) (parts : Parts V (p
       (λ (other : key ≢ k). other_answer k op answer other) (cases_key key k)
 
   -- a call that changes nothing
-  looked : (k : List ℕ) (op : Op) → (act op (register_in (row_at k x.rows)) 0).changed ≡ false → x.ready ≡ true → Leased V (project key t) x.id.0 → (row_at k x.rows).state ≡ IsValid →
+  looked : (k : List ℕ) (op : Op) → (act op (register_in (row_at k x.rows)) 0).changed ≡ false → x.ready ≡ true → Leased V (project key t) x.id.0 → (row_at k x.rows).state ≡ State.Valid →
       OwesCall k op (answers x k number (act op (register_in (row_at k x.rows)) 0).answer)
   looked k op stays_so ready leased valid =
       ⊎_elim
@@ -117,7 +117,7 @@ module _ (V : ℕ → List ℕ) (key : List ℕ) (t : Trace) (parts : Parts V (p
       let answer : Answer = (act op (register_in r) 0).answer in
       let r_is : row_at k x.rows ≡ r = ap (λ (j : List ℕ). row_at j x.rows) (sym same) in
       let stays' : (act op (register_in r) 0).changed ≡ false = rw r_is at stays_so in
-      let valid' : r.state ≡ IsValid = rw r_is at valid in
+      let valid' : r.state ≡ State.Valid = rw r_is at valid in
       let phase : (key_node key (Some x)).phase ≡ Valid = rw valid' refl in
       let fixed : Stays op (register_of r.content (tag_of r.stamp)) answer = λ tag. (alike op r.content (tag_of r.stamp) 0 tag).stays stays' in
       let answered : IsTrue (is_answered (Some answer)) = (alike op r.content (tag_of r.stamp) 0 0).answered in
@@ -133,7 +133,7 @@ module _ (V : ℕ → List ℕ) (key : List ℕ) (t : Trace) (parts : Parts V (p
   abbrev begins : Op → Row → Stamp → Done
   begins op row s = begin x.id (members_of x) (record { call = number; answer = (act op (register_in row) (tag_of s)).answer }) s (kind_of op) (act op (register_in row) (tag_of s)).register.content
 
-  begun_here : (op : Op) (s : Stamp) → (act op (register_in (row_at key x.rows)) 0).changed ≡ true → x.ready ≡ true → Leased V (project key t) x.id.0 → (row_at key x.rows).state ≡ IsValid →
+  begun_here : (op : Op) (s : Stamp) → (act op (register_in (row_at key x.rows)) 0).changed ≡ true → x.ready ≡ true → Leased V (project key t) x.id.0 → (row_at key x.rows).state ≡ State.Valid →
       s ≡ record { version = (row_at key x.rows).stamp.version + step_of (kind_of op); node = x.id.0 } → OwesCall key op (row_step x key (begins op (row_at key x.rows) s))
   begun_here op s changes ready leased valid stamp =
       let r = row_at key x.rows in
@@ -156,7 +156,7 @@ module _ (V : ℕ → List ℕ) (key : List ℕ) (t : Trace) (parts : Parts V (p
       (own_row V (project key t) parts key x at_key d hs (noted_update x.id.0 c op r s ∷ []) unchanged (reply_begins_none x.id.0 (key_node key (Some x)) (tag_of s) d.out.reply (Called c (tag_of s) op ∷ []))
       (begin_step V (project key t) parts key x (has_copied x key) r at_key (members_are V key t parts own agrees tok x alive some) c op s valid ready leased mine.small (mine.row key).small (fresh_call V key t parts own agrees tok) some stamp changes' (all_noted x.id (members_of x) []) refl))
 
-  begun : (k : List ℕ) (op : Op) (s : Stamp) → (act op (register_in (row_at k x.rows)) 0).changed ≡ true → x.ready ≡ true → Leased V (project key t) x.id.0 → (row_at k x.rows).state ≡ IsValid →
+  begun : (k : List ℕ) (op : Op) (s : Stamp) → (act op (register_in (row_at k x.rows)) 0).changed ≡ true → x.ready ≡ true → Leased V (project key t) x.id.0 → (row_at k x.rows).state ≡ State.Valid →
       s ≡ record { version = (row_at k x.rows).stamp.version + step_of (kind_of op); node = x.id.0 } → OwesCall k op (row_step x k (begins op (row_at k x.rows) s))
   begun k op s changes ready leased valid stamp =
       ⊎_elim
@@ -165,21 +165,21 @@ module _ (V : ℕ → List ℕ) (key : List ℕ) (t : Trace) (parts : Parts V (p
       subst (λ (k : List ℕ). OwesCall k op (row_step x k (begins op (row_at k x.rows) s))) same (begun_here op s (rw r_is at changes) ready leased (rw r_is at valid) (rw r_is at stamp)))
       (λ (other : key ≢ k). other_row V (project key t) parts key x at_key k (begins op (row_at k x.rows) s) _ other (other_said k op (row_step x k (begins op (row_at k x.rows) s)) other)) (cases_key key k)
 
-  call_limit : (k : List ℕ) (op : Op) → (act op (register_in (row_at k x.rows)) 0).changed ≡ true → x.ready ≡ true → Leased V (project key t) x.id.0 → (row_at k x.rows).state ≡ IsValid →
+  call_limit : (k : List ℕ) (op : Op) → (act op (register_in (row_at k x.rows)) 0).changed ≡ true → x.ready ≡ true → Leased V (project key t) x.id.0 → (row_at k x.rows).state ≡ State.Valid →
       (o : Option Stamp) → next_stamp (kind_of op) (row_at k x.rows).stamp x.id ≡ o → OwesCall k op (at_limit o x number k op (row_at k x.rows))
   call_limit k op changes ready leased valid None e = refused k op (Exhausted (row_at k x.rows).stamp) refl
   call_limit k op changes ready leased valid (Some s) e = begun k op s changes ready leased valid (next_some (kind_of op) (row_at k x.rows).stamp x.id s e)
 
-  call_turn : (k : List ℕ) (op : Op) (b : Bool) → (act op (register_in (row_at k x.rows)) 0).changed ≡ b → x.ready ≡ true → Leased V (project key t) x.id.0 → (row_at k x.rows).state ≡ IsValid → OwesCall k op (at_turn b x number k op (row_at k x.rows))
+  call_turn : (k : List ℕ) (op : Op) (b : Bool) → (act op (register_in (row_at k x.rows)) 0).changed ≡ b → x.ready ≡ true → Leased V (project key t) x.id.0 → (row_at k x.rows).state ≡ State.Valid → OwesCall k op (at_turn b x number k op (row_at k x.rows))
   call_turn k op false e ready leased valid = looked k op e ready leased valid
   call_turn k op true e ready leased valid = call_limit k op e ready leased valid (next_stamp (kind_of op) (row_at k x.rows).stamp x.id) refl
 
-  call_state : (k : List ℕ) (op : Op) (state : RowState) → (row_at k x.rows).state ≡ state → x.ready ≡ true → Leased V (project key t) x.id.0 → OwesCall k op (at_state state x number k op (row_at k x.rows))
-  call_state k op IsValid e ready leased = call_turn k op (act op (register_in (row_at k x.rows)) 0).changed refl ready leased e
-  call_state k op IsInvalid e ready leased = refused k op (Busy (OfRow (row_at k x.rows).state (row_at k x.rows).stamp)) refl
-  call_state k op IsWrite e ready leased = refused k op (Busy (OfRow (row_at k x.rows).state (row_at k x.rows).stamp)) refl
-  call_state k op IsReplay e ready leased = refused k op (Busy (OfRow (row_at k x.rows).state (row_at k x.rows).stamp)) refl
-  call_state k op IsTrans e ready leased = refused k op (Busy (OfRow (row_at k x.rows).state (row_at k x.rows).stamp)) refl
+  call_state : (k : List ℕ) (op : Op) (state : State) → (row_at k x.rows).state ≡ state → x.ready ≡ true → Leased V (project key t) x.id.0 → OwesCall k op (at_state state x number k op (row_at k x.rows))
+  call_state k op State.Valid e ready leased = call_turn k op (act op (register_in (row_at k x.rows)) 0).changed refl ready leased e
+  call_state k op State.Invalid e ready leased = refused k op (Busy (Why.Row (row_at k x.rows).state (row_at k x.rows).stamp)) refl
+  call_state k op State.Write e ready leased = refused k op (Busy (Why.Row (row_at k x.rows).state (row_at k x.rows).stamp)) refl
+  call_state k op State.Replay e ready leased = refused k op (Busy (Why.Row (row_at k x.rows).state (row_at k x.rows).stamp)) refl
+  call_state k op State.Trans e ready leased = refused k op (Busy (Why.Row (row_at k x.rows).state (row_at k x.rows).stamp)) refl
 
   -- a node that is not ready has no lease
   call_end : (k : List ℕ) (op : Op) (b : Bool) → x.ready ≡ b → x.clock + x.skew ≤ cond b x.granted 0 → OwesCall k op (at_state (row_at k x.rows).state x number k op (row_at k x.rows))
@@ -187,7 +187,7 @@ module _ (V : ℕ → List ℕ) (key : List ℕ) (t : Trace) (parts : Parts V (p
   call_end k op false shadow runs = absurd (let c = (node_sound V key t parts own agrees tok x alive).clock_runs in omega arith)
 
   call_lease : (k : List ℕ) (op : Op) (b : Bool) → ltb (lease_end x) (x.clock + x.skew) ≡ b → OwesCall k op (at_lease b x number k op)
-  call_lease k op true e = refused k op (Busy (OfLease (lease_end x) x.clock)) refl
+  call_lease k op true e = refused k op (Busy (Why.Lease (lease_end x) x.clock)) refl
   call_lease k op false e = call_end k op x.ready refl (ltb-false (lease_end x) (x.clock + x.skew) e)
 
   call_owed : (k : List ℕ) (op : Op) → OwesCall k op (called x number k op)

@@ -5,10 +5,10 @@ use Rattle.hk_base.specs.declared.stamp.NodeId.{NodeId}
 use Rattle.hk_base.specs.declared.view.View.{View}
 use Rattle.hk_base.specs.declared.view.Change.{Change as ViewChange}
 use Rattle.hk_base.specs.declared.letter.Actor.{Actor}
-use Rattle.hk_base.specs.declared.letter.Actor.TheVariants as A
+use Rattle.hk_base.specs.declared.letter.Actor.TheVariants as Actor
 use Rattle.hk_base.specs.declared.letter.Body.TheVariants.{LeaseAsk}
 use Rattle.hk_clocks.specs.Clocks.{Paces}
-use Rattle.hk_manager.specs.declared.event.ManagerEvent.TheVariants.{Propose as Proposal, Activate as Activation}
+use Rattle.hk_manager.specs.declared.event.ManagerEvent.TheVariants as ManagerEvent
 use Rattle.hk_register.specs.Parts.{Parts}
 use Rattle.hk_node.specs.Node.{NodeState, epoch_of}
 use Rattle.hk_node.specs.Stepped.{Stepped, idle}
@@ -118,7 +118,7 @@ module _ (V : ℕ → List ℕ) (key : List ℕ) (t : Trace) (parts : Parts V (p
   asks_lease_owed manager x alive = by_there (ltb manager x.managers)
     where
       asking : Bool → Stepped
-      asking b = cond b (record { node = x; letters = record { epoch = epoch_of x; from = A.Node x.id; to = A.Manager manager; body = LeaseAsk x.clock } ∷ []; told = []; installed = None }) (idle x)
+      asking b = cond b (record { node = x; letters = record { epoch = epoch_of x; from = Actor.Node x.id; to = Actor.Manager manager; body = LeaseAsk x.clock } ∷ []; told = []; installed = None }) (idle x)
 
       by_there : (b : Bool) → OwesLive V key t parts own agrees tok x alive (asking b) (items_said key (AskLease x.id manager) (t.world.calls + 1) x (asking b))
       by_there true = quiet_node V (project key t) parts key x (here V key t parts own agrees tok x alive) (asking true) [] refl refl refl
@@ -143,8 +143,8 @@ module _ (V : ℕ → List ℕ) (key : List ℕ) (t : Trace) (parts : Parts V (p
   event_effect_at gives taken installed (Lease id end) a e = lease_effect id end a e
   event_effect_at gives taken installed (AskLease id manager) a e = live_step (Is (AskLease id manager) a) t.world a id (λ node. acts t.world id node (asks_lease node manager))
       (acts_effect (AskLease id manager) id (λ x. asks_lease x manager) a (λ x alive. asks_lease_owed manager x alive)) e
-  event_effect_at gives taken installed (Propose manager base change) a e = manager_effect V key t parts own agrees tok (Propose manager base change) manager (Proposal base change) a e
-  event_effect_at gives taken installed (Activate manager) a e = manager_effect V key t parts own agrees tok (Activate manager) manager Activation a e
+  event_effect_at gives taken installed (Propose manager base change) a e = manager_effect V key t parts own agrees tok (Propose manager base change) manager (ManagerEvent.Propose base change) a e
+  event_effect_at gives taken installed (Activate manager) a e = manager_effect V key t parts own agrees tok (Activate manager) manager ManagerEvent.Activate a e
 
 -- What remains to be shown of batches and views, at every moment.
 pub record AreOwed : Type 0 where

@@ -6,7 +6,7 @@ use Rattle.std.proofs.lemmas.Bool.{false≢true}
 use Rattle.hk_base.specs.declared.stamp.NodeId.{NodeId}
 use Rattle.hk_base.specs.declared.view.View.{View}
 use Rattle.hk_base.specs.View.{member_numbers}
-use Rattle.hk_register.specs.Machine.{In, Pending, Mark, State}
+use Rattle.hk_register.specs.Machine.{In, WaitingUpdate, Mark, RegisterState}
 use Rattle.hk_register.specs.Effects.{Has, row_mark}
 use Rattle.hk_register.specs.Runs.{founder, absent}
 use Rattle.hk_register.specs.Parts.{Parts, NodeOk, MarkOk}
@@ -141,7 +141,7 @@ founders_trace h = record {
 
 -- a node of the key is a founder's, or an absent one's
 module _ (h : Header) (key : List ℕ) where
-  abbrev Start : State
+  abbrev Start : RegisterState
   Start = project key (start_trace h)
 
   pub founders_parts : (V : ℕ → List ℕ) → Agrees (start h) V → Parts V Start
@@ -180,7 +180,7 @@ module _ (h : Header) (key : List ℕ) where
   pub founders_calls : CallParts Start
   founders_calls = record { pend = λ n p r has e. absurd (calm n (node_at n (start h).processes) refl p has); called = λ u none. absurd none; items = λ i none. absurd none; starts = tt; replies = tt }
     where
-      calm : (n : ℕ) (o : Option NodeState) → node_at n (start h).processes ≡ o → (p : Pending) → Has (Start.node n).phase p → ⊥
+      calm : (n : ℕ) (o : Option NodeState) → node_at n (start h).processes ≡ o → (p : WaitingUpdate) → Has (Start.node n).phase p → ⊥
       calm n None e p has = subst (λ (o : Option NodeState). Has (key_node key o).phase p) e has
       calm n (Some x) e p has = let f = node_founder h n x e in subst (λ (o : Option NodeState). Has (key_node key o).phase p) (e ∙ ap (λ (z : NodeState). Some z) f.0) has
 

@@ -2,8 +2,8 @@
 use Rattle.std.proofs.Common.{◌≡◌, ◌⊎◌, ℕ, ◌+◌, false, List, [], ◌∷◌, ◌++◌, ◌∙◌, refl, ap, inl, inr, ⊎_elim, Option, Some}
 use Rattle.hk_base.specs.declared.stamp.NodeId.{NodeId}
 use Rattle.hk_base.specs.declared.call.CallNo.{CallNo}
-use Rattle.hk_base.specs.declared.letter.Letter.{Letter as Wire}
-use Rattle.hk_register.specs.Machine.{In, Weaker, Marked, Node, Letter, Mark, Update, Item, State}
+use Rattle.hk_base.specs.declared.letter.Letter.{Letter}
+use Rattle.hk_register.specs.Machine.{In, Weaker, Marked, Node, Message, Mark, Update, Item, RegisterState}
 use Rattle.hk_register.specs.Effects.{Change}
 use Rattle.hk_register.proofs.Grow.{in_left, in_right, in_either}
 use Rattle.hk_clocks.specs.Clocks.{Paces}
@@ -15,7 +15,7 @@ use Rattle.hk_world.specs.Steps.{Accepted, with_step, shown_of}
 use Rattle.hk_effects.specs.Projection.{key_node, node_at, letter_of, letters_of, Trace, project, step_marks, told_at, items_of, updates_of, traced}
 use Rattle.hk_effects.proofs.Processes.{node-put_same, node-put_other}
 
-pub in_letters_append : (key : List ℕ) (xs ys : List Wire) (l : Letter) → In (letters_of key (xs ++ ys)) l → In (letters_of key xs) l ⊎ In (letters_of key ys) l
+pub in_letters_append : (key : List ℕ) (xs ys : List Letter) (l : Message) → In (letters_of key (xs ++ ys)) l → In (letters_of key xs) l ⊎ In (letters_of key ys) l
 in_letters_append key [] ys l h = inr h
 in_letters_append key (x ∷ xs) ys l h =
     ⊎_elim
@@ -48,7 +48,7 @@ step_change key t event calls paces call id x o at =
     let node : key_node key (node_at id.0 ps) ≡ key_node key (Some o.node) = ap (key_node key) now in
     let was : key_node key (node_at id.0 t.world.processes) ≡ key_node key (Some x) = ap (key_node key) at in
     let all = step_marks id.0 (key_node key (Some x)) (key_node key (Some o.node)) (letters_of key o.letters) in
-    let new : State = project key (traced key t event (accepted t.world id x o calls paces call)) in
+    let new : RegisterState = project key (traced key t event (accepted t.world id x o calls paces call)) in
     let marks : new.marks ≡ all ++ t.marks = rw (node, was) refl in
     record {
       here = node;
@@ -65,8 +65,8 @@ step_change key t event calls paces call id x o at =
     }
 
 -- a change that tells of fewer new marks, and of more letters
-pub narrow : (st new : State) (n : ℕ) (z : Node) (ls ls' : List Letter) (ms ms' : List Mark) (us : List Update) (hs : List Item) →
-    ((l : Letter) → In ls l → In ls' l) → ((k : Mark) → In ms' k → In ms k) → ((k : Mark) → In ms k → (j : Mark) × Weaker k j × (In ms' j ⊎ Marked st j)) →
+pub narrow : (st new : RegisterState) (n : ℕ) (z : Node) (ls ls' : List Message) (ms ms' : List Mark) (us : List Update) (hs : List Item) →
+    ((l : Message) → In ls l → In ls' l) → ((k : Mark) → In ms' k → In ms k) → ((k : Mark) → In ms k → (j : Mark) × Weaker k j × (In ms' j ⊎ Marked st j)) →
     Change st new n z ls ms us hs → Change st new n z ls' ms' us hs
 narrow st new n z ls ls' ms ms' us hs letters there from ch = record {
   here = ch.here;

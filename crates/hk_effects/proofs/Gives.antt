@@ -2,15 +2,15 @@
 use Rattle.std.proofs.Common.{◌≡◌, ℕ, Bool, true, false, cond, List, [], ◌∷◌, refl, subst, inl, Option, Some, None}
 use Rattle.std.proofs.lemmas.Bool.{false≢true}
 use Rattle.hk_base.specs.declared.stamp.NodeId.{NodeId}
-use Rattle.hk_base.specs.declared.call.State.{State as RowState}
-use Rattle.hk_base.specs.declared.call.State.TheVariants.{Valid as IsValid, Invalid as IsInvalid, Write as IsWrite, Replay as IsReplay, Trans as IsTrans}
+use Rattle.hk_base.specs.declared.call.State.{State}
+use Rattle.hk_base.specs.declared.call.State.TheVariants as State
 use Rattle.hk_base.specs.declared.letter.Body.TheVariants.{CopyGive}
 use Rattle.hk_base.specs.Stamp.{tag_of}
 use Rattle.hk_copy.specs.Batches.{is_nil}
-use Rattle.hk_key.specs.declared.row.Pending.{Pending as Waits}
-use Rattle.hk_register.specs.Machine.{Node, Letter, State}
+use Rattle.hk_key.specs.declared.row.Pending.{Pending}
+use Rattle.hk_register.specs.Machine.{Node, Message, RegisterState}
 use Rattle.hk_register.specs.Machine.Phase.{Valid}
-use Rattle.hk_register.specs.Machine.Letter.{Give}
+use Rattle.hk_register.specs.Machine.Message.{Give}
 use Rattle.hk_register.specs.Effects.{Change}
 use Rattle.hk_register.specs.Effects.Effect.{GiveRow}
 use Rattle.hk_register.specs.Parts.{Parts}
@@ -26,14 +26,14 @@ use Rattle.hk_effects.proofs.Steps.{sourced, old_row}
 use Rattle.hk_effects.proofs.Nodes.{OwesStep, quiet_node, idle_step}
 use Rattle.hk_effects.proofs.Batches.{batch_tells}
 
-valid_phase : (state : RowState) (p : Option Waits) → is_valid state ≡ true → phase_of state p ≡ Valid
-valid_phase IsValid p e = refl
-valid_phase IsInvalid p e = absurd (false≢true e)
-valid_phase IsWrite p e = absurd (false≢true e)
-valid_phase IsReplay p e = absurd (false≢true e)
-valid_phase IsTrans p e = absurd (false≢true e)
+valid_phase : (state : State) (p : Option Pending) → is_valid state ≡ true → phase_of state p ≡ Valid
+valid_phase State.Valid p e = refl
+valid_phase State.Invalid p e = absurd (false≢true e)
+valid_phase State.Write p e = absurd (false≢true e)
+valid_phase State.Replay p e = absurd (false≢true e)
+valid_phase State.Trans p e = absurd (false≢true e)
 
-module _ (V : ℕ → List ℕ) (st : State) (parts : Parts V st) (key : List ℕ) (x : NodeState) (is : st.node x.id.0 ≡ key_node key (Some x)) where
+module _ (V : ℕ → List ℕ) (st : RegisterState) (parts : Parts V st) (key : List ℕ) (x : NodeState) (is : st.node x.id.0 ≡ key_node key (Some x)) where
   -- what a batch sends
   abbrev giving : NodeId → Option (List ℕ) → ℕ → Stepped
   giving to after room = record { node = x; letters = letters_to x (CopyGive after (is_nil (batch_behind x after room).left) (batch_behind x after room).taken) (to ∷ []); told = []; installed = None }
@@ -47,7 +47,7 @@ module _ (V : ℕ → List ℕ) (st : State) (parts : Parts V st) (key : List �
       let tells = batch_tells key x after room ok e in
       let give = Give x.id.0 (epoch_of x) (tag_of row.stamp) row.kind row.content (is_valid row.state) ∷ [] in
       let letters : letters_of key (giving to after room).letters ≡ give = rw (e, tells.stamp, tells.kind, tells.content, tells.valid) refl in
-      let ch1 : Change st new x.id.0 z give (step_marks x.id.0 z z give) [] [] = subst (λ (ls : List Letter). Change st new x.id.0 z ls (step_marks x.id.0 z z ls) [] []) letters ch in
+      let ch1 : Change st new x.id.0 z give (step_marks x.id.0 z z give) [] [] = subst (λ (ls : List Message). Change st new x.id.0 z ls (step_marks x.id.0 z z ls) [] []) letters ch in
       let ch2 : Change st new x.id.0 z give [] [] [] = acks_are_new st x.id.0 z new z give give give [] [] (λ some. old_row V st parts key x (has_copied x key) row is row refl some) refl (sourced V st parts key x (has_copied x key) row is) (λ l h. h) ch1 in
       inl (GiveRow x.id.0 (is_valid row.state), record { allowed = (rw is ready, λ v. rw is (valid_phase row.state row.pending v)); change = rw is ch2 })
 

@@ -7,10 +7,10 @@ use Rattle.hk_base.specs.declared.stamp.Stamp.{Stamp}
 use Rattle.hk_base.specs.declared.stamp.NodeId.{NodeId}
 use Rattle.hk_base.specs.declared.call.CallNo.{CallNo}
 use Rattle.hk_base.specs.declared.call.Op.{Op}
-use Rattle.hk_base.specs.declared.call.State.{State as RowState}
-use Rattle.hk_base.specs.declared.call.State.TheVariants.{Valid as IsValid, Invalid as IsInvalid, Write as IsWrite, Replay as IsReplay, Trans as IsTrans}
+use Rattle.hk_base.specs.declared.call.State.{State}
+use Rattle.hk_base.specs.declared.call.State.TheVariants as State
 use Rattle.hk_base.specs.declared.letter.Actor.{Actor}
-use Rattle.hk_base.specs.declared.letter.Actor.TheVariants as A
+use Rattle.hk_base.specs.declared.letter.Actor.TheVariants as Actor
 use Rattle.hk_base.specs.declared.letter.Body.{Body}
 use Rattle.hk_base.specs.declared.letter.Body.TheVariants.{Inv, Ack, Val, CopyAsk, CopyGive, LeaseAsk, LeaseGive, Prepare, Promise, Accept, Accepted, Chosen, Activate}
 use Rattle.hk_base.specs.declared.letter.Letter.{Letter}
@@ -66,12 +66,12 @@ called_seen x call key op = by_lease (ltb (lease_end x) (x.clock + x.skew))
     by_turn true = by_limit (next_stamp (kind_of op) (row_at key x.rows).stamp x.id)
     by_turn false = refl
 
-    by_state : (s : RowState) → SeesSame x (at_state s x call key op (row_at key x.rows))
-    by_state IsValid = by_turn (act op (register_in (row_at key x.rows)) 0).changed
-    by_state IsInvalid = refl
-    by_state IsWrite = refl
-    by_state IsReplay = refl
-    by_state IsTrans = refl
+    by_state : (s : State) → SeesSame x (at_state s x call key op (row_at key x.rows))
+    by_state State.Valid = by_turn (act op (register_in (row_at key x.rows)) 0).changed
+    by_state State.Invalid = refl
+    by_state State.Write = refl
+    by_state State.Replay = refl
+    by_state State.Trans = refl
 
     by_lease : (b : Bool) → SeesSame x (at_lease b x call key op)
     by_lease true = refl
@@ -84,7 +84,7 @@ pub asks_seen : (x : NodeState) (from : NodeId) (room : ℕ) → SeesSame x (ask
 asks_seen x from room = given_seen x (record { node = x; letters = letters_to x (CopyAsk x.cursor room) (from ∷ []); told = []; installed = None }) (not x.ready && is_other x from) refl
 
 pub asks_lease_seen : (x : NodeState) (manager : ℕ) → SeesSame x (asks_lease x manager)
-asks_lease_seen x manager = given_seen x (record { node = x; letters = record { epoch = epoch_of x; from = A.Node x.id; to = A.Manager manager; body = LeaseAsk x.clock } ∷ []; told = []; installed = None }) (ltb manager x.managers) refl
+asks_lease_seen x manager = given_seen x (record { node = x; letters = record { epoch = epoch_of x; from = Actor.Node x.id; to = Actor.Manager manager; body = LeaseAsk x.clock } ∷ []; told = []; installed = None }) (ltb manager x.managers) refl
 
 received_seen : (body : Body) (x : NodeState) (from : NodeId) → SeesSame x (received body x from)
 received_seen (Inv k s kind content) x from = refl
@@ -105,8 +105,8 @@ pub receives_seen : (x : NodeState) (l : Letter) → x.managers ≡ 0 → SeesSa
 receives_seen x l none = by_from l.from
   where
     by_from : (a : Actor) → SeesSame x (receives_from a x l)
-    by_from (A.Manager m) = ap (λ (s : Stepped). seen_of s.node) (unheard x l m none)
-    by_from (A.Node from) = given_seen x (received l.body x from) (is_addressed x l.to && (eqb l.epoch (epoch_of x) && is_other x from)) (received_seen l.body x from)
+    by_from (Actor.Manager m) = ap (λ (s : Stepped). seen_of s.node) (unheard x l m none)
+    by_from (Actor.Node from) = given_seen x (received l.body x from) (is_addressed x l.to && (eqb l.epoch (epoch_of x) && is_other x from)) (received_seen l.body x from)
 
 -- a lease that has ended has still ended
 abbrev pub StillEnded : NodeState → NodeState → Type 0

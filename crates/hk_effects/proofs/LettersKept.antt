@@ -21,7 +21,7 @@ use Rattle.hk_copy.specs.declared.given.TheConstants.{MAX_BATCH_BYTES}
 use Rattle.hk_key.specs.declared.row.Pending.{Pending}
 use Rattle.hk_key.specs.declared.row.Row.{Row}
 use Rattle.hk_key.specs.declared.out.What.{What}
-use Rattle.hk_key.specs.declared.out.What.TheVariants.{InvRow, InvPending, Ack as AckOf, Val as ValOf}
+use Rattle.hk_key.specs.declared.out.What.TheVariants as What
 use Rattle.hk_key.specs.declared.out.Sending.{Sending}
 use Rattle.hk_key.specs.Table.{first_row}
 use Rattle.hk_register.specs.Machine.{In}
@@ -68,14 +68,14 @@ letters_told x b (n ∷ ns) ok l (inl e) = subst (λ (k : Letter). IsSaid k.body
 letters_told x b (n ∷ ns) ok l (inr h) = letters_told x b ns ok l h
 
 body_told : (calls : ℕ) (k : List ℕ) (row : Row) (what : What) → IsRowOf calls row → IsSaid (body_of k row what)
-body_told calls k row InvRow ok = ok.small
-body_told calls k row InvPending ok = by_pending row.pending ok.pending
+body_told calls k row What.InvRow ok = ok.small
+body_told calls k row What.InvPending ok = by_pending row.pending ok.pending
   where
     by_pending : (p : Option Pending) → MayWait calls p → IsSaid (pending_body k row p)
     by_pending None h = ok.small
     by_pending (Some p) h = h.small
-body_told calls k row (AckOf s top) ok = tt
-body_told calls k row (ValOf s) ok = tt
+body_told calls k row (What.Ack s top) ok = tt
+body_told calls k row (What.Val s) ok = tt
 
 -- the letters of a row's step
 pub sent_told : (calls : ℕ) (x : NodeState) (k : List ℕ) (row : Row) (send : Option Sending) → IsRowOf calls row → AreTold (sent x k row send)

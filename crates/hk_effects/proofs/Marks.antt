@@ -1,7 +1,7 @@
 -- The marks of a step, brought down to those that are new.
 use Rattle.std.proofs.Common.{◌≡◌, ◌⊎◌, ℕ, Bool, true, false, cond, List, [], ◌∷◌, ◌++◌, ◌≤◌, sym, refl, inl, inr, ⊎_elim, arith, leb, ltb, leb-true, le-leb}
 use Rattle.std.proofs.lemmas.Bool.{false≢true, ltb-true}
-use Rattle.hk_register.specs.Machine.{In, Weaker, Marked, Pending, Phase, Node, Letter, Mark, Update, Item, State}
+use Rattle.hk_register.specs.Machine.{In, Weaker, Marked, WaitingUpdate, Phase, Node, Message, Mark, Update, Item, RegisterState}
 use Rattle.hk_register.specs.Machine.Phase.{Valid, Invalid, Write, Replay, Trans}
 use Rattle.hk_register.specs.Facts.{ReadyCovers}
 use Rattle.hk_register.specs.Effects.{Change, Has, row_mark, cover_mark}
@@ -12,8 +12,8 @@ use Rattle.hk_effects.specs.Projection.{pending_marks, moment_marks, install_mar
 use Rattle.hk_effects.proofs.Frames.{itself, narrow}
 
 -- a pending update's stamp is the row's, or was covered before
-abbrev pub Sourced : State → ℕ → Node → Type 0
-Sourced st n z = (p : Pending) → Has z.phase p → (p.stamp ≡ z.stamp) ⊎ ReadyCovers st n z.epoch p.stamp
+abbrev pub Sourced : RegisterState → ℕ → Node → Type 0
+Sourced st n z = (p : WaitingUpdate) → Has z.phase p → (p.stamp ≡ z.stamp) ⊎ ReadyCovers st n z.epoch p.stamp
 
 pub no_install : (n : ℕ) (was z : Node) → z.epoch ≡ was.epoch → install_marks n was z ≡ []
 no_install n was z same = by_test (ltb was.epoch z.epoch) refl
@@ -22,13 +22,13 @@ no_install n was z same = by_test (ltb was.epoch z.epoch) refl
     by_test true e = absurd (let l = ltb-true was.epoch z.epoch e in omega arith)
     by_test false e = refl
 
-module _ (st : State) (n : ℕ) (z : Node) where
+module _ (st : RegisterState) (n : ℕ) (z : Node) where
   -- a cover of the row's stamp, or of an older one
-  one_source : (p : Pending) → (p.stamp ≡ z.stamp) ⊎ ReadyCovers st n z.epoch p.stamp → (k : Mark) → k ≡ cover_mark n z p.stamp → Weaker k (row_mark n z) ⊎ ((j : Mark) × Weaker k j × Marked st j)
+  one_source : (p : WaitingUpdate) → (p.stamp ≡ z.stamp) ⊎ ReadyCovers st n z.epoch p.stamp → (k : Mark) → k ≡ cover_mark n z p.stamp → Weaker k (row_mark n z) ⊎ ((j : Mark) × Weaker k j × Marked st j)
   one_source p (inl same) k is = inl (rw is (record { who = refl; epoch = refl; stamp = same; exact = λ no_exact. absurd (false≢true no_exact); ready = λ e. e }))
   one_source p (inr w) k is = inr (w.mark, rw is (record { who = sym w.who; epoch = sym w.epoch; stamp = sym w.stamp; exact = λ no_exact. absurd (false≢true no_exact); ready = λ _. w.ready }), w.marked)
 
-  pending_source : (phase : Phase) → ((p : Pending) → Has phase p → (p.stamp ≡ z.stamp) ⊎ ReadyCovers st n z.epoch p.stamp) → (k : Mark) → In (pending_marks n z phase) k → Weaker k (row_mark n z) ⊎ ((j : Mark) × Weaker k j × Marked st j)
+  pending_source : (phase : Phase) → ((p : WaitingUpdate) → Has phase p → (p.stamp ≡ z.stamp) ⊎ ReadyCovers st n z.epoch p.stamp) → (k : Mark) → In (pending_marks n z phase) k → Weaker k (row_mark n z) ⊎ ((j : Mark) × Weaker k j × Marked st j)
   pending_source Valid ok k h = absurd h
   pending_source Invalid ok k h = absurd h
   pending_source (Write p) ok k h = ⊎_elim (one_source p (ok p refl) k) (λ (none : ⊥). absurd none) h
@@ -47,8 +47,8 @@ module _ (st : State) (n : ℕ) (z : Node) where
   row_first some ks = rw (le-leb 1 z.epoch some) (inl refl)
 
   -- the row's mark is the only new one
-  pub row_is_new : (new : State) (was : Node) (ls acks_from ls' : List Letter) (us : List Update) (hs : List Item) → 1 ≤ z.epoch → z.epoch ≡ was.epoch → Sourced st n z →
-      ((l : Letter) → In ls l → In ls' l) → ((k : Mark) → In (ack_marks n z acks_from) k → k ≡ cover_mark n z z.stamp) →
+  pub row_is_new : (new : RegisterState) (was : Node) (ls acks_from ls' : List Message) (us : List Update) (hs : List Item) → 1 ≤ z.epoch → z.epoch ≡ was.epoch → Sourced st n z →
+      ((l : Message) → In ls l → In ls' l) → ((k : Mark) → In (ack_marks n z acks_from) k → k ≡ cover_mark n z z.stamp) →
       Change st new n z ls (step_marks n was z acks_from) us hs → Change st new n z ls' (row_mark n z ∷ []) us hs
   row_is_new new was ls acks_from ls' us hs some same ok letters acks ch =
       narrow st new n z ls ls' (step_marks n was z acks_from) (row_mark n z ∷ []) us hs letters
@@ -65,8 +65,8 @@ module _ (st : State) (n : ℕ) (z : Node) where
       (in_either (moment_marks n z) (install_marks n was z ++ ack_marks n z acks_from) k h)) ch
 
   -- the ACKs' marks are the only new ones
-  pub acks_are_new : (new : State) (was : Node) (ls acks_from ls' : List Letter) (us : List Update) (hs : List Item) → (1 ≤ z.epoch → Marked st (row_mark n z)) → z.epoch ≡ was.epoch → Sourced st n z →
-      ((l : Letter) → In ls l → In ls' l) →
+  pub acks_are_new : (new : RegisterState) (was : Node) (ls acks_from ls' : List Message) (us : List Update) (hs : List Item) → (1 ≤ z.epoch → Marked st (row_mark n z)) → z.epoch ≡ was.epoch → Sourced st n z →
+      ((l : Message) → In ls l → In ls' l) →
       Change st new n z ls (step_marks n was z acks_from) us hs → Change st new n z ls' (ack_marks n z acks_from) us hs
   acks_are_new new was ls acks_from ls' us hs row same ok letters ch =
       narrow st new n z ls ls' (step_marks n was z acks_from) (ack_marks n z acks_from) us hs letters
@@ -83,8 +83,8 @@ module _ (st : State) (n : ℕ) (z : Node) where
       (in_either (moment_marks n z) (install_marks n was z ++ ack_marks n z acks_from) k h)) ch
 
 -- what the parts give of a pending update
-module _ (V : ℕ → List ℕ) (st : State) (parts : Parts V st) (n : ℕ) where
-  pub own_pending : (p : Pending) → Has (st.node n).phase p → PendingOk V st n (st.node n) p
+module _ (V : ℕ → List ℕ) (st : RegisterState) (parts : Parts V st) (n : ℕ) where
+  pub own_pending : (p : WaitingUpdate) → Has (st.node n).phase p → PendingOk V st n (st.node n) p
   own_pending p has = pending_of V st n (st.node n) (st.node n).phase p has (parts.nodes n).phase
 
   pub sourced_same : Sourced st n (st.node n)

@@ -3,16 +3,16 @@ use Rattle.std.proofs.Common.{◌≡◌, ℕ, Bool, true, false, cond, not, ◌|
 use Rattle.std.specs.Option.{option_or}
 use Rattle.std.proofs.lemmas.Bool.{false≢true, and_parts, and_cases, or_parts, or_cases}
 use Rattle.std.proofs.lemmas.Cmp.{ranked}
-use Rattle.hk_base.specs.declared.call.State.{State as RowState}
-use Rattle.hk_base.specs.declared.call.State.TheVariants.{Valid as IsValid, Invalid as IsInvalid, Write as IsWrite, Replay as IsReplay, Trans as IsTrans}
+use Rattle.hk_base.specs.declared.call.State.{State}
+use Rattle.hk_base.specs.declared.call.State.TheVariants as State
 use Rattle.hk_base.specs.declared.letter.CopyItem.{CopyItem}
 use Rattle.hk_base.specs.Stamp.{tag_of}
 use Rattle.hk_copy.specs.Batches.{last_key}
 use Rattle.hk_key.specs.declared.row.Row.{Row}
 use Rattle.hk_key.specs.Table.{state_of_copy, copied_same, on_copy_at, on_copy}
-use Rattle.hk_register.specs.Machine.{In, Marked, Pending, Phase, Node, Mark, State}
+use Rattle.hk_register.specs.Machine.{In, Marked, WaitingUpdate, Phase, Node, Mark, RegisterState}
 use Rattle.hk_register.specs.Machine.Phase.{Valid, Invalid, Write, Replay, Trans}
-use Rattle.hk_register.specs.Machine.Letter.{Give}
+use Rattle.hk_register.specs.Machine.Message.{Give}
 use Rattle.hk_register.specs.Effects.{Change, Has, IsIdle, row_mark}
 use Rattle.hk_register.specs.Effects.Effect.{CopyRow, PassRow, CopyValid, GetReady}
 use Rattle.hk_register.specs.Parts.{Parts}
@@ -35,7 +35,7 @@ copied_phase true = refl
 copied_phase false = refl
 
 -- a phase with nothing pending
-calm_of : (ph : Phase) → ((p : Pending) → Has ph p → ⊥) → IsIdle ph
+calm_of : (ph : Phase) → ((p : WaitingUpdate) → Has ph p → ⊥) → IsIdle ph
 calm_of Valid none = inl refl
 calm_of Invalid none = inr refl
 calm_of (Write p) none = absurd (none p refl)
@@ -43,15 +43,15 @@ calm_of (Replay p) none = absurd (none p refl)
 calm_of (Trans p) none = absurd (none p refl)
 
 -- a row that is copied has nothing pending
-still_calm : (v : Bool) (state : RowState) (r : Row) → ((p : Pending) → Has (phase_of r.state r.pending) p → ⊥) → (p : Pending) → Has (phase_of (copied_same v state r).state (copied_same v state r).pending) p → ⊥
+still_calm : (v : Bool) (state : State) (r : Row) → ((p : WaitingUpdate) → Has (phase_of r.state r.pending) p → ⊥) → (p : WaitingUpdate) → Has (phase_of (copied_same v state r).state (copied_same v state r).pending) p → ⊥
 still_calm false state r none p h = none p h
-still_calm true IsValid r none p h = none p h
-still_calm true IsWrite r none p h = none p h
-still_calm true IsReplay r none p h = none p h
-still_calm true IsTrans r none p h = none p h
-still_calm true IsInvalid r none p h = h
+still_calm true State.Valid r none p h = none p h
+still_calm true State.Write r none p h = none p h
+still_calm true State.Replay r none p h = none p h
+still_calm true State.Trans r none p h = none p h
+still_calm true State.Invalid r none p h = h
 
-copy_calm : (o : Ordering) (r : Row) (i : CopyItem) → ((p : Pending) → Has (phase_of r.state r.pending) p → ⊥) → (p : Pending) → Has (phase_of (on_copy_at o r i).state (on_copy_at o r i).pending) p → ⊥
+copy_calm : (o : Ordering) (r : Row) (i : CopyItem) → ((p : WaitingUpdate) → Has (phase_of r.state r.pending) p → ⊥) → (p : WaitingUpdate) → Has (phase_of (on_copy_at o r i).state (on_copy_at o r i).pending) p → ⊥
 copy_calm Greater r i none p h = none p h
 copy_calm Equal r i none p h = still_calm i.valid r.state r none p h
 copy_calm Less r i none p h = by_valid i.valid h
@@ -61,7 +61,7 @@ copy_calm Less r i none p h = by_valid i.valid h
     by_valid false h = h
 
 -- a mark that is not new
-drop_mark : (st new : State) (n : ℕ) (z : Node) (k : Mark) → Marked st k → Change st new n z [] (k ∷ []) [] [] → Change st new n z [] [] [] []
+drop_mark : (st new : RegisterState) (n : ℕ) (z : Node) (k : Mark) → Marked st k → Change st new n z [] (k ∷ []) [] [] → Change st new n z [] [] [] []
 drop_mark st new n z k marked ch =
     narrow st new n z [] [] (k ∷ []) [] [] [] (λ l h. h) (λ j h. absurd h) (λ j h. ⊎_elim (λ (e : j ≡ k). (k, rw e (itself k), inr marked)) (λ (none : ⊥). absurd none) h) ch
 
@@ -74,14 +74,14 @@ abbrev pub after_batch : NodeState → Bool → List CopyItem → Stepped
 after_batch x done items = record { node = record x { ready = done; cursor = option_or (last_key items) x.cursor; rows = merged items x.rows }; letters = []; told = []; installed = None }
 
 -- The node is not ready, so nothing of it is pending.
-module _ (V : ℕ → List ℕ) (st : State) (parts : Parts V st) (key : List ℕ) (x : NodeState) (is : st.node x.id.0 ≡ key_node key (Some x)) (some : 1 ≤ epoch_of x) (shadow : x.ready ≡ false) where
+module _ (V : ℕ → List ℕ) (st : RegisterState) (parts : Parts V st) (key : List ℕ) (x : NodeState) (is : st.node x.id.0 ≡ key_node key (Some x)) (some : 1 ≤ epoch_of x) (shadow : x.ready ≡ false) where
   here_is : key_node key (Some x) ≡ row_node x (not (is_behind x.cursor key)) (row_at key x.rows)
   here_is = rw shadow refl
 
   is_shadow : st.node x.id.0 ≡ row_node x (not (is_behind x.cursor key)) (row_at key x.rows)
   is_shadow = is ∙ here_is
 
-  none_waits : (p : Pending) → Has (phase_of (row_at key x.rows).state (row_at key x.rows).pending) p → ⊥
+  none_waits : (p : WaitingUpdate) → Has (phase_of (row_at key x.rows).state (row_at key x.rows).pending) p → ⊥
   none_waits p has =
       let w = own_pending V st parts x.id.0 p (rw is_shadow has) in
       let r : x.ready ≡ true = rw is_shadow at w.ready in
@@ -93,11 +93,11 @@ module _ (V : ℕ → List ℕ) (st : State) (parts : Parts V st) (key : List �
       rw own ((parts.nodes x.id.0).marked (rw is_shadow some))
 
   -- the change that takes the key to this row, not ready yet
-  abbrev Copied : State → Row → Type 0
+  abbrev Copied : RegisterState → Row → Type 0
   Copied new r = Change st new x.id.0 (as_copied x false true r) [] (row_mark x.id.0 (as_copied x false true r) ∷ []) [] []
 
   -- a row that is not above the node's is passed
-  passes_row : (new : State) (from : ℕ) (i : CopyItem) → tag_of i.stamp ≤ tag_of (row_at key x.rows).stamp → In st.letters (Give from (epoch_of x) (tag_of i.stamp) i.kind i.content i.valid) → Copied new (row_at key x.rows) → OneEffect V st new
+  passes_row : (new : RegisterState) (from : ℕ) (i : CopyItem) → tag_of i.stamp ≤ tag_of (row_at key x.rows).stamp → In st.letters (Give from (epoch_of x) (tag_of i.stamp) i.kind i.content i.valid) → Copied new (row_at key x.rows) → OneEffect V st new
   passes_row new from i upto sent ch = (
     PassRow x.id.0 from (tag_of i.stamp) i.kind i.content i.valid,
     record {
@@ -107,20 +107,20 @@ module _ (V : ℕ → List ℕ) (st : State) (parts : Parts V st) (key : List �
   )
 
   -- one of the same stamp makes an Invalid row Valid, where it was Valid there
-  copies_same : (new : State) (from : ℕ) (i : CopyItem) → tag_of (row_at key x.rows).stamp ≡ tag_of i.stamp → In st.letters (Give from (epoch_of x) (tag_of i.stamp) i.kind i.content i.valid) →
-      (v : Bool) → i.valid ≡ v → (state : RowState) → Copied new (copied_same v state (row_at key x.rows)) → OneEffect V st new
+  copies_same : (new : RegisterState) (from : ℕ) (i : CopyItem) → tag_of (row_at key x.rows).stamp ≡ tag_of i.stamp → In st.letters (Give from (epoch_of x) (tag_of i.stamp) i.kind i.content i.valid) →
+      (v : Bool) → i.valid ≡ v → (state : State) → Copied new (copied_same v state (row_at key x.rows)) → OneEffect V st new
   copies_same new from i same sent false e state ch = passes_row new from i (le_of_eq (sym same)) sent ch
-  copies_same new from i same sent true e IsValid ch = passes_row new from i (le_of_eq (sym same)) sent ch
-  copies_same new from i same sent true e IsWrite ch = passes_row new from i (le_of_eq (sym same)) sent ch
-  copies_same new from i same sent true e IsReplay ch = passes_row new from i (le_of_eq (sym same)) sent ch
-  copies_same new from i same sent true e IsTrans ch = passes_row new from i (le_of_eq (sym same)) sent ch
-  copies_same new from i same sent true e IsInvalid ch =
-      let r : Row = record (row_at key x.rows) { state = IsValid } in
+  copies_same new from i same sent true e State.Valid ch = passes_row new from i (le_of_eq (sym same)) sent ch
+  copies_same new from i same sent true e State.Write ch = passes_row new from i (le_of_eq (sym same)) sent ch
+  copies_same new from i same sent true e State.Replay ch = passes_row new from i (le_of_eq (sym same)) sent ch
+  copies_same new from i same sent true e State.Trans ch = passes_row new from i (le_of_eq (sym same)) sent ch
+  copies_same new from i same sent true e State.Invalid ch =
+      let r : Row = record (row_at key x.rows) { state = State.Valid } in
       let ch' = drop_mark st new x.id.0 (as_copied x false true r) (row_mark x.id.0 (as_copied x false true r)) (old_mark true r refl) ch in
       let sent' : In st.letters (Give from (epoch_of x) (tag_of i.stamp) i.kind i.content true) = rw e at sent in
       (CopyValid x.id.0 from (tag_of i.stamp) i.kind i.content, record { allowed = (rw is_shadow sent', rw is_shadow some, rw is_shadow (sym same)); change = rw (is_shadow, shadow) ch' })
 
-  copies_row : (new : State) (from : ℕ) (i : CopyItem) (o : Ordering) → o ≡ nat_cmp (tag_of (row_at key x.rows).stamp) (tag_of i.stamp) → In st.letters (Give from (epoch_of x) (tag_of i.stamp) i.kind i.content i.valid) →
+  copies_row : (new : RegisterState) (from : ℕ) (i : CopyItem) (o : Ordering) → o ≡ nat_cmp (tag_of (row_at key x.rows).stamp) (tag_of i.stamp) → In st.letters (Give from (epoch_of x) (tag_of i.stamp) i.kind i.content i.valid) →
       Copied new (on_copy_at o (row_at key x.rows) i) → OneEffect V st new
   copies_row new from i Less rank sent ch =
       let above = ranked (tag_of (row_at key x.rows).stamp) (tag_of i.stamp) Less rank in
@@ -140,25 +140,25 @@ module _ (V : ℕ → List ℕ) (st : State) (parts : Parts V st) (key : List �
     now_is d r ed er c ec = rw (er, ed, ec) refl
 
     -- the change that the event makes
-    abbrev Taken : State → Type 0
+    abbrev Taken : RegisterState → Type 0
     Taken new =
         Change st new x.id.0 (key_node key (Some (after_batch x done items).node)) [] (step_marks x.id.0 (key_node key (Some x)) (key_node key (Some (after_batch x done items).node)) []) [] []
 
-    changed : (new : State) → Taken new → (d : Bool) (r : Row) (c : Bool) → done ≡ d → row_at key (merged items x.rows) ≡ r → cond d true (not (is_behind (next_cursor x.cursor items) key)) ≡ c → ((p : Pending) → Has (phase_of r.state r.pending) p → ⊥) →
+    changed : (new : RegisterState) → Taken new → (d : Bool) (r : Row) (c : Bool) → done ≡ d → row_at key (merged items x.rows) ≡ r → cond d true (not (is_behind (next_cursor x.cursor items) key)) ≡ c → ((p : WaitingUpdate) → Has (phase_of r.state r.pending) p → ⊥) →
         Change st new x.id.0 (as_copied x d c r) [] (row_mark x.id.0 (as_copied x d c r) ∷ []) [] []
     changed new ch d r c ed er ec none =
         row_is_new st x.id.0 (as_copied x d c r) new (key_node key (Some x)) [] [] [] [] [] some refl (λ p has. absurd (none p has)) (λ l h. h) (λ k h. absurd h)
         (subst (λ (y : Node). Change st new x.id.0 y [] (step_marks x.id.0 (key_node key (Some x)) y []) [] []) (now_is d r ed er c ec) ch)
 
     -- the key's row is r, by this effect
-    covered : (new : State) → Taken new → (d : Bool) (r : Row) → done ≡ d → row_at key (merged items x.rows) ≡ r → (d ≡ false → not (is_behind (next_cursor x.cursor items) key) ≡ true) → ((p : Pending) → Has (phase_of r.state r.pending) p → ⊥) →
-        ((to : State) → Copied to r → OneEffect V st to) → Effects V st new
+    covered : (new : RegisterState) → Taken new → (d : Bool) (r : Row) → done ≡ d → row_at key (merged items x.rows) ≡ r → (d ≡ false → not (is_behind (next_cursor x.cursor items) key) ≡ true) → ((p : WaitingUpdate) → Has (phase_of r.state r.pending) p → ⊥) →
+        ((to : RegisterState) → Copied to r → OneEffect V st to) → Effects V st new
     covered new ch false r ed er upto none effect = inl (effect new (changed new ch false r true ed er (upto refl) none))
     covered new ch true r ed er upto none effect =
         let z = as_copied x true true r in
         let z0 = as_copied x false true r in
         let ks = row_mark x.id.0 z0 ∷ [] in
-        let mid : State = mid_state st x.id.0 z0 [] ks [] [] in
+        let mid : RegisterState = mid_state st x.id.0 z0 [] ks [] [] in
         let here = at_mid st x.id.0 z0 [] ks [] [] in
         let whole = changed new ch true r true ed er refl none in
         let second = second_change st new x.id.0 z0 z [] [] ks (row_mark x.id.0 z ∷ []) [] [] [] whole
@@ -167,14 +167,14 @@ module _ (V : ℕ → List ℕ) (st : State) (parts : Parts V st) (key : List �
         inr (mid, effect mid (mid_change st x.id.0 z0 [] ks [] []), (GetReady x.id.0, record { allowed = (rw here some, rw here refl, rw here idle); change = rw here second }))
 
     -- nothing of the key changes
-    as_before : (new : State) → Taken new → (c : Bool) → done ≡ false → row_at key (merged items x.rows) ≡ row_at key x.rows → not (is_behind x.cursor key) ≡ c → not (is_behind (next_cursor x.cursor items) key) ≡ c → Effects V st new
+    as_before : (new : RegisterState) → Taken new → (c : Bool) → done ≡ false → row_at key (merged items x.rows) ≡ row_at key x.rows → not (is_behind x.cursor key) ≡ c → not (is_behind (next_cursor x.cursor items) key) ≡ c → Effects V st new
     as_before new ch c ed same was_c now_c =
         let node : key_node key (Some (after_batch x done items).node) ≡ key_node key (Some x) =
         now_is false (row_at key x.rows) ed same c now_c ∙ (ap (λ (b : Bool). row_node (record x { ready = b }) c (row_at key x.rows)) (sym shadow) ∙ (ap (λ (b : Bool). row_node x b (row_at key x.rows)) (sym was_c) ∙ sym here_is)) in
         quiet_node V st parts key x is (after_batch x done items) [] node refl refl new ch
 
     -- a key that was copied before: the node may become ready
-    passed : (new : State) → Taken new → (d : Bool) → done ≡ d → is_behind x.cursor key ≡ false → Effects V st new
+    passed : (new : RegisterState) → Taken new → (d : Bool) → done ≡ d → is_behind x.cursor key ≡ false → Effects V st new
     passed new ch false ed low = as_before new ch true ed (merged_below x.cursor key items x.rows rises low) (ap not low) (ap not (upto_last x.cursor key items rises low))
     passed new ch true ed low =
         let copied : not (is_behind x.cursor key) ≡ true = ap not low in
@@ -183,7 +183,7 @@ module _ (V : ℕ → List ℕ) (st : State) (parts : Parts V st) (key : List �
         inl (GetReady x.id.0, record { allowed = (rw is_shadow some, rw is_shadow copied, rw is_shadow idle); change = rw (is_shadow, copied) whole })
 
     -- a key behind the last one is not copied yet
-    beyond : (new : State) → Taken new → done ≡ false → is_behind (next_cursor x.cursor items) key ≡ true → Effects V st new
+    beyond : (new : RegisterState) → Taken new → done ≡ false → is_behind (next_cursor x.cursor items) key ≡ true → Effects V st new
     beyond new ch ed past =
         as_before new ch false ed (merged_past x.cursor key items x.rows rises past) (ap not (behind_last x.cursor key items rises past)) (ap not past)
 

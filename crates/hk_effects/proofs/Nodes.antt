@@ -3,7 +3,7 @@ use Rattle.std.proofs.Common.{◌≡◌, ◌≢◌, ℕ, false, List, [], map, �
 use Rattle.hk_base.specs.declared.call.Reply.{Reply}
 use Rattle.hk_key.specs.declared.row.Row.{Row}
 use Rattle.hk_key.specs.Table.{Done}
-use Rattle.hk_register.specs.Machine.{Node, Letter, Update, Item, State}
+use Rattle.hk_register.specs.Machine.{Node, Message, Update, Item, RegisterState}
 use Rattle.hk_register.specs.Effects.{Change}
 use Rattle.hk_register.specs.Effects.Effect.{Quiet}
 use Rattle.hk_register.specs.Parts.{Parts}
@@ -21,11 +21,11 @@ use Rattle.hk_effects.proofs.Replies.{told_own, told_other, reply_alone_begins_n
 use Rattle.hk_effects.proofs.Steps.{Owes, told, sourced, old_row}
 use Rattle.hk_effects.proofs.Rests.{found_row}
 
-module _ (V : ℕ → List ℕ) (st : State) (parts : Parts V st) (key : List ℕ) (x : NodeState) (is : st.node x.id.0 ≡ key_node key (Some x)) where
+module _ (V : ℕ → List ℕ) (st : RegisterState) (parts : Parts V st) (key : List ℕ) (x : NodeState) (is : st.node x.id.0 ≡ key_node key (Some x)) where
   -- what a step of the node owes to the key, that says this in the key's history
   abbrev pub OwesNode : Stepped → List Item → Type 0
   OwesNode o hs =
-      (new : State) → Change st new x.id.0 (key_node key (Some o.node)) (letters_of key o.letters) (step_marks x.id.0 (key_node key (Some x)) (key_node key (Some o.node)) (letters_of key o.letters))
+      (new : RegisterState) → Change st new x.id.0 (key_node key (Some o.node)) (letters_of key o.letters) (step_marks x.id.0 (key_node key (Some x)) (key_node key (Some o.node)) (letters_of key o.letters))
       (updates_of x.id.0 (key_node key (Some x)) hs) hs → Effects V st new
 
   -- what is said by an event that is no call
@@ -37,12 +37,12 @@ module _ (V : ℕ → List ℕ) (st : State) (parts : Parts V st) (key : List �
 
   -- nothing changes, and this is said
   pub said_node : (o : Stepped) (hs : List Item) → key_node key (Some o.node) ≡ key_node key (Some x) → letters_of key o.letters ≡ [] → updates_of x.id.0 (key_node key (Some x)) hs ≡ [] →
-      ((new : State) → Change st new x.id.0 (key_node key (Some x)) [] [] [] hs → Effects V st new) → OwesNode o hs
+      ((new : RegisterState) → Change st new x.id.0 (key_node key (Some x)) [] [] [] hs → Effects V st new) → OwesNode o hs
   said_node o hs same silent begun effect new ch =
       let z : Node = key_node key (Some x) in
       let row = row_at key x.rows in
       let ch1 = subst (λ (y : Node). Change st new x.id.0 y (letters_of key o.letters) (step_marks x.id.0 z y (letters_of key o.letters)) (updates_of x.id.0 z hs) hs) same ch in
-      let ch2 = subst (λ (ls : List Letter). Change st new x.id.0 z ls (step_marks x.id.0 z z ls) (updates_of x.id.0 z hs) hs) silent ch1 in
+      let ch2 = subst (λ (ls : List Message). Change st new x.id.0 z ls (step_marks x.id.0 z z ls) (updates_of x.id.0 z hs) hs) silent ch1 in
       let ch3 = subst (λ (us : List Update). Change st new x.id.0 z [] (step_marks x.id.0 z z []) us hs) begun ch2 in
       effect new (acks_are_new st x.id.0 z new z [] [] [] [] hs (λ some. old_row V st parts key x (has_copied x key) row is row refl some) refl (sourced V st parts key x (has_copied x key) row is) (λ l h. h) ch3)
 

@@ -8,17 +8,17 @@ use Rattle.std.proofs.lemmas.Map.Made.{lookup-map_values}
 use Rattle.hk_base.specs.declared.stamp.Stamp.{Stamp}
 use Rattle.hk_base.specs.declared.stamp.NodeId.{NodeId}
 use Rattle.hk_base.specs.declared.stamp.Kind.{Kind}
-use Rattle.hk_base.specs.declared.stamp.Kind.TheVariants.{Write as Plain, Rmw}
+use Rattle.hk_base.specs.declared.stamp.Kind.TheVariants as Kind
 use Rattle.hk_base.specs.declared.call.CallNo.{CallNo}
 use Rattle.hk_base.specs.declared.call.Op.{Op}
 use Rattle.hk_base.specs.declared.call.Answer.{Answer}
 use Rattle.hk_base.specs.declared.call.Answer.TheVariants.{Busy, Exhausted}
-use Rattle.hk_base.specs.declared.call.Why.TheVariants.{Lease as OfLease, Row as OfRow}
+use Rattle.hk_base.specs.declared.call.Why.TheVariants as Why
 use Rattle.hk_base.specs.declared.call.Reply.{Reply}
-use Rattle.hk_base.specs.declared.call.State.{State as RowState}
-use Rattle.hk_base.specs.declared.call.State.TheVariants.{Valid as IsValid, Invalid as IsInvalid, Write as IsWrite, Replay as IsReplay, Trans as IsTrans}
+use Rattle.hk_base.specs.declared.call.State.{State}
+use Rattle.hk_base.specs.declared.call.State.TheVariants as State
 use Rattle.hk_base.specs.declared.letter.Actor.{Actor}
-use Rattle.hk_base.specs.declared.letter.Actor.TheVariants as A
+use Rattle.hk_base.specs.declared.letter.Actor.TheVariants as Actor
 use Rattle.hk_base.specs.declared.letter.Body.{Body}
 use Rattle.hk_base.specs.declared.letter.Body.TheVariants.{Inv, Ack, Val, CopyAsk, CopyGive, LeaseAsk, LeaseGive, Prepare, Promise, Accept, Accepted, Chosen, Activate}
 use Rattle.hk_base.specs.declared.letter.Letter.{Letter}
@@ -78,8 +78,8 @@ after_of_node step s node t e = by_test (ltb MAX_VERSION (s.version + step)) e
     by_test false e = let same : record { version = s.version + step; node = node } ≡ t = cc in sym (ap (λ (q : Stamp). q.node) same)
 
 stamp_of_node : (kind : Kind) (s : Stamp) (node : NodeId) (t : Stamp) → next_stamp kind s node ≡ Some t → t.node ≡ node.0
-stamp_of_node Plain s node t e = after_of_node 2 s node.0 t e
-stamp_of_node Rmw s node t e = after_of_node 1 s node.0 t e
+stamp_of_node Kind.Write s node t e = after_of_node 2 s node.0 t e
+stamp_of_node Kind.Rmw s node t e = after_of_node 1 s node.0 t e
 
 module _ (views : List View) (calls : ℕ) (x : NodeState) (mine : IsNodeOf views calls x) (ordered : IsStrictlySortedBy key_cmp (keys_of x.rows)) where
   abbrev Fine : Stepped → Type 0
@@ -119,15 +119,15 @@ module _ (views : List View) (calls : ℕ) (x : NodeState) (mine : IsNodeOf view
       by_turn true = by_limit (next_stamp (kind_of op) (row_at k x.rows).stamp x.id) refl
       by_turn false = answers_fine k call (act op (register_in (row_at k x.rows)) 0).answer low
 
-      by_state : (s : RowState) → Fine (at_state s x call k op (row_at k x.rows))
-      by_state IsValid = by_turn (act op (register_in (row_at k x.rows)) 0).changed
-      by_state IsInvalid = answers_fine k call (Busy (OfRow (row_at k x.rows).state (row_at k x.rows).stamp)) low
-      by_state IsWrite = answers_fine k call (Busy (OfRow (row_at k x.rows).state (row_at k x.rows).stamp)) low
-      by_state IsReplay = answers_fine k call (Busy (OfRow (row_at k x.rows).state (row_at k x.rows).stamp)) low
-      by_state IsTrans = answers_fine k call (Busy (OfRow (row_at k x.rows).state (row_at k x.rows).stamp)) low
+      by_state : (s : State) → Fine (at_state s x call k op (row_at k x.rows))
+      by_state State.Valid = by_turn (act op (register_in (row_at k x.rows)) 0).changed
+      by_state State.Invalid = answers_fine k call (Busy (Why.Row (row_at k x.rows).state (row_at k x.rows).stamp)) low
+      by_state State.Write = answers_fine k call (Busy (Why.Row (row_at k x.rows).state (row_at k x.rows).stamp)) low
+      by_state State.Replay = answers_fine k call (Busy (Why.Row (row_at k x.rows).state (row_at k x.rows).stamp)) low
+      by_state State.Trans = answers_fine k call (Busy (Why.Row (row_at k x.rows).state (row_at k x.rows).stamp)) low
 
       by_lease : (b : Bool) → Fine (at_lease b x call k op)
-      by_lease true = answers_fine k call (Busy (OfLease (lease_end x) x.clock)) low
+      by_lease true = answers_fine k call (Busy (Why.Lease (lease_end x) x.clock)) low
       by_lease false = by_state (row_at k x.rows).state
 
   -- ---- what is sent again, and copied
@@ -152,7 +152,7 @@ module _ (views : List View) (calls : ℕ) (x : NodeState) (mine : IsNodeOf view
   asks_lease_fine manager = by_there (ltb manager x.managers)
     where
       ask : Letter
-      ask = record { epoch = epoch_of x; from = A.Node x.id; to = A.Manager manager; body = LeaseAsk x.clock }
+      ask = record { epoch = epoch_of x; from = Actor.Node x.id; to = Actor.Manager manager; body = LeaseAsk x.clock }
 
       by_there : (b : Bool) → Fine (cond b (record { node = x; letters = ask ∷ []; told = []; installed = None }) (idle x))
       by_there true = record { node = mine; letters = λ l h. ⊎_elim (λ (is : l ≡ ask). subst (λ (m : Letter). IsSaid m.body) (sym is) tt) (λ (none : ⊥). absurd none) h; told = λ t h. absurd h }
@@ -280,5 +280,5 @@ module _ (views : List View) (calls : ℕ) (x : NodeState) (mine : IsNodeOf view
       by_heard m false = idle_fine
 
       by_from : (a : Actor) → Fine (receives_from a x l)
-      by_from (A.Manager m) = by_heard m (is_addressed x l.to && ltb m x.managers)
-      by_from (A.Node from) = by_test from (is_addressed x l.to && (eqb l.epoch (epoch_of x) && is_other x from))
+      by_from (Actor.Manager m) = by_heard m (is_addressed x l.to && ltb m x.managers)
+      by_from (Actor.Node from) = by_test from (is_addressed x l.to && (eqb l.epoch (epoch_of x) && is_other x from))

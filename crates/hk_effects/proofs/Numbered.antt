@@ -3,8 +3,7 @@ use Rattle.std.proofs.Common.{◌≡◌, ℕ, Bool, true, false, cond, ◌+◌, 
 use Rattle.hk_base.specs.declared.call.Op.{Op}
 use Rattle.hk_base.specs.declared.call.Reply.{Reply}
 use Rattle.hk_history.specs.History.{is_void, is_unsure}
-use Rattle.hk_register.specs.Machine.{In, Phase, Node, Letter, Mark, Item, call_of}
-use Rattle.hk_register.specs.Machine.Letter.{Inv, Ack as AckL, Val, Give}
+use Rattle.hk_register.specs.Machine.{In, Phase, Node, Message, Mark, Item, call_of}
 use Rattle.hk_register.specs.Machine.Item.{Called, Answered, Dropped, ReadOnly, Rejected}
 use Rattle.hk_register.specs.Effects.{row_mark, cover_mark}
 use Rattle.hk_register.proofs.Grow.{in_either}
@@ -22,15 +21,15 @@ pending_epoch id z (Phase.Write p) k h = ⊎_elim (λ (e : k ≡ cover_mark id z
 pending_epoch id z (Phase.Replay p) k h = ⊎_elim (λ (e : k ≡ cover_mark id z p.stamp). rw e refl) (λ (none : ⊥). absurd none) h
 pending_epoch id z (Phase.Trans p) k h = ⊎_elim (λ (e : k ≡ cover_mark id z p.stamp). rw e refl) (λ (none : ⊥). absurd none) h
 
-ack_epoch : (id : ℕ) (z : Node) (ls : List Letter) (k : Mark) → In (ack_marks id z ls) k → k.epoch ≡ z.epoch
+ack_epoch : (id : ℕ) (z : Node) (ls : List Message) (k : Mark) → In (ack_marks id z ls) k → k.epoch ≡ z.epoch
 ack_epoch id z [] k h = absurd h
-ack_epoch id z (AckL from epoch s top ∷ ls) k h = ⊎_elim (λ (e : k ≡ cover_mark id z s). rw e refl) (ack_epoch id z ls k) h
-ack_epoch id z (Inv from epoch s kind content ∷ ls) k h = ack_epoch id z ls k h
-ack_epoch id z (Val from epoch s ∷ ls) k h = ack_epoch id z ls k h
-ack_epoch id z (Give from epoch s kind content valid ∷ ls) k h = ack_epoch id z ls k h
+ack_epoch id z (Message.Ack from epoch s top ∷ ls) k h = ⊎_elim (λ (e : k ≡ cover_mark id z s). rw e refl) (ack_epoch id z ls k) h
+ack_epoch id z (Message.Inv from epoch s kind content ∷ ls) k h = ack_epoch id z ls k h
+ack_epoch id z (Message.Val from epoch s ∷ ls) k h = ack_epoch id z ls k h
+ack_epoch id z (Message.Give from epoch s kind content valid ∷ ls) k h = ack_epoch id z ls k h
 
 -- the epochs of a step's marks are its node's
-pub step_epoch : (id : ℕ) (was z : Node) (ls : List Letter) (k : Mark) → In (step_marks id was z ls) k → k.epoch ≡ z.epoch
+pub step_epoch : (id : ℕ) (was z : Node) (ls : List Message) (k : Mark) → In (step_marks id was z ls) k → k.epoch ≡ z.epoch
 step_epoch id was z ls k h =
     ⊎_elim
     (λ (a : In (moment_marks id z) k). moment (leb 1 z.epoch) a)

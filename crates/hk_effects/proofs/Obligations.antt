@@ -4,16 +4,16 @@ use Rattle.std.specs.Option.{option_or}
 use Rattle.std.proofs.lemmas.Bool.{false≢true, and_parts, lt-ltb}
 use Rattle.hk_base.specs.declared.stamp.NodeId.{NodeId}
 use Rattle.hk_base.specs.declared.view.View.{View}
-use Rattle.hk_base.specs.declared.letter.Actor.TheVariants as A
+use Rattle.hk_base.specs.declared.letter.Actor.TheVariants as Actor
 use Rattle.hk_base.specs.declared.letter.Body.TheVariants.{CopyGive}
 use Rattle.hk_base.specs.declared.letter.CopyItem.{CopyItem}
-use Rattle.hk_base.specs.declared.letter.Letter.{Letter as Wire}
+use Rattle.hk_base.specs.declared.letter.Letter.{Letter}
 use Rattle.hk_base.specs.View.{member_numbers}
 use Rattle.hk_history.specs.History.{is_answered}
 use Rattle.hk_copy.specs.Batches.{last_key}
-use Rattle.hk_key.specs.declared.row.Pending.{Pending as Waits}
+use Rattle.hk_key.specs.declared.row.Pending.{Pending}
 use Rattle.hk_key.specs.Table.{on_view}
-use Rattle.hk_register.specs.Machine.{In, Node, Letter, Update, Item, State}
+use Rattle.hk_register.specs.Machine.{In, Node, Message, Update, Item, RegisterState}
 use Rattle.hk_register.specs.Effects.{Change, Between}
 use Rattle.hk_register.specs.Parts.{Parts}
 use Rattle.hk_node.specs.Rows.{row_at}
@@ -48,7 +48,7 @@ next_is (Some a) None e = absurd (false≢true e)
 next_is (Some a) (Some b) e = ap Some (same_true a b e)
 
 -- A node that had a view is a member of each agreed view between that and one that it is in.
-pub between : (V : ℕ → List ℕ) (st : State) (parts : Parts V st) (key : List ℕ) (x : NodeState) → st.node x.id.0 ≡ key_node key (Some x) → (views : List View) (calls : ℕ) → IsChain views → IsNodeOf views calls x →
+pub between : (V : ℕ → List ℕ) (st : RegisterState) (parts : Parts V st) (key : List ℕ) (x : NodeState) → st.node x.id.0 ≡ key_node key (Some x) → (views : List View) (calls : ℕ) → IsChain views → IsNodeOf views calls x →
     ((v : View) → In views v → member_numbers v.members ≡ V v.epoch) → (v : View) → In views v → In (member_numbers v.members) x.id.0 → Between V st x.id.0 v.epoch
 between V st parts key x here views calls chain own agrees v agreed in_v f some low high =
     let some' : 1 ≤ epoch_of x = rw here at some in
@@ -63,12 +63,12 @@ between V st parts key x here views calls chain own agrees v agreed in_v f some 
     let there : In (V w.0.epoch) x.id.0 = rw (← agrees w.0 w.1) in_w in rw w.2 at there
 
 -- the answer kept for a pending update's call is an answer
-answers_kept : (calls : ℕ) (o : Option Waits) → IfSome o (IsPendingOf calls) → IfSome o (λ p. IfSome p.reply (λ r. IsTrue (is_answered (Some r.answer))))
+answers_kept : (calls : ℕ) (o : Option Pending) → IfSome o (IsPendingOf calls) → IfSome o (λ p. IfSome p.reply (λ r. IsTrue (is_answered (Some r.answer))))
 answers_kept calls None h = tt
 answers_kept calls (Some p) h = h.answer
 
 -- all rows install a view
-module _ (V : ℕ → List ℕ) (st : State) (parts : Parts V st) (key : List ℕ) (x : NodeState) (is : st.node x.id.0 ≡ key_node key (Some x)) (ok : IsNode x) (calls : ℕ) (views : List View) (own : IsNodeOf views calls x) where
+module _ (V : ℕ → List ℕ) (st : RegisterState) (parts : Parts V st) (key : List ℕ) (x : NodeState) (is : st.node x.id.0 ≡ key_node key (Some x)) (ok : IsNode x) (calls : ℕ) (views : List View) (own : IsNodeOf views calls x) where
   installed_step : (v : View) → epoch_of x < v.epoch → In (V v.epoch) x.id.0 → Between V st x.id.0 v.epoch → member_numbers v.members ≡ V v.epoch → OwesStep V st parts key x is (installed_in (viewing x v) v.epoch)
   installed_step v later member middle members new ch =
       let y = viewing x v in
@@ -83,7 +83,7 @@ module _ (V : ℕ → List ℕ) (st : State) (parts : Parts V st) (key : List �
       let letters = letters-viewed y None key x.rows rises in
       let said : map (reply_item n) (told_at key o.told) ≡ reply_items n d.out.reply = ap (map (reply_item n)) (told-viewed y None key x.rows rises) ∙ told_own key n d.out.reply in
       let ch1 = subst (λ (z : Node). Change st new x.id.0 z (letters_of key o.letters) (step_marks x.id.0 z0 z (letters_of key o.letters)) (updates_of x.id.0 z0 (told_items V st parts key x is o)) (told_items V st parts key x is o)) node ch in
-      let ch2 = subst (λ (l : List Letter). Change st new x.id.0 (row_node y c d.row) l (step_marks x.id.0 z0 (row_node y c d.row) l) (updates_of x.id.0 z0 (told_items V st parts key x is o)) (told_items V st parts key x is o)) letters ch1 in
+      let ch2 = subst (λ (l : List Message). Change st new x.id.0 (row_node y c d.row) l (step_marks x.id.0 z0 (row_node y c d.row) l) (updates_of x.id.0 z0 (told_items V st parts key x is o)) (told_items V st parts key x is o)) letters ch1 in
       let hs = reply_items n d.out.reply in
       let ls = letters_of key (sent y key d.row d.out.send) in
       let ms = step_marks x.id.0 z0 (row_node y c d.row) ls in
@@ -98,7 +98,7 @@ module _ (V : ℕ → List ℕ) (key : List ℕ) (t : Trace) (parts : Parts V (p
   gives_owed x alive from after room inside = gives_step V (project key t) parts key x (here V key t parts own agrees tok x alive) from after room (node_sound V key t parts own agrees tok x alive)
 
   -- A batch that is awaited is one that was sent, so its keys rise behind the cursor.
-  takes_next : (x : NodeState) (alive : IsLive V key t parts own agrees tok x) (l : Wire) (from : NodeId) (after : Option (List ℕ)) (done : Bool) (items : List CopyItem) → In t.world.letters l → l.from ≡ A.Node from → l.epoch ≡ epoch_of x →
+  takes_next : (x : NodeState) (alive : IsLive V key t parts own agrees tok x) (l : Letter) (from : NodeId) (after : Option (List ℕ)) (done : Bool) (items : List CopyItem) → In t.world.letters l → l.from ≡ Actor.Node from → l.epoch ≡ epoch_of x →
       is_member from (members_of x) ≡ true → l.body ≡ CopyGive after done items → x.ready ≡ false → after ≡ x.cursor → Owed V key t parts own agrees tok x alive (after_batch x done items)
   takes_next x alive l from after done items sent_so sender epoch inside body shadow next =
       let at_cursor : l.body ≡ CopyGive x.cursor done items = subst (λ (a : Option (List ℕ)). l.body ≡ CopyGive a done items) next body in

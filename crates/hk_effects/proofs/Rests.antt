@@ -7,13 +7,13 @@ use Rattle.std.specs.BTreeMap.{is_at}
 use Rattle.std.proofs.lemmas.Bool.{false≢true}
 use Rattle.hk_base.specs.declared.stamp.NodeId.{NodeId}
 use Rattle.hk_base.specs.declared.view.View.{View}
-use Rattle.hk_base.specs.declared.letter.Letter.{Letter as Wire}
+use Rattle.hk_base.specs.declared.letter.Letter.{Letter}
 use Rattle.hk_copy.specs.Batches.{key_cmp}
 use Rattle.hk_key.specs.declared.row.Row.{Row}
 use Rattle.hk_key.specs.Sound.{IsSound}
 use Rattle.hk_key.specs.Table.{first_row}
 use Rattle.hk_key.proofs.Steps.{first_is_sound}
-use Rattle.hk_register.specs.Machine.{In, Letter}
+use Rattle.hk_register.specs.Machine.{In, Message}
 use Rattle.hk_register.proofs.Grow.{in_left, in_right}
 use Rattle.hk_node.specs.Rows.{Rows, find_row, row_at}
 use Rattle.hk_node.specs.Node.{NodeState, epoch_of, epoch_in, members_of, is_member}
@@ -37,14 +37,14 @@ numbered_in zero ls l e = cc
 numbered_in (suc k) ls l e = get_in ls k l e
 
 -- the letters of a letter that was sent
-pub letter_sent : (key : List ℕ) (ls : List Wire) (l : Wire) (m : Letter) → In ls l → In (letter_of key l l.body) m → In (letters_of key ls) m
+pub letter_sent : (key : List ℕ) (ls : List Letter) (l : Letter) (m : Message) → In ls l → In (letter_of key l l.body) m → In (letters_of key ls) m
 letter_sent key [] l m h k = absurd h
-letter_sent key (w ∷ ls) l m (inl e) k = in_left (letter_of key w w.body) (letters_of key ls) m (subst (λ (x : Wire). In (letter_of key x x.body) m) e k)
+letter_sent key (w ∷ ls) l m (inl e) k = in_left (letter_of key w w.body) (letters_of key ls) m (subst (λ (x : Letter). In (letter_of key x x.body) m) e k)
 letter_sent key (w ∷ ls) l m (inr h) k = in_right (letter_of key w w.body) (letters_of key ls) m (letter_sent key ls l m h k)
 
-pub letters_append : (key : List ℕ) (a b : List Wire) → letters_of key (a ++ b) ≡ letters_of key a ++ letters_of key b
+pub letters_append : (key : List ℕ) (a b : List Letter) → letters_of key (a ++ b) ≡ letters_of key a ++ letters_of key b
 letters_append key [] b = refl
-letters_append key (x ∷ a) b = ap (λ (l : List Letter). letter_of key x x.body ++ l) (letters_append key a b) ∙ sym (append_three (letter_of key x x.body) (letters_of key a) (letters_of key b))
+letters_append key (x ∷ a) b = ap (λ (l : List Message). letter_of key x x.body ++ l) (letters_append key a b) ∙ sym (append_three (letter_of key x x.body) (letters_of key a) (letters_of key b))
 
 -- ---- rows
 pub found_row : (key : List ℕ) (rows : Rows) (r : Row) → find_row key rows ≡ Some r → row_at key rows ≡ r

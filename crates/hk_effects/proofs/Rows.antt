@@ -1,8 +1,8 @@
 -- A resend, a replay and a request for copies are, for each key, effects.
 use Rattle.std.proofs.Common.{◌≡◌, ◌≢◌, ℕ, Bool, true, false, cond, not, ◌&&◌, List, [], ◌∷◌, ◌∙◌, refl, ap, subst, ⊎_elim, None, sym}
 use Rattle.hk_base.specs.declared.stamp.NodeId.{NodeId}
-use Rattle.hk_base.specs.declared.call.State.{State as RowState}
-use Rattle.hk_base.specs.declared.call.State.TheVariants.{Valid as IsValid, Invalid as IsInvalid, Write as IsWrite, Replay as IsReplay, Trans as IsTrans}
+use Rattle.hk_base.specs.declared.call.State.{State}
+use Rattle.hk_base.specs.declared.call.State.TheVariants as State
 use Rattle.hk_base.specs.declared.letter.Body.TheVariants.{CopyAsk}
 use Rattle.hk_key.specs.declared.row.Row.{Row}
 use Rattle.hk_key.specs.Notes.{all_noted}
@@ -49,13 +49,13 @@ module _ (V : ℕ → List ℕ) (key : List ℕ) (t : Trace) (parts : Parts V (p
   pub resend_owed : (k : List ℕ) → Owed V key t parts own agrees tok x alive (resent x k)
   resend_owed k = found_step V (project key t) parts key x (here V key t parts own agrees tok x alive) k resend (λ r at_r. by_key k r at_r resend resend_here) (find_row k x.rows) refl
 
-  replay_state : x.ready ≡ true → (state : RowState) → (row_at key x.rows).state ≡ state → Owes V (project key t) parts key x (has_copied x key) (row_at key x.rows) (here V key t parts own agrees tok x alive) (replay_at state x.id (members_of x) (row_at key x.rows)) [] []
-  replay_state ready IsInvalid e =
+  replay_state : x.ready ≡ true → (state : State) → (row_at key x.rows).state ≡ state → Owes V (project key t) parts key x (has_copied x key) (row_at key x.rows) (here V key t parts own agrees tok x alive) (replay_at state x.id (members_of x) (row_at key x.rows)) [] []
+  replay_state ready State.Invalid e =
       replay_step V (project key t) parts key x (has_copied x key) (row_at key x.rows) (here V key t parts own agrees tok x alive) (members_are V key t parts own agrees tok x alive (ready_some V key t parts own agrees tok x alive ready)) e ready (all_noted x.id (members_of x) []) refl
-  replay_state ready IsValid e = quiet_step V (project key t) parts key x (has_copied x key) (row_at key x.rows) (here V key t parts own agrees tok x alive)
-  replay_state ready IsWrite e = quiet_step V (project key t) parts key x (has_copied x key) (row_at key x.rows) (here V key t parts own agrees tok x alive)
-  replay_state ready IsReplay e = quiet_step V (project key t) parts key x (has_copied x key) (row_at key x.rows) (here V key t parts own agrees tok x alive)
-  replay_state ready IsTrans e = quiet_step V (project key t) parts key x (has_copied x key) (row_at key x.rows) (here V key t parts own agrees tok x alive)
+  replay_state ready State.Valid e = quiet_step V (project key t) parts key x (has_copied x key) (row_at key x.rows) (here V key t parts own agrees tok x alive)
+  replay_state ready State.Write e = quiet_step V (project key t) parts key x (has_copied x key) (row_at key x.rows) (here V key t parts own agrees tok x alive)
+  replay_state ready State.Replay e = quiet_step V (project key t) parts key x (has_copied x key) (row_at key x.rows) (here V key t parts own agrees tok x alive)
+  replay_state ready State.Trans e = quiet_step V (project key t) parts key x (has_copied x key) (row_at key x.rows) (here V key t parts own agrees tok x alive)
 
   replay_here : x.ready ≡ true → Owed V key t parts own agrees tok x alive (row_step x key (replay x.id (members_of x) (row_at key x.rows)))
   replay_here ready =

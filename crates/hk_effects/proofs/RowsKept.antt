@@ -8,7 +8,7 @@ use Rattle.std.specs.Map.{lookup}
 use Rattle.hk_base.specs.declared.stamp.Stamp.{Stamp}
 use Rattle.hk_base.specs.declared.stamp.NodeId.{NodeId}
 use Rattle.hk_base.specs.declared.stamp.Kind.{Kind}
-use Rattle.hk_base.specs.declared.stamp.Kind.TheVariants.{Write as Plain, Rmw}
+use Rattle.hk_base.specs.declared.stamp.Kind.TheVariants as Kind
 use Rattle.hk_base.specs.declared.call.Content.{Content}
 use Rattle.hk_base.specs.declared.call.Reply.{Reply}
 use Rattle.hk_base.specs.declared.call.State.{State}
@@ -58,8 +58,8 @@ displaced_of calls Write None h = tt
 displaced_of calls Write (Some p) h = by_kind p.kind
   where
     by_kind : (kind : Kind) → MayWait calls (displaced_write kind p).1
-    by_kind Plain = h
-    by_kind Rmw = tt
+    by_kind Kind.Write = h
+    by_kind Kind.Rmw = tt
 
 aborted_of : (calls : ℕ) (r : Option Reply) (s : Stamp) → IsReplyOf calls r → IsReplyOf calls (aborted r s)
 aborted_of calls None s h = tt
@@ -74,8 +74,8 @@ given_of calls Write None s h = tt
 given_of calls Write (Some p) s h = by_kind p.kind
   where
     by_kind : (kind : Kind) → IsReplyOf calls (given_up_write kind p.reply s)
-    by_kind Plain = tt
-    by_kind Rmw = aborted_of calls p.reply s h.call
+    by_kind Kind.Write = tt
+    by_kind Kind.Rmw = aborted_of calls p.reply s h.call
 
 pub inv_of : (calls : ℕ) (o : Ordering) (row : Row) (from : NodeId) (s : Stamp) (kind : Kind) (content : Option Content) → IsRowOf calls row → IsSmall s → IsDoneOf calls (on_inv_at o row from s kind content)
 inv_of calls Less row from s kind content ok small = record {
@@ -83,8 +83,8 @@ inv_of calls Less row from s kind content ok small = record {
   reply = given_of calls row.state row.pending s ok.pending;
 }
 inv_of calls Equal row from s kind content ok small = record { row = ok; reply = tt }
-inv_of calls Greater row from s Plain content ok small = record { row = ok; reply = tt }
-inv_of calls Greater row from s Rmw content ok small = record { row = ok; reply = tt }
+inv_of calls Greater row from s Kind.Write content ok small = record { row = ok; reply = tt }
+inv_of calls Greater row from s Kind.Rmw content ok small = record { row = ok; reply = tt }
 
 -- ---- VAL, and rows that are copied
 pub val_of : (calls : ℕ) (row : Row) (s : Stamp) → IsRowOf calls row → IsRowOf calls (on_val row s)

@@ -4,7 +4,7 @@ use Rattle.std.proofs.lemmas.Bool.{false≢true, eqb-true, eq-eqb}
 use Rattle.hk_base.specs.declared.stamp.NodeId.{NodeId}
 use Rattle.hk_base.specs.declared.view.View.{View}
 use Rattle.hk_base.specs.View.{member_numbers}
-use Rattle.hk_register.specs.Machine.{In, Mark, Item, Node, State, call_of}
+use Rattle.hk_register.specs.Machine.{In, Mark, Item, Node, RegisterState, call_of}
 use Rattle.hk_register.specs.Parts.{Parts}
 use Rattle.hk_register.specs.Calls.{CallParts}
 use Rattle.hk_register.proofs.Runs.{effect_kept}
@@ -27,11 +27,11 @@ use Rattle.hk_effects.proofs.EventGuards.{event_guards}
 use Rattle.hk_effects.proofs.Numbered.{step_epoch, told_upto, items_upto}
 use Rattle.hk_effects.proofs.Founders.{StartsSound, no_managers, founders_kept}
 
-effects_kept : (V : ℕ → List ℕ) (old new : State) → Parts V old → Effects V old new → Parts V new
+effects_kept : (V : ℕ → List ℕ) (old new : RegisterState) → Parts V old → Effects V old new → Parts V new
 effects_kept V old new parts (inl e) = effect_kept V old new parts e.0 e.1
 effects_kept V old new parts (inr m) = effect_kept V m.0 new (effect_kept V old m.0 parts m.1.0 m.1.1) m.2.0 m.2.1
 
-effects_calls : (V : ℕ → List ℕ) (old new : State) → Parts V old → CallParts old → Effects V old new → CallParts new
+effects_calls : (V : ℕ → List ℕ) (old new : RegisterState) → Parts V old → CallParts old → Effects V old new → CallParts new
 effects_calls V old new parts calls (inl e) = effect_calls V old new parts calls e.0 e.1
 effects_calls V old new parts calls (inr m) = effect_calls V m.0 new (effect_kept V old m.0 parts m.1.0 m.1.1) (effect_calls V old m.0 parts calls m.1.0 m.1.1) m.2.0 m.2.1
 

@@ -1,7 +1,7 @@
 -- The worked worlds of updates: each event is accepted, its effects are allowed, and what the key has of it is computed.
 use Rattle.std.proofs.Common.{ℕ, true, false, List, [], ◌∷◌, refl, inl, inr}
 use Rattle.std.proofs.lemmas.Bool.{leb-true, ltb-true}
-use Rattle.hk_register.specs.Machine.{In, State}
+use Rattle.hk_register.specs.Machine.{In, RegisterState}
 use Rattle.hk_register.specs.Worked.{five, nine, exactly, with_more}
 use Rattle.hk_register.proofs.Worked.{blind, not_plain, fresh, leased, noted, inexact, all_exact}
 use Rattle.hk_world.specs.Worked.{key}
@@ -92,7 +92,7 @@ val_kept_shows = (
   ),
 )
   where
-    at : ℕ → State
+    at : ℕ → RegisterState
     at k = project key (trace_at 2 val_kept k)
 
     members : ℕ → ℕ → List ℕ
@@ -171,7 +171,7 @@ left_invalid_shows = (
   ),
 )
   where
-    at : ℕ → State
+    at : ℕ → RegisterState
     at k = project key (trace_at 3 left_invalid k)
 
     members : ℕ → ℕ → List ℕ
@@ -277,7 +277,7 @@ countered_shows = (
   ),
 )
   where
-    at : ℕ → State
+    at : ℕ → RegisterState
     at k = project key (trace_at 2 countered k)
 
     members : ℕ → ℕ → List ℕ
@@ -393,7 +393,7 @@ replayed_shows = (
   ),
 )
   where
-    at : ℕ → State
+    at : ℕ → RegisterState
     at k = project key (trace_at 2 replayed k)
 
     members : ℕ → ℕ → List ℕ

@@ -1,7 +1,7 @@
 -- The same of the worked worlds in which a view is installed or rows are copied.
 use Rattle.std.proofs.Common.{ℕ, true, List, [], ◌∷◌, refl, inl, inr}
 use Rattle.std.proofs.lemmas.Bool.{leb-true, ltb-true}
-use Rattle.hk_register.specs.Machine.{In, State}
+use Rattle.hk_register.specs.Machine.{In, RegisterState}
 use Rattle.hk_register.specs.Worked.{five, exactly}
 use Rattle.hk_register.proofs.Worked.{blind, fresh, leased, noted, all_exact}
 use Rattle.hk_world.specs.Worked.{key}
@@ -64,7 +64,7 @@ pending_installed_shows = (
   ),
 )
   where
-    at : ℕ → State
+    at : ℕ → RegisterState
     at k = project key (trace_at 2 pending_installed k)
 
     members : ℕ → ℕ → List ℕ
@@ -117,7 +117,7 @@ left_alone_shows = (
   ),
 )
   where
-    at : ℕ → State
+    at : ℕ → RegisterState
     at k = project key (trace_at 2 left_alone k)
 
     members : ℕ → ℕ → List ℕ
@@ -202,7 +202,7 @@ view_begun_shows = (
   ),
 )
   where
-    at : ℕ → State
+    at : ℕ → RegisterState
     at k = project key (trace_with 2 1 view_begun k)
 
     members : ℕ → ℕ → List ℕ
@@ -322,7 +322,7 @@ joined_shows = (
   ),
 )
   where
-    at : ℕ → State
+    at : ℕ → RegisterState
     at k = project key (trace_at 1 joined k)
 
     members : ℕ → ℕ → List ℕ
@@ -422,7 +422,7 @@ copied_valid_shows = (
   ),
 )
   where
-    at : ℕ → State
+    at : ℕ → RegisterState
     at k = project key (trace_at 1 copied_valid k)
 
     members : ℕ → ℕ → List ℕ
@@ -514,7 +514,7 @@ passed_shows = (
   ),
 )
   where
-    at : ℕ → State
+    at : ℕ → RegisterState
     at k = project key (trace_at 1 passed k)
 
     members : ℕ → ℕ → List ℕ

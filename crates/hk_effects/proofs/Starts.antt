@@ -1,20 +1,20 @@
 -- Steps that start an update: begin and replay are effects, two where the update completes at once.
 use Rattle.std.proofs.Common.{◌≡◌, ℕ, Bool, true, false, ◌+◌, ◌*◌, ◌/◌, List, [], ◌∷◌, ◌++◌, map, ◌≤◌, ◌<◌, ◌∙◌, sym, refl, ap, subst, inl, inr, arith, Some, None, eqb}
 use Rattle.hk_base.specs.declared.stamp.Stamp.{Stamp}
-use Rattle.hk_base.specs.declared.call.State.TheVariants.{Valid as IsValid, Invalid as IsInvalid, Write as IsWrite, Replay as IsReplay}
+use Rattle.hk_base.specs.declared.call.State.TheVariants as State
 use Rattle.hk_base.specs.declared.call.Op.{Op}
 use Rattle.hk_base.specs.declared.call.Reply.{Reply}
 use Rattle.hk_base.specs.Stamp.{tag_of}
 use Rattle.hk_base.specs.View.{member_numbers}
 use Rattle.hk_base.specs.Register.{act}
-use Rattle.hk_key.specs.declared.row.Pending.{Pending as Waits}
+use Rattle.hk_key.specs.declared.row.Pending.{Pending}
 use Rattle.hk_key.specs.declared.row.Row.{Row}
 use Rattle.hk_key.specs.declared.out.Aim.TheVariants.{Others}
 use Rattle.hk_key.specs.Notes.{all_noted, all_exact}
 use Rattle.hk_key.specs.Table.{Done, started_at, completed_at, unnoted}
-use Rattle.hk_register.specs.Machine.{In, Pending, Node, Letter, Mark, Update, Item, State}
+use Rattle.hk_register.specs.Machine.{In, WaitingUpdate, Node, Message, Mark, Update, Item, RegisterState}
 use Rattle.hk_register.specs.Machine.Phase.{Valid, Invalid}
-use Rattle.hk_register.specs.Machine.Letter.{Inv}
+use Rattle.hk_register.specs.Machine.Message.{Inv}
 use Rattle.hk_register.specs.Machine.Item.{Called}
 use Rattle.hk_register.specs.Effects.{Change, Changes, Fresh, AllNoted, Leased, answer_of, row_mark, step_of, next_stamp, register_of}
 use Rattle.hk_register.specs.Effects.Effect.{Begin, StartReplay}
@@ -39,12 +39,12 @@ pub alone : (V : ℕ → List ℕ) (x : NodeState) → member_numbers (members_o
 alone V x members e m h other = all_noted_true x.id (members_of x) [] e m (rw members h) other
 
 -- a row with an update that waits
-abbrev pub waiting : Row → Waits → Row
+abbrev pub waiting : Row → Pending → Row
 waiting row p = record row { pending = Some p }
 
 -- The second of two effects: the update that the first one left pending completes at once.
-pub then_completes : (V : ℕ → List ℕ) (st : State) (key : List ℕ) (x : NodeState) (c : Bool) (row : Row) (p : Waits) (ls' : List Letter) (ks ms : List Mark) (us : List Update) (hs' : List Item) → p.acks ≡ [] → IsShaped row.state (Some p) →
-    AllNoted V (epoch_of x) x.id.0 [] → (b d : Bool) → eqb (tag_of row.stamp) (tag_of p.stamp) ≡ b → all_exact p.acks ≡ d → (new : State) → ((k : Mark) → In ks k → In ms k) → ((k : Mark) → In ms k → In ks k) →
+pub then_completes : (V : ℕ → List ℕ) (st : RegisterState) (key : List ℕ) (x : NodeState) (c : Bool) (row : Row) (p : Pending) (ls' : List Message) (ks ms : List Mark) (us : List Update) (hs' : List Item) → p.acks ≡ [] → IsShaped row.state (Some p) →
+    AllNoted V (epoch_of x) x.id.0 [] → (b d : Bool) → eqb (tag_of row.stamp) (tag_of p.stamp) ≡ b → all_exact p.acks ≡ d → (new : RegisterState) → ((k : Mark) → In ks k → In ms k) → ((k : Mark) → In ms k → In ks k) →
     Change st new x.id.0 (row_node x c (completed_at b d row p).row) (letters_of key (sent x key (completed_at b d row p).row (completed_at b d row p).out.send)) ms us (answer_of p.reply (tag_of p.stamp) ++ hs') →
     OneEffect V (mid_state st x.id.0 (row_node x c (waiting row p)) ls' ks us hs') new
 then_completes V st key x c row p ls' ks ms us hs' none shaped noted b d eb ed new there back ch =
@@ -65,19 +65,19 @@ next_is v m s n small = omega arith
 
 -- the row that is replayed, and the update
 abbrev pub replaying : Row → Row
-replaying row = record row { state = IsReplay }
+replaying row = record row { state = State.Replay }
 
-abbrev pub replayed_update : Row → Waits
+abbrev pub replayed_update : Row → Pending
 replayed_update row = unnoted None row.stamp row.kind row.content
 
 -- the row that begins an update, the update, its call's reply, and what the register notes of it
 abbrev pub beginning : Op → Row → Stamp → Row
-beginning op row s = record { state = IsWrite; stamp = s; kind = kind_of op; content = (act op (register_of row.content (tag_of row.stamp)) (tag_of s)).register.content; kept_val = false; pending = None }
+beginning op row s = record { state = State.Write; stamp = s; kind = kind_of op; content = (act op (register_of row.content (tag_of row.stamp)) (tag_of s)).register.content; kept_val = false; pending = None }
 
 abbrev pub begun_reply : ℕ → Op → Row → Stamp → Reply
 begun_reply call op row s = record { call = record { 0 = call }; answer = (act op (register_of row.content (tag_of row.stamp)) (tag_of s)).answer }
 
-abbrev pub begun_update : ℕ → Op → Row → Stamp → Waits
+abbrev pub begun_update : ℕ → Op → Row → Stamp → Pending
 begun_update call op row s = unnoted (Some (begun_reply call op row s)) s (kind_of op) (act op (register_of row.content (tag_of row.stamp)) (tag_of s)).register.content
 
 abbrev pub noted_update : ℕ → ℕ → Op → Row → Stamp → Update
@@ -92,12 +92,12 @@ noted_update n call op row s = record {
   call = call;
 }
 
-module _ (V : ℕ → List ℕ) (st : State) (parts : Parts V st) (key : List ℕ) (x : NodeState) (c : Bool) (row : Row) (is : st.node x.id.0 ≡ row_node x c row) (members : member_numbers (members_of x) ≡ V (epoch_of x)) where
+module _ (V : ℕ → List ℕ) (st : RegisterState) (parts : Parts V st) (key : List ℕ) (x : NodeState) (c : Bool) (row : Row) (is : st.node x.id.0 ≡ row_node x c row) (members : member_numbers (members_of x) ≡ V (epoch_of x)) where
   -- a replay
-  replay_effect : row.state ≡ IsInvalid → x.ready ≡ true → (to : State) → Change st to x.id.0 (row_node x c (waiting (replaying row) (replayed_update row))) (Inv x.id.0 (epoch_of x) (tag_of row.stamp) row.kind row.content ∷ []) [] [] [] → OneEffect V st to
+  replay_effect : row.state ≡ State.Invalid → x.ready ≡ true → (to : RegisterState) → Change st to x.id.0 (row_node x c (waiting (replaying row) (replayed_update row))) (Inv x.id.0 (epoch_of x) (tag_of row.stamp) row.kind row.content ∷ []) [] [] [] → OneEffect V st to
   replay_effect invalid ready to ch = let phase : phase_of row.state row.pending ≡ Invalid = rw invalid refl in (StartReplay x.id.0, record { allowed = (rw is ready, rw is phase); change = rw is ch })
 
-  replay_ends : row.state ≡ IsInvalid → x.ready ≡ true → all_noted x.id (members_of x) [] ≡ true → (b : Bool) → eqb (tag_of row.stamp) (tag_of row.stamp) ≡ b →
+  replay_ends : row.state ≡ State.Invalid → x.ready ≡ true → all_noted x.id (members_of x) [] ≡ true → (b : Bool) → eqb (tag_of row.stamp) (tag_of row.stamp) ≡ b →
       Owes V st parts key x c row is (completed_at b true (replaying row) (replayed_update row)) [] []
   replay_ends invalid ready a b eb new ch =
       let p = replayed_update row in
@@ -114,17 +114,17 @@ module _ (V : ℕ → List ℕ) (st : State) (parts : Parts V st) (key : List �
         then_completes V st key x c r p first [] [] [] [] refl (p, refl) (alone V x members a) b true eb refl new (λ k h. h) (λ k h. h) whole,
       )
 
-  pub replay_step : row.state ≡ IsInvalid → x.ready ≡ true → (all : Bool) → all_noted x.id (members_of x) [] ≡ all →
+  pub replay_step : row.state ≡ State.Invalid → x.ready ≡ true → (all : Bool) → all_noted x.id (members_of x) [] ≡ all →
       Owes V st parts key x c row is (started_at all (replaying row) (replayed_update row)) [] []
   replay_step invalid ready false a new ch =
       inl (replay_effect invalid ready new (inv_change V st parts key x c row is (waiting (replaying row) (replayed_update row)) row.stamp row.kind row.content (addressees x (waiting (replaying row) (replayed_update row)) Others) [] new refl
-      (λ p has. inl (sym (ap (λ (z : Pending). z.stamp) has))) ch))
+      (λ p has. inl (sym (ap (λ (z : WaitingUpdate). z.stamp) has))) ch))
   replay_step invalid ready true a new ch = replay_ends invalid ready a (eqb (tag_of row.stamp) (tag_of row.stamp)) refl new ch
 
   -- a begin
-  module _ (call : ℕ) (op : Op) (s : Stamp) (valid : row.state ≡ IsValid) (ready : x.ready ≡ true) (leased : Leased V st x.id.0) (small : x.id.0 < 65536) (node : row.stamp.node < 65536) (fresh : Fresh st call) (some : 1 ≤ epoch_of x)
+  module _ (call : ℕ) (op : Op) (s : Stamp) (valid : row.state ≡ State.Valid) (ready : x.ready ≡ true) (leased : Leased V st x.id.0) (small : x.id.0 < 65536) (node : row.stamp.node < 65536) (fresh : Fresh st call) (some : 1 ≤ epoch_of x)
       (stamp : s ≡ record { version = row.stamp.version + step_of (kind_of op); node = x.id.0 }) (changes : (act op (register_of row.content (tag_of row.stamp)) (tag_of s)).changed ≡ true) where
-    begin_effect : (to : State) →
+    begin_effect : (to : RegisterState) →
         Change st to x.id.0 (row_node x c (waiting (beginning op row s) (begun_update call op row s))) (Inv x.id.0 (epoch_of x) (tag_of s) (kind_of op) (act op (register_of row.content (tag_of row.stamp)) (tag_of s)).register.content ∷ [])
         (row_mark x.id.0 (row_node x c (waiting (beginning op row s) (begun_update call op row s))) ∷ []) (noted_update x.id.0 call op row s ∷ []) (Called call (tag_of s) op ∷ []) → OneEffect V st to
     begin_effect to ch =
@@ -167,7 +167,7 @@ module _ (V : ℕ → List ℕ) (st : State) (parts : Parts V st) (key : List �
         let ns = addressees x r Others in
         let ls = letters_of key (sent x key r (started_at false (beginning op row s) (begun_update call op row s)).out.send) in
         inl (begin_effect new (row_is_new st x.id.0 (row_node x c r) new (row_node x c row) ls ls (Inv x.id.0 (epoch_of x) (tag_of s) (kind_of op) con ∷ []) (noted_update x.id.0 call op row s ∷ []) (Called call (tag_of s) op ∷ []) some refl
-        (λ p has. inl (sym (ap (λ (z : Pending). z.stamp) has)))
+        (λ p has. inl (sym (ap (λ (z : WaitingUpdate). z.stamp) has)))
         (inv_within key x s (kind_of op) con ns)
         (λ k h. let none : In [] k = rw (inv_no_acks key x x.id.0 (row_node x c r) s (kind_of op) con ns) at h in absurd none) ch))
     begin_step true a new ch = begin_ends a (eqb (tag_of s) (tag_of s)) refl new ch

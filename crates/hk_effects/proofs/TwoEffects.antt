@@ -1,7 +1,7 @@
 -- Two effects of one event.
 use Rattle.std.proofs.Common.{◌≡◌, ℕ, cond, List, [], ◌∷◌, ◌++◌, ◌∙◌, refl, ap, inl, inr, ⊎_elim, eqb}
 use Rattle.std.proofs.lemmas.Bool.{eq-eqb, ne_eqb}
-use Rattle.hk_register.specs.Machine.{In, Marked, Node, Letter, Mark, Update, Item, State}
+use Rattle.hk_register.specs.Machine.{In, Marked, Node, Message, Mark, Update, Item, RegisterState}
 use Rattle.hk_register.specs.Effects.{Change}
 use Rattle.hk_register.proofs.Grow.{in_left, in_right, in_either}
 use Rattle.hk_effects.proofs.Frames.{itself, weaker_trans}
@@ -11,13 +11,13 @@ append_three [] b c = refl
 append_three (x ∷ a) b c = ap (λ (l : List _). x ∷ l) (append_three a b c)
 
 -- a state after the first effect
-abbrev pub mid_state : State → ℕ → Node → List Letter → List Mark → List Update → List Item → State
+abbrev pub mid_state : RegisterState → ℕ → Node → List Message → List Mark → List Update → List Item → RegisterState
 mid_state st n z ls ms us hs = record { node = λ m. cond (eqb m n) z (st.node m); letters = ls ++ st.letters; marks = ms ++ st.marks; begun = us ++ st.begun; history = hs ++ st.history }
 
-pub at_mid : (st : State) (n : ℕ) (z : Node) (ls : List Letter) (ms : List Mark) (us : List Update) (hs : List Item) → (mid_state st n z ls ms us hs).node n ≡ z
+pub at_mid : (st : RegisterState) (n : ℕ) (z : Node) (ls : List Message) (ms : List Mark) (us : List Update) (hs : List Item) → (mid_state st n z ls ms us hs).node n ≡ z
 at_mid st n z ls ms us hs = rw (eq-eqb n n refl) refl
 
-pub mid_change : (st : State) (n : ℕ) (z : Node) (ls : List Letter) (ms : List Mark) (us : List Update) (hs : List Item) → Change st (mid_state st n z ls ms us hs) n z ls ms us hs
+pub mid_change : (st : RegisterState) (n : ℕ) (z : Node) (ls : List Message) (ms : List Mark) (us : List Update) (hs : List Item) → Change st (mid_state st n z ls ms us hs) n z ls ms us hs
 mid_change st n z ls ms us hs = record {
   here = rw (eq-eqb n n refl) refl;
   there = λ m other. rw (ne_eqb m n other) refl;
@@ -30,7 +30,7 @@ mid_change st n z ls ms us hs = record {
 }
 
 -- the second effect, from the change as a whole
-pub second_change : (st new : State) (n : ℕ) (y z : Node) (ls' ls : List Letter) (ks ms : List Mark) (us : List Update) (hs' hs : List Item) → Change st new n z ls ms us (hs ++ hs') →
+pub second_change : (st new : RegisterState) (n : ℕ) (y z : Node) (ls' ls : List Message) (ks ms : List Mark) (us : List Update) (hs' hs : List Item) → Change st new n z ls ms us (hs ++ hs') →
     ((k : Mark) → In ks k → Marked new k) → Change (mid_state st n y ls' ks us hs') new n z ls ms [] hs
 second_change st new n y z ls' ls ks ms us hs' hs ch weak = record {
   here = ch.here;

@@ -3,10 +3,10 @@ use Rattle.std.proofs.Common.{◌≡◌, ◌≢◌, ℕ, Bool, true, false, cond
 use Rattle.std.specs.List.{flat_map}
 use Rattle.std.specs.Map.{keys_of}
 use Rattle.hk_base.specs.declared.call.Reply.{Reply}
-use Rattle.hk_base.specs.declared.letter.Letter.{Letter as Wire}
+use Rattle.hk_base.specs.declared.letter.Letter.{Letter}
 use Rattle.hk_key.specs.declared.row.Row.{Row}
 use Rattle.hk_key.specs.Table.{Done, on_view}
-use Rattle.hk_register.specs.Machine.{Letter}
+use Rattle.hk_register.specs.Machine.{Message}
 use Rattle.hk_node.specs.Rows.{Rows, row_at}
 use Rattle.hk_node.specs.Node.{NodeState, members_of}
 use Rattle.hk_node.specs.Sends.{sent}
@@ -33,14 +33,14 @@ module _ (y : NodeState) where
   view_of_row row = on_view y.id (members_of y) row
 
   -- what all rows send and tell
-  abbrev pub viewed_letters : Rows → List Wire
+  abbrev pub viewed_letters : Rows → List Letter
   viewed_letters rows = flat_map (λ r. sent y r.0 (viewed y r).row (viewed y r).out.send) rows
 
   abbrev pub viewed_told : Rows → List (List ℕ × Reply)
   viewed_told rows = flat_map (λ r. told_of r.0 (viewed y r).out.reply) rows
 
   -- what one row sends and tells
-  abbrev pub row_letters : List ℕ → Row → List Letter
+  abbrev pub row_letters : List ℕ → Row → List Message
   row_letters key row = letters_of key (sent y key (view_of_row row).row (view_of_row row).out.send)
 
   abbrev pub row_told : List ℕ → Row → List Reply
@@ -60,7 +60,7 @@ module _ (y : NodeState) where
   silent_letters low key (r ∷ rows) rises out =
       let ne = bound_differs low r.0 key rises.0 out in
       letters_append key (sent y r.0 (viewed y r).row (viewed y r).out.send) (viewed_letters rows)
-      ∙ (ap (λ (l : List Letter). l ++ letters_of key (viewed_letters rows)) (silent_other key r.0 y (viewed y r).row (viewed y r).out.send ne) ∙ silent_letters (Some r.0) key rows rises.1 (not_down low r.0 key rises.0 out))
+      ∙ (ap (λ (l : List Message). l ++ letters_of key (viewed_letters rows)) (silent_other key r.0 y (viewed y r).row (viewed y r).out.send ne) ∙ silent_letters (Some r.0) key rows rises.1 (not_down low r.0 key rises.0 out))
 
   silent_told : (low : Option (List ℕ)) (key : List ℕ) (rows : Rows) → RisesBehind low (keys_of rows) → is_behind low key ≡ false → told_at key (viewed_told rows) ≡ []
   silent_told low key [] rises out = refl
@@ -78,10 +78,10 @@ module _ (y : NodeState) where
       ∙ ⊎_elim
       (λ (e : key ≡ r.0).
       let out : is_behind (Some r.0) key ≡ false = subst (λ (k : List ℕ). is_behind (Some r.0) k ≡ false) (sym e) (not_behind_itself r.0) in
-      ap (λ (l : List Letter). letters_of key first ++ l) (silent_letters (Some r.0) key rows rises.1 out)
+      ap (λ (l : List Message). letters_of key first ++ l) (silent_letters (Some r.0) key rows rises.1 out)
       ∙ (append-nil (letters_of key first) ∙ (ap (λ (k : List ℕ). letters_of key (sent y k (viewed y r).row (viewed y r).out.send)) (sym e) ∙ ap (row_letters key) (sym (row_here key r rows e)))))
       (λ (ne : key ≢ r.0).
-      ap (λ (l : List Letter). l ++ letters_of key (viewed_letters rows)) (silent_other key r.0 y (viewed y r).row (viewed y r).out.send ne)
+      ap (λ (l : List Message). l ++ letters_of key (viewed_letters rows)) (silent_other key r.0 y (viewed y r).row (viewed y r).out.send ne)
       ∙ (letters-viewed (Some r.0) key rows rises.1 ∙ ap (row_letters key) (sym (row_next key r rows ne)))) (cases_key key r.0)
 
   -- and so are the replies

@@ -18,7 +18,7 @@ use Rattle.hk_register.specs.Machine.{In}
 use Rattle.hk_register.proofs.Grow.{in_either, in_left}
 use Rattle.hk_clocks.specs.Clocks.{Paces}
 use Rattle.hk_manager.specs.declared.event.ManagerEvent.{ManagerEvent}
-use Rattle.hk_manager.specs.declared.event.ManagerEvent.TheVariants.{Propose as Proposal, Receive as Receipt, Activate as Activation}
+use Rattle.hk_manager.specs.declared.event.ManagerEvent.TheVariants as ManagerEvent
 use Rattle.hk_manager.specs.Steps.{manager_step}
 use Rattle.hk_node.specs.Node.{NodeState, is_member}
 use Rattle.hk_node.specs.Stepped.{Stepped}
@@ -26,7 +26,7 @@ use Rattle.hk_node.specs.Calls.{called}
 use Rattle.hk_node.specs.Copies.{asks_copy}
 use Rattle.hk_node.specs.Steps.{receives, resent, replayed, asks_lease, installs, ticks, grants}
 use Rattle.hk_world.specs.declared.event.Event.{Event}
-use Rattle.hk_world.specs.declared.event.Event.TheVariants.{Call, Take, Tick, TickAll, Crash, Resend, Replay, Copy, Start, Agree, Install, Lease, AskLease, Propose, Activate as ActivateEvent}
+use Rattle.hk_world.specs.declared.event.Event.TheVariants as Event
 use Rattle.hk_world.specs.declared.process.Process.{Process}
 use Rattle.hk_world.specs.declared.process.ManagerProcess.{ManagerProcess}
 use Rattle.hk_world.specs.declared.shown.Shown.{Shown}
@@ -47,7 +47,7 @@ use Rattle.hk_effects.proofs.Worlds.{all_in, the_some, the_accepted, ordered_row
 
 -- how many calls there are after an event
 abbrev pub calls_after : Event → ℕ → ℕ
-calls_after (Call id key op) calls = calls + 1
+calls_after (Event.Call id key op) calls = calls + 1
 calls_after event calls = calls
 
 -- what an event keeps
@@ -109,13 +109,13 @@ module _ (w : WorldState) (own : IsOwn w) where
   fine : (id : NodeId) (x : NodeState) → process_at id w.processes ≡ Some (alive x) → (calls : ℕ) → w.calls ≤ calls → IsNodeOf w.views calls x
   fine id x at calls up = node_more w.views w.calls calls x up (process_own id (alive x) at)
 
-  call_kept : (id : NodeId) (key : List ℕ) (op : Op) (x : NodeState) → process_at id w.processes ≡ Some (alive x) → (a : Accepted) → calls_at w id key op x ≡ Ok a → Next (Call id key op) a
+  call_kept : (id : NodeId) (key : List ℕ) (op : Op) (x : NodeState) → process_at id w.processes ≡ Some (alive x) → (a : Accepted) → calls_at w id key op x ≡ Ok a → Next (Event.Call id key op) a
   call_kept id key op x at a e =
       let call : CallNo = record { 0 = w.calls + 1 } in
       let s : Stepped = called x call key op in
       let b : Accepted = accepted w id x s (w.calls + 1) w.paces (Some call) in
-      subst (Next (Call id key op)) (the_accepted b a (calls_at w id key op x) refl e)
-      (step_kept (Call id key op) id s w.paces (omega arith) (called_fine w.views (w.calls + 1) x (fine id x at (w.calls + 1) (omega arith)) (ordered_rows w own.sound id x at) call key op (le_refl (w.calls + 1))))
+      subst (Next (Event.Call id key op)) (the_accepted b a (calls_at w id key op x) refl e)
+      (step_kept (Event.Call id key op) id s w.paces (omega arith) (called_fine w.views (w.calls + 1) x (fine id x at (w.calls + 1) (omega arith)) (ordered_rows w own.sound id x at) call key op (le_refl (w.calls + 1))))
 
   -- a step that makes no call
   ticked_kept : (event : Event) → calls_after event w.calls ≡ w.calls → (step : NodeState → Stepped) →
@@ -162,8 +162,8 @@ module _ (w : WorldState) (own : IsOwn w) where
       let f = any_held id w.managers held in joiner_fine id f.1.manager.held (own.held f.0 f.1 f.2) (in_members id f.1.manager.held.members f.3))
       (or_cases (is_member id (last_view w.views).members) (list_any (λ p. is_member id p.manager.held.members) w.managers) may)
 
-  agreed_kept : (change : Change) (v : View) (a : Accepted) → agreed_on w v ≡ Ok a → Next (Agree change) a
-  agreed_kept change v a e = aside_kept (Agree change) (record w { views = w.views ++ v ∷ [] }) (record nothing { view = Some v }) (record {
+  agreed_kept : (change : Change) (v : View) (a : Accepted) → agreed_on w v ≡ Ok a → Next (Event.Agree change) a
+  agreed_kept change v a e = aside_kept (Event.Agree change) (record w { views = w.views ++ v ∷ [] }) (record nothing { view = Some v }) (record {
     process = λ id p at. let x = process_own id p at in record { small = x.small; agreed = λ u e. in_left w.views (v ∷ []) u (x.agreed u e); row = x.row };
     letter = own.letter;
     begun = λ l u h is. in_left w.views (v ∷ []) u (own.begun l u h is);
@@ -199,42 +199,42 @@ module _ (w : WorldState) (own : IsOwn w) where
       }) a e) e) e
 
   next_kept_at : (event : Event) (a : Accepted) → world_step w event ≡ Ok a → Next event a
-  next_kept_at (Call id key op) a e = live_step (Next (Call id key op) a) w a id (calls_at w id key op) (λ x at e. call_kept id key op x at a e) e
-  next_kept_at (Take n) a e = any_takes_step (Next (Take n) a) w a n
-      (λ l found id x at e. makes_kept (Take n) id x (receives x l) w.paces refl
+  next_kept_at (Event.Call id key op) a e = live_step (Next (Event.Call id key op) a) w a id (calls_at w id key op) (λ x at e. call_kept id key op x at a e) e
+  next_kept_at (Event.Take n) a e = any_takes_step (Next (Event.Take n) a) w a n
+      (λ l found id x at e. makes_kept (Event.Take n) id x (receives x l) w.paces refl
       (receives_fine w.views w.calls x (fine id x at w.calls (le_refl w.calls)) (ordered_rows w own.sound id x at) l (own.letter l (numbered_in n w.letters l found)) (λ v is. own.begun l v (numbered_in n w.letters l found) is)) a e)
-      (λ l found m e. manager_kept (Take n) refl m (Receipt l) a e) e
-  next_kept_at (Tick actor to) a e = any_actor_step (Next (Tick actor to) a) w a actor (ticks_at w to) (manager_ticks_at w to)
-      (λ id x at e. ticks_step (Next (Tick actor to) a) w a to id x (λ paces e. ticked_kept (Tick actor to) refl (λ x. ticks x to) (λ x good ordered. ticks_fine w.views w.calls x good ordered to) id x at paces a e) e)
-      (λ m e. live_manager_step (Next (Tick actor to) a) w a m (manager_ticks_at w to m) (λ x at e.
-      manager_ticks_step (Next (Tick actor to) a) w a to m x (λ managers paces e. processes_kept (Tick actor to) refl w.processes process_own managers paces a e) e) e) e
-  next_kept_at (TickAll to) a e = any_tick_step (Next (TickAll to) a) w a to (λ managers paces e. processes_kept (TickAll to) refl (map (process_ticked to) w.processes) (ticked_fine to) managers paces a e) e
-  next_kept_at (Crash actor) a e = any_actor_step (Next (Crash actor) a) w a actor (crashes_at w) (manager_crashes_at w)
-      (λ id x at e. crashes_step (Next (Crash actor) a) w a id x
-      (λ paces e. processes_kept (Crash actor) refl (put_process id (record { node = x; crashed = true }) w.processes) (put_kept w.calls (le_refl w.calls) id (record { node = x; crashed = true }) (process_own id (alive x) at)) w.managers paces a e) e)
-      (λ m e. live_manager_step (Next (Crash actor) a) w a m (manager_crashes_at w m) (λ x at e.
-      manager_crashes_step (Next (Crash actor) a) w a m x (λ managers paces e. processes_kept (Crash actor) refl w.processes process_own managers paces a e) e) e) e
-  next_kept_at (Resend id key) a e = live_step (Next (Resend id key) a) w a id (λ node. acts w id node (resent node key))
-      (λ x at e. quiet_kept (Resend id key) refl (λ x. resent x key) (λ x good ordered. resent_fine w.views w.calls x good ordered key) id x at a e) e
-  next_kept_at (Replay id key) a e = live_step (Next (Replay id key) a) w a id (λ node. acts w id node (replayed node key))
-      (λ x at e. quiet_kept (Replay id key) refl (λ x. replayed x key) (λ x good ordered. replayed_fine w.views w.calls x good ordered key) id x at a e) e
-  next_kept_at (Copy id from room) a e = live_step (Next (Copy id from room) a) w a id (λ node. acts w id node (asks_copy node from room))
-      (λ x at e. quiet_kept (Copy id from room) refl (λ x. asks_copy x from room) (λ x good ordered. asks_fine w.views w.calls x good ordered from room) id x at a e) e
-  next_kept_at (Start id) a e = any_starts_step (Next (Start id) a) w a id
-      (λ none may paces e. processes_kept (Start id) refl (put_process id (joining w id) w.processes) (put_kept w.calls (le_refl w.calls) id (joining w id) (may_join_fine id may)) w.managers paces a e) e
-  next_kept_at (Agree change) a e = unmanaged_step (Next (Agree change) a) w a (agrees w (last_view w.views) change)
-      (λ e. changes_step (Next (Agree change) a) w a change (λ v how e. agreed_kept change v a e) e) e
-  next_kept_at (Install id epoch) a e = unmanaged_step (Next (Install id epoch) a) w a (live w id (λ node. installs_at (numbered epoch w.views) w id node))
-      (λ e. live_step (Next (Install id epoch) a) w a id (λ node. installs_at (numbered epoch w.views) w id node)
-      (λ x at e. installs_step (Next (Install id epoch) a) w a epoch id x
-      (λ v may e. quiet_kept (Install id epoch) refl (λ x. installs x v) (λ x good ordered. installs_fine w.views w.calls x good ordered v may.agreed) id x at a e) e) e) e
-  next_kept_at (Lease id end) a e = unmanaged_step (Next (Lease id end) a) w a (live w id (leases_at w id end))
-      (λ e. live_step (Next (Lease id end) a) w a id (leases_at w id end)
-      (λ x at e. leases_step (Next (Lease id end) a) w a id end x (λ inside e. quiet_kept (Lease id end) refl (λ x. grants x end) (λ x good ordered. grants_fine w.views w.calls x good ordered end) id x at a e) e) e) e
-  next_kept_at (AskLease id manager) a e = live_step (Next (AskLease id manager) a) w a id (λ node. acts w id node (asks_lease node manager))
-      (λ x at e. quiet_kept (AskLease id manager) refl (λ x. asks_lease x manager) (λ x good ordered. asks_lease_fine w.views w.calls x good ordered manager) id x at a e) e
-  next_kept_at (Propose manager base change) a e = manager_kept (Propose manager base change) refl manager (Proposal base change) a e
-  next_kept_at (ActivateEvent manager) a e = manager_kept (ActivateEvent manager) refl manager Activation a e
+      (λ l found m e. manager_kept (Event.Take n) refl m (ManagerEvent.Receive l) a e) e
+  next_kept_at (Event.Tick actor to) a e = any_actor_step (Next (Event.Tick actor to) a) w a actor (ticks_at w to) (manager_ticks_at w to)
+      (λ id x at e. ticks_step (Next (Event.Tick actor to) a) w a to id x (λ paces e. ticked_kept (Event.Tick actor to) refl (λ x. ticks x to) (λ x good ordered. ticks_fine w.views w.calls x good ordered to) id x at paces a e) e)
+      (λ m e. live_manager_step (Next (Event.Tick actor to) a) w a m (manager_ticks_at w to m) (λ x at e.
+      manager_ticks_step (Next (Event.Tick actor to) a) w a to m x (λ managers paces e. processes_kept (Event.Tick actor to) refl w.processes process_own managers paces a e) e) e) e
+  next_kept_at (Event.TickAll to) a e = any_tick_step (Next (Event.TickAll to) a) w a to (λ managers paces e. processes_kept (Event.TickAll to) refl (map (process_ticked to) w.processes) (ticked_fine to) managers paces a e) e
+  next_kept_at (Event.Crash actor) a e = any_actor_step (Next (Event.Crash actor) a) w a actor (crashes_at w) (manager_crashes_at w)
+      (λ id x at e. crashes_step (Next (Event.Crash actor) a) w a id x
+      (λ paces e. processes_kept (Event.Crash actor) refl (put_process id (record { node = x; crashed = true }) w.processes) (put_kept w.calls (le_refl w.calls) id (record { node = x; crashed = true }) (process_own id (alive x) at)) w.managers paces a e) e)
+      (λ m e. live_manager_step (Next (Event.Crash actor) a) w a m (manager_crashes_at w m) (λ x at e.
+      manager_crashes_step (Next (Event.Crash actor) a) w a m x (λ managers paces e. processes_kept (Event.Crash actor) refl w.processes process_own managers paces a e) e) e) e
+  next_kept_at (Event.Resend id key) a e = live_step (Next (Event.Resend id key) a) w a id (λ node. acts w id node (resent node key))
+      (λ x at e. quiet_kept (Event.Resend id key) refl (λ x. resent x key) (λ x good ordered. resent_fine w.views w.calls x good ordered key) id x at a e) e
+  next_kept_at (Event.Replay id key) a e = live_step (Next (Event.Replay id key) a) w a id (λ node. acts w id node (replayed node key))
+      (λ x at e. quiet_kept (Event.Replay id key) refl (λ x. replayed x key) (λ x good ordered. replayed_fine w.views w.calls x good ordered key) id x at a e) e
+  next_kept_at (Event.Copy id from room) a e = live_step (Next (Event.Copy id from room) a) w a id (λ node. acts w id node (asks_copy node from room))
+      (λ x at e. quiet_kept (Event.Copy id from room) refl (λ x. asks_copy x from room) (λ x good ordered. asks_fine w.views w.calls x good ordered from room) id x at a e) e
+  next_kept_at (Event.Start id) a e = any_starts_step (Next (Event.Start id) a) w a id
+      (λ none may paces e. processes_kept (Event.Start id) refl (put_process id (joining w id) w.processes) (put_kept w.calls (le_refl w.calls) id (joining w id) (may_join_fine id may)) w.managers paces a e) e
+  next_kept_at (Event.Agree change) a e = unmanaged_step (Next (Event.Agree change) a) w a (agrees w (last_view w.views) change)
+      (λ e. changes_step (Next (Event.Agree change) a) w a change (λ v how e. agreed_kept change v a e) e) e
+  next_kept_at (Event.Install id epoch) a e = unmanaged_step (Next (Event.Install id epoch) a) w a (live w id (λ node. installs_at (numbered epoch w.views) w id node))
+      (λ e. live_step (Next (Event.Install id epoch) a) w a id (λ node. installs_at (numbered epoch w.views) w id node)
+      (λ x at e. installs_step (Next (Event.Install id epoch) a) w a epoch id x
+      (λ v may e. quiet_kept (Event.Install id epoch) refl (λ x. installs x v) (λ x good ordered. installs_fine w.views w.calls x good ordered v may.agreed) id x at a e) e) e) e
+  next_kept_at (Event.Lease id end) a e = unmanaged_step (Next (Event.Lease id end) a) w a (live w id (leases_at w id end))
+      (λ e. live_step (Next (Event.Lease id end) a) w a id (leases_at w id end)
+      (λ x at e. leases_step (Next (Event.Lease id end) a) w a id end x (λ inside e. quiet_kept (Event.Lease id end) refl (λ x. grants x end) (λ x good ordered. grants_fine w.views w.calls x good ordered end) id x at a e) e) e) e
+  next_kept_at (Event.AskLease id manager) a e = live_step (Next (Event.AskLease id manager) a) w a id (λ node. acts w id node (asks_lease node manager))
+      (λ x at e. quiet_kept (Event.AskLease id manager) refl (λ x. asks_lease x manager) (λ x good ordered. asks_lease_fine w.views w.calls x good ordered manager) id x at a e) e
+  next_kept_at (Event.Propose manager base change) a e = manager_kept (Event.Propose manager base change) refl manager (ManagerEvent.Propose base change) a e
+  next_kept_at (Event.Activate manager) a e = manager_kept (Event.Activate manager) refl manager ManagerEvent.Activate a e
 
 pub next_kept : (w : WorldState) (event : Event) (a : Accepted) → world_step w event ≡ Ok a → IsOwn w → IsNextOf w event a.world a.told
 next_kept w event a is own = next_kept_at w own event a is
@@ -282,30 +282,30 @@ stays_alone w event a e none = by_event event e
         record { managers = ap (λ (c : Accepted). c.world.managers) is; views = inr (v, how, ap (λ (c : Accepted). c.world.views) is) }
 
     by_event : (event : Event) → world_step w event ≡ Ok a → StaysAlone w a
-    by_event (Call id key op) e = live_step (StaysAlone w a) w a id (calls_at w id key op)
+    by_event (Event.Call id key op) e = live_step (StaysAlone w a) w a id (calls_at w id key op)
         (λ x at e.
         let b : Accepted = accepted w id x (called x (record { 0 = w.calls + 1 }) key op) (w.calls + 1) w.paces (Some (record { 0 = w.calls + 1 })) in
         by_world b refl refl (the_accepted a b (Ok a) refl (sym e))) e
-    by_event (Take n) e = takes_step (StaysAlone w a) w a none n (λ l found id x at e. by_made id x (receives x l) w.paces e) e
-    by_event (Tick actor to) e = live_actor_step (StaysAlone w a) w a none actor (ticks_at w to) (manager_ticks_at w to)
+    by_event (Event.Take n) e = takes_step (StaysAlone w a) w a none n (λ l found id x at e. by_made id x (receives x l) w.paces e) e
+    by_event (Event.Tick actor to) e = live_actor_step (StaysAlone w a) w a none actor (ticks_at w to) (manager_ticks_at w to)
         (λ id x at e. ticks_step (StaysAlone w a) w a to id x (λ paces e. by_made id x (ticks x to) paces e) e) e
-    by_event (TickAll to) e = all_tick_step (StaysAlone w a) w a none to (λ paces e. by_aside (map (process_ticked to) w.processes) paces e) e
-    by_event (Crash actor) e = live_actor_step (StaysAlone w a) w a none actor (crashes_at w) (manager_crashes_at w)
+    by_event (Event.TickAll to) e = all_tick_step (StaysAlone w a) w a none to (λ paces e. by_aside (map (process_ticked to) w.processes) paces e) e
+    by_event (Event.Crash actor) e = live_actor_step (StaysAlone w a) w a none actor (crashes_at w) (manager_crashes_at w)
         (λ id x at e. crashes_step (StaysAlone w a) w a id x (λ paces e. by_aside (put_process id (record { node = x; crashed = true }) w.processes) paces e) e) e
-    by_event (Resend id key) e = live_step (StaysAlone w a) w a id (λ node. acts w id node (resent node key)) (λ x at e. by_made id x (resent x key) w.paces e) e
-    by_event (Replay id key) e = live_step (StaysAlone w a) w a id (λ node. acts w id node (replayed node key)) (λ x at e. by_made id x (replayed x key) w.paces e) e
-    by_event (Copy id from room) e = live_step (StaysAlone w a) w a id (λ node. acts w id node (asks_copy node from room)) (λ x at e. by_made id x (asks_copy x from room) w.paces e) e
-    by_event (Start id) e = any_starts_step (StaysAlone w a) w a id (λ at may paces e. by_aside (put_process id (joining w id) w.processes) paces e) e
-    by_event (Agree change) e = unmanaged_step (StaysAlone w a) w a (agrees w (last_view w.views) change)
+    by_event (Event.Resend id key) e = live_step (StaysAlone w a) w a id (λ node. acts w id node (resent node key)) (λ x at e. by_made id x (resent x key) w.paces e) e
+    by_event (Event.Replay id key) e = live_step (StaysAlone w a) w a id (λ node. acts w id node (replayed node key)) (λ x at e. by_made id x (replayed x key) w.paces e) e
+    by_event (Event.Copy id from room) e = live_step (StaysAlone w a) w a id (λ node. acts w id node (asks_copy node from room)) (λ x at e. by_made id x (asks_copy x from room) w.paces e) e
+    by_event (Event.Start id) e = any_starts_step (StaysAlone w a) w a id (λ at may paces e. by_aside (put_process id (joining w id) w.processes) paces e) e
+    by_event (Event.Agree change) e = unmanaged_step (StaysAlone w a) w a (agrees w (last_view w.views) change)
         (λ e. changes_step (StaysAlone w a) w a change by_view e) e
-    by_event (Install id epoch) e = unmanaged_step (StaysAlone w a) w a (live w id (λ node. installs_at (numbered epoch w.views) w id node))
+    by_event (Event.Install id epoch) e = unmanaged_step (StaysAlone w a) w a (live w id (λ node. installs_at (numbered epoch w.views) w id node))
         (λ e. live_step (StaysAlone w a) w a id (λ node. installs_at (numbered epoch w.views) w id node)
         (λ x at e. installs_step (StaysAlone w a) w a epoch id x (λ v may e. by_made id x (installs x v) w.paces e) e) e) e
-    by_event (Lease id end) e = unmanaged_step (StaysAlone w a) w a (live w id (leases_at w id end))
+    by_event (Event.Lease id end) e = unmanaged_step (StaysAlone w a) w a (live w id (leases_at w id end))
         (λ e. live_step (StaysAlone w a) w a id (leases_at w id end) (λ x at e. leases_step (StaysAlone w a) w a id end x (λ inside e. by_made id x (grants x end) w.paces e) e) e) e
-    by_event (AskLease id manager) e = live_step (StaysAlone w a) w a id (λ node. acts w id node (asks_lease node manager)) (λ x at e. by_made id x (asks_lease x manager) w.paces e) e
-    by_event (Propose manager base change) e = proposes_none (StaysAlone w a) w a none manager base change e
-    by_event (ActivateEvent manager) e = activates_none (StaysAlone w a) w a none manager e
+    by_event (Event.AskLease id manager) e = live_step (StaysAlone w a) w a id (λ node. acts w id node (asks_lease node manager)) (λ x at e. by_made id x (asks_lease x manager) w.paces e) e
+    by_event (Event.Propose manager base change) e = proposes_none (StaysAlone w a) w a none manager base change e
+    by_event (Event.Activate manager) e = activates_none (StaysAlone w a) w a none manager e
 
 -- so what an agreement of managers would give is there
 pub led_alone : KeepsSound → (w : WorldState) (event : Event) (a : Accepted) → world_step w event ≡ Ok a → IsEvent event → w.managers ≡ [] → IsOwn w → IsLed a.world

@@ -1,6 +1,6 @@
 -- Every accepted event is, for each key, one effect of the replicated register, or two.
 use Rattle.std.specs.Prelude.{◌≡◌, ◌⊎◌, ℕ, List, [], Ok}
-use Rattle.hk_register.specs.Machine.{State}
+use Rattle.hk_register.specs.Machine.{RegisterState}
 use Rattle.hk_register.specs.Effects.{Effect, Happens}
 use Rattle.hk_register.specs.Parts.{Parts}
 use Rattle.hk_world.specs.World.{WorldState}
@@ -10,12 +10,12 @@ use Rattle.hk_world.specs.declared.event.Event.{Event}
 use Rattle.hk_effects.specs.Projection.{Trace, project, traced}
 use Rattle.hk_effects.specs.Own.{IsLed, IsOwn, IsTrace, Agrees}
 
-abbrev pub OneEffect : (ℕ → List ℕ) → State → State → Type 0
+abbrev pub OneEffect : (ℕ → List ℕ) → RegisterState → RegisterState → Type 0
 OneEffect V old new = (e : Effect) × Happens V old e new
 
 -- one effect, or two one after the other. That nothing happens is an effect too, Quiet.
-abbrev pub Effects : (ℕ → List ℕ) → State → State → Type 0
-Effects V old new = OneEffect V old new ⊎ (mid : State) × OneEffect V old mid × OneEffect V mid new
+abbrev pub Effects : (ℕ → List ℕ) → RegisterState → RegisterState → Type 0
+Effects V old new = OneEffect V old new ⊎ (mid : RegisterState) × OneEffect V old mid × OneEffect V mid new
 
 abbrev pub EventIsEffects : Type 0
 EventIsEffects =

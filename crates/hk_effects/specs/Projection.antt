@@ -3,27 +3,26 @@ use Rattle.std.specs.Prelude.{ℕ, ◌+◌, Bool, true, false, not, List, [], �
 use Rattle.std.specs.Ordering.{is_eq, is_lt}
 use Rattle.std.specs.Option.{option_or}
 use Rattle.hk_base.specs.declared.stamp.NodeId.{NodeId}
-use Rattle.hk_base.specs.declared.stamp.Kind.TheVariants.{Write as Plain}
-use Rattle.hk_base.specs.declared.call.State.{State as RowState}
-use Rattle.hk_base.specs.declared.call.State.TheVariants.{Valid as IsValid, Invalid as IsInvalid, Write as IsWrite, Replay as IsReplay, Trans as IsTrans}
+use Rattle.hk_base.specs.declared.stamp.Kind.TheVariants as Kind
+use Rattle.hk_base.specs.declared.call.State.{State}
+use Rattle.hk_base.specs.declared.call.State.TheVariants as State
 use Rattle.hk_base.specs.declared.call.Op.{Op}
 use Rattle.hk_base.specs.declared.call.Reply.{Reply}
 use Rattle.hk_base.specs.declared.letter.Actor.{Actor}
-use Rattle.hk_base.specs.declared.letter.Actor.TheVariants as A
+use Rattle.hk_base.specs.declared.letter.Actor.TheVariants as Actor
 use Rattle.hk_base.specs.declared.letter.Body.{Body}
-use Rattle.hk_base.specs.declared.letter.Body.TheVariants.{Inv as InvBody, Ack as AckBody, Val as ValBody, CopyAsk, CopyGive, LeaseAsk, LeaseGive, Prepare, Promise, Accept, Accepted as AcceptedBody, Chosen, Activate}
-use Rattle.hk_base.specs.declared.letter.Letter.{Letter as Wire}
+use Rattle.hk_base.specs.declared.letter.Body.TheVariants as Body
+use Rattle.hk_base.specs.declared.letter.Letter.{Letter}
 use Rattle.hk_base.specs.declared.letter.CopyItem.{CopyItem}
 use Rattle.hk_base.specs.Stamp.{tag_of}
 use Rattle.hk_base.specs.Register.{act}
 use Rattle.hk_history.specs.History.{is_void, is_unsure}
 use Rattle.hk_key.specs.declared.acks.Ack.{Ack}
-use Rattle.hk_key.specs.declared.row.Pending.{Pending as Waits}
+use Rattle.hk_key.specs.declared.row.Pending.{Pending}
 use Rattle.hk_key.specs.declared.row.Row.{Row}
 use Rattle.hk_copy.specs.Batches.{key_cmp, last_key}
-use Rattle.hk_register.specs.Machine.{Note, Pending, Phase, Node, Letter, Mark, Update, Item, State}
+use Rattle.hk_register.specs.Machine.{Note, WaitingUpdate, Phase, Node, Message, Mark, Update, Item, RegisterState}
 use Rattle.hk_register.specs.Machine.Phase.{Valid, Invalid, Write, Replay, Trans}
-use Rattle.hk_register.specs.Machine.Letter.{Inv, Ack as AckL, Val, Give}
 use Rattle.hk_register.specs.Machine.Item.{Called, Answered, Dropped, ReadOnly, Rejected}
 use Rattle.hk_register.specs.Effects.{row_mark, cover_mark, register_of}
 use Rattle.hk_register.specs.Runs.{absent}
@@ -39,19 +38,19 @@ use Rattle.hk_world.specs.Steps.{acting_of, Accepted}
 abbrev pub note_of : Ack → Note
 note_of ack = record { who = ack.node.0; exact = ack.exact }
 
-abbrev pub pending_of : Waits → Pending
+abbrev pub pending_of : Pending → WaitingUpdate
 pending_of p = record { stamp = tag_of p.stamp; kind = p.kind; content = p.content; reply = p.reply; notes = map note_of p.acks }
 
 -- a row in Write, Replay or Trans has a pending update
-abbrev pub phase_of : RowState → Option Waits → Phase
-phase_of IsValid p = Valid
-phase_of IsInvalid p = Invalid
-phase_of IsWrite None = Invalid
-phase_of IsWrite (Some p) = Write (pending_of p)
-phase_of IsReplay None = Invalid
-phase_of IsReplay (Some p) = Replay (pending_of p)
-phase_of IsTrans None = Invalid
-phase_of IsTrans (Some p) = Trans (pending_of p)
+abbrev pub phase_of : State → Option Pending → Phase
+phase_of State.Valid p = Valid
+phase_of State.Invalid p = Invalid
+phase_of State.Write None = Invalid
+phase_of State.Write (Some p) = Write (pending_of p)
+phase_of State.Replay None = Invalid
+phase_of State.Replay (Some p) = Replay (pending_of p)
+phase_of State.Trans None = Invalid
+phase_of State.Trans (Some p) = Trans (pending_of p)
 
 -- the key is behind the bound, if there is one
 abbrev pub is_behind : Option (List ℕ) → List ℕ → Bool
@@ -79,7 +78,7 @@ is_same_key a b = is_eq (key_cmp a b)
 
 -- a key without an item in a batch is as no update left it
 abbrev pub first_item : CopyItem
-first_item = record { key = []; stamp = record { version = 0; node = 0 }; kind = Plain; valid = true; content = None }
+first_item = record { key = []; stamp = record { version = 0; node = 0 }; kind = Kind.Write; valid = true; content = None }
 
 abbrev pub item_at : List ℕ → List CopyItem → CopyItem
 item_at key [] = first_item
@@ -92,29 +91,29 @@ covers key after done items = is_behind after key && (done || not (is_behind (op
 
 -- a sender's number; managers send nothing of a key
 abbrev pub number_of : Actor → ℕ
-number_of (A.Node n) = n.0
-number_of (A.Manager m) = 65536 + m
+number_of (Actor.Node n) = n.0
+number_of (Actor.Manager m) = 65536 + m
 
 -- a letter, if it tells of the key
-abbrev pub letter_of : List ℕ → Wire → Body → List Letter
-letter_of key l (InvBody k s kind content) = if is_same_key key k then Inv (number_of l.from) l.epoch (tag_of s) kind content ∷ [] else []
-letter_of key l (AckBody k s top) = if is_same_key key k then AckL (number_of l.from) l.epoch (tag_of s) (tag_of top) ∷ [] else []
-letter_of key l (ValBody k s) = if is_same_key key k then Val (number_of l.from) l.epoch (tag_of s) ∷ [] else []
-letter_of key l (CopyGive after done items) =
+abbrev pub letter_of : List ℕ → Letter → Body → List Message
+letter_of key l (Body.Inv k s kind content) = if is_same_key key k then Message.Inv (number_of l.from) l.epoch (tag_of s) kind content ∷ [] else []
+letter_of key l (Body.Ack k s top) = if is_same_key key k then Message.Ack (number_of l.from) l.epoch (tag_of s) (tag_of top) ∷ [] else []
+letter_of key l (Body.Val k s) = if is_same_key key k then Message.Val (number_of l.from) l.epoch (tag_of s) ∷ [] else []
+letter_of key l (Body.CopyGive after done items) =
     if covers key after done items
-    then Give (number_of l.from) l.epoch (tag_of (item_at key items).stamp) (item_at key items).kind (item_at key items).content (item_at key items).valid ∷ []
+    then Message.Give (number_of l.from) l.epoch (tag_of (item_at key items).stamp) (item_at key items).kind (item_at key items).content (item_at key items).valid ∷ []
     else []
-letter_of key l (CopyAsk after room) = []
-letter_of key l (LeaseAsk asked) = []
-letter_of key l (LeaseGive end) = []
-letter_of key l (Prepare ballot) = []
-letter_of key l (Promise ballot vote) = []
-letter_of key l (Accept ballot v) = []
-letter_of key l (AcceptedBody ballot) = []
-letter_of key l (Chosen v) = []
-letter_of key l (Activate v) = []
+letter_of key l (Body.CopyAsk after room) = []
+letter_of key l (Body.LeaseAsk asked) = []
+letter_of key l (Body.LeaseGive end) = []
+letter_of key l (Body.Prepare ballot) = []
+letter_of key l (Body.Promise ballot vote) = []
+letter_of key l (Body.Accept ballot v) = []
+letter_of key l (Body.Accepted ballot) = []
+letter_of key l (Body.Chosen v) = []
+letter_of key l (Body.Activate v) = []
 
-abbrev pub letters_of : List ℕ → List Wire → List Letter
+abbrev pub letters_of : List ℕ → List Letter → List Message
 letters_of key [] = []
 letters_of key (l ∷ ls) = letter_of key l l.body ++ letters_of key ls
 
@@ -125,7 +124,7 @@ pub record Trace : Type 0 where
   pub begun : List Update
   pub history : List Item
 
-abbrev pub project : List ℕ → Trace → State
+abbrev pub project : List ℕ → Trace → RegisterState
 project key t = record { node = λ id. key_node key (node_at id t.world.processes); letters = letters_of key t.world.letters; marks = t.marks; begun = t.begun; history = t.history }
 
 -- ---- marks: what the acting node covered
@@ -145,14 +144,14 @@ abbrev pub install_marks : ℕ → Node → Node → List Mark
 install_marks id was x = if nat_lt was.epoch x.epoch then pending_marks id x was.phase else []
 
 -- the stamps that it acknowledged
-abbrev pub ack_marks : ℕ → Node → List Letter → List Mark
+abbrev pub ack_marks : ℕ → Node → List Message → List Mark
 ack_marks id x [] = []
-ack_marks id x (AckL from epoch s top ∷ ls) = cover_mark id x s ∷ ack_marks id x ls
-ack_marks id x (Inv from epoch s kind content ∷ ls) = ack_marks id x ls
-ack_marks id x (Val from epoch s ∷ ls) = ack_marks id x ls
-ack_marks id x (Give from epoch s kind content valid ∷ ls) = ack_marks id x ls
+ack_marks id x (Message.Ack from epoch s top ∷ ls) = cover_mark id x s ∷ ack_marks id x ls
+ack_marks id x (Message.Inv from epoch s kind content ∷ ls) = ack_marks id x ls
+ack_marks id x (Message.Val from epoch s ∷ ls) = ack_marks id x ls
+ack_marks id x (Message.Give from epoch s kind content valid ∷ ls) = ack_marks id x ls
 
-abbrev pub step_marks : ℕ → Node → Node → List Letter → List Mark
+abbrev pub step_marks : ℕ → Node → Node → List Message → List Mark
 step_marks id was x ls = moment_marks id x ++ (install_marks id was x ++ ack_marks id x ls)
 
 -- ---- items: what the history of the key gets, the newest first

@@ -4,12 +4,12 @@ use Rattle.std.specs.Prelude.{◌≡◌, ℕ, zero, suc, true, List, [], ◌∷�
 use Rattle.std.specs.List.{flat_map, list_any, list_all}
 use Rattle.hk_base.specs.declared.call.Op.TheVariants.{Read, Write, Incr}
 use Rattle.hk_base.specs.declared.call.Answer.TheVariants.{Found, Busy}
-use Rattle.hk_base.specs.declared.call.Why.TheVariants.{Row as OfRow}
+use Rattle.hk_base.specs.declared.call.Why.TheVariants as Why
 use Rattle.hk_base.specs.declared.call.State.TheVariants.{Invalid}
-use Rattle.hk_base.specs.declared.stamp.Kind.TheVariants.{Write as Plain, Rmw}
-use Rattle.hk_base.specs.declared.letter.Actor.TheVariants.{Node as NodeActor}
+use Rattle.hk_base.specs.declared.stamp.Kind.TheVariants as Kind
+use Rattle.hk_base.specs.declared.letter.Actor.TheVariants as Actor
 use Rattle.hk_base.specs.declared.view.Change.TheVariants.{Drop, Add}
-use Rattle.hk_register.specs.Machine.{Each, Letter, Mark, Marked, Update, State}
+use Rattle.hk_register.specs.Machine.{Each, Message, Mark, Marked, Update, RegisterState}
 use Rattle.hk_register.specs.Effects.{Effect, done}
 use Rattle.hk_register.specs.Effects.Effect.{Begin, TakeInv, AckInv, CounterInv, NoteAck, Settle, FinishValid, FinishInvalid, TakeVal}
 use Rattle.hk_register.specs.Effects.Effect.{KeepVal, StartReplay, Resend, Install, InstallPending}
@@ -17,7 +17,7 @@ use Rattle.hk_register.specs.Effects.Effect.{GiveRow, CopyRow, PassRow, CopyVali
 use Rattle.hk_register.specs.Runs.{after, played, Plays}
 use Rattle.hk_register.specs.Worked.{five, six, nine, aborted, exactly, with_more, write, increment, waits, waits_again, takes}
 use Rattle.hk_world.specs.declared.event.Event.{Event}
-use Rattle.hk_world.specs.declared.event.Event.TheVariants.{Call, TickAll, Crash, Resend as ResendAt, Replay, Copy, Start, Agree, Install as InstallAt, Lease, AskLease, Propose, Activate}
+use Rattle.hk_world.specs.declared.event.Event.TheVariants as Event
 use Rattle.hk_world.specs.Steps.{Accepted, world_step}
 use Rattle.hk_world.specs.Sound.{IsEvent}
 use Rattle.hk_world.specs.Worked.{managed, node, key, call, take, stamp}
@@ -44,17 +44,17 @@ abbrev pub sent_to : ℕ → Step → Step
 sent_to n step = record step { copies = n }
 
 -- what effects send, one after the other
-abbrev pub sent_by : State → List Effect → List Letter
+abbrev pub sent_by : RegisterState → List Effect → List Message
 sent_by st [] = []
 sent_by st (e ∷ es) = (done st e).letters ++ sent_by (after st e) es
 
 -- the marks that effects make
-abbrev pub marked_by : State → List Effect → List Mark
+abbrev pub marked_by : RegisterState → List Effect → List Mark
 marked_by st [] = []
 marked_by st (e ∷ es) = (done st e).marks ++ marked_by (after st e) es
 
 -- a letter so many times
-abbrev pub repeated : ℕ → Letter → List Letter
+abbrev pub repeated : ℕ → Message → List Message
 repeated zero l = []
 repeated (suc n) l = l ∷ repeated n l
 
@@ -108,7 +108,7 @@ val_kept =
     one (call 0 (Write five)) (Begin 0 by_zero)
     ∷ one (call 1 (Write nine)) (Begin 1 by_one)
     ∷ one (take 2) (takes 0 by_one)
-    ∷ one (take 1) (AckInv 1 0 131072 Plain (Some five))
+    ∷ one (take 1) (AckInv 1 0 131072 Kind.Write (Some five))
     ∷ two (take 3) (NoteAck 1 0 131073 (waits by_one []) (exactly 0 ∷ [])) (Settle 1 (waits by_one (exactly 0 ∷ [])))
     ∷ one (take 5) (KeepVal 0 1)
     ∷ two (take 4) (NoteAck 0 1 131073 (waits by_zero []) (with_more 1 ∷ [])) (FinishValid 0 (waits by_zero (with_more 1 ∷ [])))
@@ -121,12 +121,12 @@ abbrev pub left_invalid : List Step
 left_invalid =
     sent_to 2 (one (call 0 (Write five)) (Begin 0 by_zero))
     ∷ sent_to 2 (one (call 1 (Write nine)) (Begin 1 by_one))
-    ∷ one (take 1) (AckInv 1 0 131072 Plain (Some five))
+    ∷ one (take 1) (AckInv 1 0 131072 Kind.Write (Some five))
     ∷ one (take 2) (takes 2 by_zero)
     ∷ one (take 5) (NoteAck 0 1 131073 (waits by_zero []) (with_more 1 ∷ []))
     ∷ two (take 6) (NoteAck 0 2 131072 (waits by_zero (with_more 1 ∷ [])) (with_more 1 ∷ exactly 2 ∷ []))
     (FinishInvalid 0 (waits by_zero (with_more 1 ∷ exactly 2 ∷ [])))
-    ∷ one (call 0 Read) (Refuse 0 3 Read (Busy (OfRow Invalid (stamp 2 0))))
+    ∷ one (call 0 Read) (Refuse 0 3 Read (Busy (Why.Row Invalid (stamp 2 0))))
     ∷ []
 
 -- Two increments of one base. The lower one is answered by the higher one, and given up: TakeVal, CounterInv, and TakeInv that drops
@@ -139,8 +139,8 @@ countered =
     ∷ one (take 3) (TakeVal 1 0)
     ∷ one (call 0 (Incr 1)) (Begin 0 more_by_zero)
     ∷ one (call 1 (Incr 1)) (Begin 1 more_by_one)
-    ∷ one (take 4) (CounterInv 1 0 196608 Rmw (Some six))
-    ∷ one (take 5) (TakeInv 0 1 196609 Rmw (Some six) (aborted 3 1))
+    ∷ one (take 4) (CounterInv 1 0 196608 Kind.Rmw (Some six))
+    ∷ one (take 5) (TakeInv 0 1 196609 Kind.Rmw (Some six) (aborted 3 1))
     ∷ two (take 7) (NoteAck 1 0 196609 (waits more_by_one []) (exactly 0 ∷ [])) (Settle 1 (waits more_by_one (exactly 0 ∷ [])))
     ∷ []
 
@@ -149,15 +149,15 @@ abbrev pub replayed : List Step
 replayed =
     one (call 0 (Write five)) (Begin 0 by_zero)
     ∷ one (take 1) (takes 1 by_zero)
-    ∷ one (Crash (NodeActor (node 0))) (Quiet 0)
-    ∷ one (Agree (Drop (node 0))) (Quiet 0)
-    ∷ one (Agree Add) (Quiet 0)
-    ∷ one (Start (node 2)) (Quiet 2)
-    ∷ one (InstallAt (node 1) 3) (Install 1 3)
-    ∷ one (InstallAt (node 2) 3) (Install 2 3)
-    ∷ one (Replay (node 1) key) (StartReplay 1)
-    ∷ one (ResendAt (node 1) key) (Resend 1 (waits_again by_zero []))
-    ∷ one (take 3) (TakeInv 2 1 131072 Plain (Some five) (aborted 0 0))
+    ∷ one (Event.Crash (Actor.Node (node 0))) (Quiet 0)
+    ∷ one (Event.Agree (Drop (node 0))) (Quiet 0)
+    ∷ one (Event.Agree Add) (Quiet 0)
+    ∷ one (Event.Start (node 2)) (Quiet 2)
+    ∷ one (Event.Install (node 1) 3) (Install 1 3)
+    ∷ one (Event.Install (node 2) 3) (Install 2 3)
+    ∷ one (Event.Replay (node 1) key) (StartReplay 1)
+    ∷ one (Event.Resend (node 1) key) (Resend 1 (waits_again by_zero []))
+    ∷ one (take 3) (TakeInv 2 1 131072 Kind.Write (Some five) (aborted 0 0))
     ∷ two (take 5) (NoteAck 1 2 131072 (waits_again by_zero []) (exactly 2 ∷ [])) (Settle 1 (waits_again by_zero (exactly 2 ∷ [])))
     ∷ one (take 6) (TakeVal 2 1)
     ∷ []
@@ -166,19 +166,19 @@ replayed =
 abbrev pub pending_installed : List Step
 pending_installed =
     one (call 0 (Write five)) (Begin 0 by_zero)
-    ∷ one (Crash (NodeActor (node 1))) (Quiet 1)
-    ∷ one (Agree (Drop (node 1))) (Quiet 0)
-    ∷ one (Agree Add) (Quiet 0)
-    ∷ one (InstallAt (node 0) 3) (InstallPending 0 3 (waits by_zero []))
+    ∷ one (Event.Crash (Actor.Node (node 1))) (Quiet 1)
+    ∷ one (Event.Agree (Drop (node 1))) (Quiet 0)
+    ∷ one (Event.Agree Add) (Quiet 0)
+    ∷ one (Event.Install (node 0) 3) (InstallPending 0 3 (waits by_zero []))
     ∷ []
 
 -- The same, where the node is left alone: the write is complete at once, and no letter is sent.
 abbrev pub left_alone : List Step
 left_alone =
     one (call 0 (Write five)) (Begin 0 by_zero)
-    ∷ one (Crash (NodeActor (node 1))) (Quiet 1)
-    ∷ one (Agree (Drop (node 1))) (Quiet 0)
-    ∷ sent_to 0 (two (InstallAt (node 0) 2) (InstallPending 0 2 (waits by_zero [])) (Settle 0 (waits by_zero [])))
+    ∷ one (Event.Crash (Actor.Node (node 1))) (Quiet 1)
+    ∷ one (Event.Agree (Drop (node 1))) (Quiet 0)
+    ∷ sent_to 0 (two (Event.Install (node 0) 2) (InstallPending 0 2 (waits by_zero [])) (Settle 0 (waits by_zero [])))
     ∷ []
 
 -- A write waits when the one manager of two founders drops the other one. The manager agrees with itself by letters 2 to 5, and lets
@@ -187,15 +187,15 @@ left_alone =
 abbrev pub view_begun : List Step
 view_begun =
     one (call 0 (Write five)) (Begin 0 by_zero)
-    ∷ one (Propose 0 1 (Drop (node 1))) (Quiet 0)
+    ∷ one (Event.Propose 0 1 (Drop (node 1))) (Quiet 0)
     ∷ one (take 2) (Quiet 0)
     ∷ one (take 3) (Quiet 0)
     ∷ one (take 4) (Quiet 0)
     ∷ one (take 5) (Quiet 0)
-    ∷ one (TickAll 2000) (Quiet 0)
-    ∷ one (Activate 0) (Quiet 0)
+    ∷ one (Event.TickAll 2000) (Quiet 0)
+    ∷ one (Event.Activate 0) (Quiet 0)
     ∷ sent_to 0 (two (take 6) (InstallPending 0 2 (waits by_zero [])) (Settle 0 (waits by_zero [])))
-    ∷ one (AskLease (node 0) 0) (Quiet 0)
+    ∷ one (Event.AskLease (node 0) 0) (Quiet 0)
     ∷ one (take 7) (Quiet 0)
     ∷ one (take 8) (Quiet 0)
     ∷ one (call 0 Read) (Serve 0 2 Read (Found five 131072))
@@ -210,28 +210,28 @@ behind = 108 ∷ []
 abbrev pub joined : List Step
 joined =
     sent_to 0 (two (call 0 (Write five)) (Begin 0 by_zero) (Settle 0 (waits by_zero [])))
-    ∷ one (Call (node 0) behind (Write nine)) (Quiet 0)
-    ∷ one (Agree Add) (Quiet 0)
-    ∷ one (Start (node 1)) (Quiet 1)
-    ∷ one (InstallAt (node 1) 2) (Install 1 2)
-    ∷ one (InstallAt (node 0) 2) (Install 0 2)
-    ∷ one (Copy (node 1) (node 0) 1) (Quiet 1)
+    ∷ one (Event.Call (node 0) behind (Write nine)) (Quiet 0)
+    ∷ one (Event.Agree Add) (Quiet 0)
+    ∷ one (Event.Start (node 1)) (Quiet 1)
+    ∷ one (Event.Install (node 1) 2) (Install 1 2)
+    ∷ one (Event.Install (node 0) 2) (Install 0 2)
+    ∷ one (Event.Copy (node 1) (node 0) 1) (Quiet 1)
     ∷ one (take 1) (GiveRow 0 true)
-    ∷ one (take 2) (CopyRow 1 0 131072 Plain (Some five) true)
-    ∷ one (Copy (node 1) (node 0) 1) (Quiet 1)
+    ∷ one (take 2) (CopyRow 1 0 131072 Kind.Write (Some five) true)
+    ∷ one (Event.Copy (node 1) (node 0) 1) (Quiet 1)
     ∷ one (take 3) (Quiet 0)
     ∷ one (take 4) (GetReady 1)
-    ∷ one (Lease (node 1) 1000) (Quiet 1)
+    ∷ one (Event.Lease (node 1) 1000) (Quiet 1)
     ∷ one (call 1 Read) (Serve 1 3 Read (Found five 131072))
     ∷ []
 
 -- a joiner of one founder, before it copies anything
 abbrev pub joining : List Step
 joining =
-    one (Agree Add) (Quiet 0)
-    ∷ one (Start (node 1)) (Quiet 1)
-    ∷ one (InstallAt (node 1) 2) (Install 1 2)
-    ∷ one (InstallAt (node 0) 2) (Install 0 2)
+    one (Event.Agree Add) (Quiet 0)
+    ∷ one (Event.Start (node 1)) (Quiet 1)
+    ∷ one (Event.Install (node 1) 2) (Install 1 2)
+    ∷ one (Event.Install (node 0) 2) (Install 0 2)
     ∷ []
 
 -- A joiner has a write by its INV when it is given the key, Valid at the same stamp: CopyValid. The batch is the last, so that the
@@ -241,21 +241,21 @@ copied_valid =
     joining
     ++ (one (call 0 (Write five)) (Begin 0 by_zero)
     ∷ one (take 1) (takes 1 by_zero)
-    ∷ one (Copy (node 1) (node 0) 9) (Quiet 1)
+    ∷ one (Event.Copy (node 1) (node 0) 9) (Quiet 1)
     ∷ two (take 2) (NoteAck 0 1 131072 (waits by_zero []) (exactly 1 ∷ [])) (Settle 0 (waits by_zero (exactly 1 ∷ [])))
     ∷ one (take 3) (GiveRow 0 true)
-    ∷ two (take 5) (CopyValid 1 0 131072 Plain (Some five)) (GetReady 1)
+    ∷ two (take 5) (CopyValid 1 0 131072 Kind.Write (Some five)) (GetReady 1)
     ∷ [])
 
 -- A joiner takes the INV of a write that was begun after the key was given to it: PassRow.
 abbrev pub passed : List Step
 passed =
     joining
-    ++ (one (Copy (node 1) (node 0) 9) (Quiet 1)
+    ++ (one (Event.Copy (node 1) (node 0) 9) (Quiet 1)
     ∷ one (take 1) (GiveRow 0 true)
     ∷ one (call 0 (Write five)) (Begin 0 by_zero)
     ∷ one (take 3) (takes 1 by_zero)
-    ∷ two (take 2) (PassRow 1 0 0 Plain None true) (GetReady 1)
+    ∷ two (take 2) (PassRow 1 0 0 Kind.Write None true) (GetReady 1)
     ∷ [])
 
 -- ---- what is proved of them

@@ -12,15 +12,15 @@ use Rattle.hk_base.specs.declared.letter.Letter.{Letter}
 use Rattle.hk_clocks.specs.declared.fault.ClockFault.{ClockFault}
 use Rattle.hk_clocks.specs.Clocks.{ClockState}
 use Rattle.hk_clocks.specs.Steps.{clock_step}
-use Rattle.hk_clocks.specs.Steps.ClockEvent.{Tick as ClockTick, TickAll as ClockTickAll}
+use Rattle.hk_clocks.specs.Steps.{ClockEvent}
 use Rattle.hk_manager.specs.declared.event.ManagerEvent.{ManagerEvent}
-use Rattle.hk_manager.specs.declared.event.ManagerEvent.TheVariants.{Propose as Proposal, Receive as Receipt, Activate as Activation}
+use Rattle.hk_manager.specs.declared.event.ManagerEvent.TheVariants as ManagerEvent
 use Rattle.hk_manager.specs.declared.fault.ManagerFault.{ManagerFault}
 use Rattle.hk_manager.specs.Manager.{ManagerState}
-use Rattle.hk_manager.specs.Steps.{Stepped as ManagerStepped, manager_step}
+use Rattle.hk_manager.specs.Steps.{ManagerStepped, manager_step}
 use Rattle.hk_manager.specs.Laws.{OfStep}
 use Rattle.hk_node.specs.declared.event.NodeEvent.{NodeEvent}
-use Rattle.hk_node.specs.declared.event.NodeEvent.TheVariants.{Call as NodeCall, Receive, Grant, Resend as NodeResend, Replay as NodeReplay, AskLease as NodeAsk, AskCopy, Install as NodeInstall}
+use Rattle.hk_node.specs.declared.event.NodeEvent.TheVariants as NodeEvent
 use Rattle.hk_node.specs.Node.{NodeState, is_member, epoch_of}
 use Rattle.hk_node.specs.Steps.{node_step}
 use Rattle.hk_world.specs.declared.event.Event.{Event}
@@ -93,8 +93,8 @@ module _ (w : WorldState) (keep : AllKeep w.letters) where
 
   takes_keep : (o : Option Letter) → OfMade (takes w o)
   takes_keep None = tt
-  takes_keep (Some letter) = actor_keep letter.to _ _ (λ id node. acts_keep id node (Receive letter))
-      (λ m manager. manager_acts_keep m (manager_step manager (Receipt letter)) (manager_keep manager (Receipt letter)))
+  takes_keep (Some letter) = actor_keep letter.to _ _ (λ id node. acts_keep id node (NodeEvent.Receive letter))
+      (λ m manager. manager_acts_keep m (manager_step manager (ManagerEvent.Receive letter)) (manager_keep manager (ManagerEvent.Receive letter)))
 
   -- ---- clocks
   ticked_keep : (r : Result ClockState ClockFault) (id : NodeId) (to : ℕ) (node : NodeState) → OfMade (ticked_by r w id to node)
@@ -123,7 +123,7 @@ module _ (w : WorldState) (keep : AllKeep w.letters) where
   agrees_keep view Add = by_if (nat_le 16 (length view.members)) (Err Full) _ tt (by_if (nat_le 65536 view.next) (Err NoNumbers) _ tt keep)
 
   guarded_keep : (o : Option (NodeId × Process)) (id : NodeId) (node : NodeState) (view : View) → OfMade (guarded_by o w id node view)
-  guarded_keep None id node view = acts_keep id node (NodeInstall view)
+  guarded_keep None id node view = acts_keep id node (NodeEvent.Install view)
   guarded_keep (Some p) id node view = tt
 
   installs_keep : (o : Option View) (id : NodeId) (node : NodeState) → OfMade (installs_at o w id node)
@@ -132,26 +132,26 @@ module _ (w : WorldState) (keep : AllKeep w.letters) where
       (by_if (nat_lt (epoch_of node) view.epoch) _ (Err (Behind (epoch_of node))) (guarded_keep (find (may_run w.views view) w.processes) id node view) tt) tt
 
   leases_keep : (id : NodeId) (end : ℕ) (node : NodeState) → OfMade (leases_at w id end node)
-  leases_keep id end node = by_if (is_member id (last_view w.views).members) _ (Err NotMember) (acts_keep id node (Grant end)) tt
+  leases_keep id end node = by_if (is_member id (last_view w.views).members) _ (Err NotMember) (acts_keep id node (NodeEvent.Grant end)) tt
 
   -- ---- every event
   pub event_keep : (event : Event) → OfMade (world_step w event)
-  event_keep (Call id key op) = live_keep id _ (λ node. acts_keep id node (NodeCall (record { 0 = w.calls + 1 }) key op))
+  event_keep (Call id key op) = live_keep id _ (λ node. acts_keep id node (NodeEvent.Call (record { 0 = w.calls + 1 }) key op))
   event_keep (Take letter) = takes_keep (numbered letter w.letters)
   event_keep (Tick actor to) = actor_keep actor (ticks_at w to) (manager_ticks_at w to)
-      (λ id node. ticked_keep (clock_step (clocks_of w) (ClockTick (Node id) to)) id to node) (λ m manager. manager_ticked_keep (clock_step (clocks_of w) (ClockTick (Manager m) to)) m to manager)
-  event_keep (TickAll to) = all_ticked_keep (clock_step (clocks_of w) (ClockTickAll to)) to
+      (λ id node. ticked_keep (clock_step (clocks_of w) (ClockEvent.Tick (Node id) to)) id to node) (λ m manager. manager_ticked_keep (clock_step (clocks_of w) (ClockEvent.Tick (Manager m) to)) m to manager)
+  event_keep (TickAll to) = all_ticked_keep (clock_step (clocks_of w) (ClockEvent.TickAll to)) to
   event_keep (Crash actor) = actor_keep actor (crashes_at w) (manager_crashes_at w) (λ id node. keep) (λ m manager. keep)
-  event_keep (Resend id key) = live_keep id _ (λ node. acts_keep id node (NodeResend key))
-  event_keep (Replay id key) = live_keep id _ (λ node. acts_keep id node (NodeReplay key))
-  event_keep (Copy id from room) = live_keep id _ (λ node. acts_keep id node (AskCopy from room))
+  event_keep (Resend id key) = live_keep id _ (λ node. acts_keep id node (NodeEvent.Resend key))
+  event_keep (Replay id key) = live_keep id _ (λ node. acts_keep id node (NodeEvent.Replay key))
+  event_keep (Copy id from room) = live_keep id _ (λ node. acts_keep id node (NodeEvent.AskCopy from room))
   event_keep (Start id) = starts_keep (process_at id w.processes) id
   event_keep (Agree change) = unmanaged_keep w.managers _ (agrees_keep (last_view w.views) change)
   event_keep (Install id epoch) = unmanaged_keep w.managers _ (live_keep id _ (λ node. installs_keep (numbered epoch w.views) id node))
   event_keep (Lease id end) = unmanaged_keep w.managers _ (live_keep id _ (leases_keep id end))
-  event_keep (AskLease id manager) = live_keep id _ (λ node. acts_keep id node (NodeAsk manager))
-  event_keep (Propose manager base change) = manages_keep manager (Proposal base change)
-  event_keep (Activate manager) = manages_keep manager Activation
+  event_keep (AskLease id manager) = live_keep id _ (λ node. acts_keep id node (NodeEvent.AskLease manager))
+  event_keep (Propose manager base change) = manages_keep manager (ManagerEvent.Propose base change)
+  event_keep (Activate manager) = manages_keep manager ManagerEvent.Activate
 
 -- a sound world, whose letters keep the limit
 record IsSending (w : WorldState) : Type 0 where

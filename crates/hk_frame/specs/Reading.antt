@@ -21,7 +21,7 @@ use Rattle.hk_base.specs.declared.letter.Letter.{Letter}
 use Rattle.hk_base.specs.declared.letter.Body.{Body}
 use Rattle.hk_base.specs.declared.letter.Body.TheVariants.{Inv, Ack, Val, CopyAsk, CopyGive, LeaseAsk, LeaseGive, Prepare, Promise, Accept, Accepted, Chosen, Activate}
 use Rattle.hk_frame.specs.declared.fault.Stop.{Stop}
-use Rattle.hk_frame.specs.declared.fault.Stop.TheVariants.{Length, Kind as NoKind}
+use Rattle.hk_frame.specs.declared.fault.Stop.TheVariants as Stop
 use Rattle.hk_frame.specs.declared.kind.LetterKind.{LetterKind}
 use Rattle.hk_frame.specs.declared.kind.LetterKind.TheVariants as kinds
 use Rattle.hk_frame.specs.Fields.{◌>>=◌, both, chain, made, within, byte_at, number_at, bytes_at, key_of}
@@ -140,7 +140,7 @@ kind_named n =
     else None))))))))))))
 
 abbrev pub kind_or : Option LetterKind → ℕ → List ℕ → Result (LetterKind × List ℕ) Stop
-kind_or None n rest = Err (NoKind n)
+kind_or None n rest = Err (Stop.Kind n)
 kind_or (Some kind) n rest = Ok (kind, rest)
 
 unfoldable pub kind_at : List ℕ → Result (LetterKind × List ℕ) Stop
@@ -155,4 +155,4 @@ letter_at bytes = made letter_of (chain kind_at (λ kind. both (within 0 7 byte_
 
 -- all of them, and nothing behind
 unfoldable pub fields_at : List ℕ → Result (ℕ × Letter) Stop
-fields_at bytes = letter_at bytes >>= λ x. if length x.1 == 0 then Ok x.0 else Err Length
+fields_at bytes = letter_at bytes >>= λ x. if length x.1 == 0 then Ok x.0 else Err Stop.Length

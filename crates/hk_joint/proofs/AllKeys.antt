@@ -7,8 +7,8 @@ use Rattle.hk_base.specs.declared.stamp.NodeId.{NodeId}
 use Rattle.hk_base.specs.declared.call.CallNo.{CallNo}
 use Rattle.hk_base.specs.declared.call.Op.{Op}
 use Rattle.hk_base.specs.declared.call.Reply.{Reply}
-use Rattle.hk_history.specs.declared.event.Event.{Event as Line}
-use Rattle.hk_history.specs.declared.event.Event.TheVariants as L
+use Rattle.hk_history.specs.declared.event.Event.{Event as HistoryEvent}
+use Rattle.hk_history.specs.declared.event.Event.TheVariants as HistoryEvent
 use Rattle.hk_history.specs.History.{op_of, answer_of}
 use Rattle.hk_register.specs.Machine.{In}
 use Rattle.hk_world.specs.declared.event.Event.{Event}
@@ -35,16 +35,16 @@ use Rattle.hk_joint.specs.Legal.{call_lines, shown_lines, lines_from, joint_hist
 use Rattle.hk_joint.proofs.Lists.{of_map, of_filter}
 
 -- the number of a line's call
-abbrev pub call_no : Line → ℕ
-call_no (L.Call c op) = c.0
-call_no (L.Reply c answer) = c.0
+abbrev pub call_no : HistoryEvent → ℕ
+call_no (HistoryEvent.Call c op) = c.0
+call_no (HistoryEvent.Reply c answer) = c.0
 
 abbrev pub is_of : List ℕ → Option (List ℕ) → Bool
 is_of key None = false
 is_of key (Some k) = is_same_key key k
 
 -- the line's call is on the key
-abbrev pub is_on : List (List ℕ) → List ℕ → Line → Bool
+abbrev pub is_on : List (List ℕ) → List ℕ → HistoryEvent → Bool
 is_on calls key line = is_of key (numbered (call_no line) calls)
 
 -- ---- the lines of one event
@@ -58,12 +58,12 @@ module _ (key : List ℕ) (calls all : List (List ℕ)) (more : (n : ℕ) (k : L
   replies_on [] known = refl
   replies_on (r ∷ rs) known =
       let here = known r (inl refl) in
-      ap₂ (λ (a b : List Line). a ++ b) (reply_on r here.0 here.1) (replies_on rs (λ q h. known q (inr h)))
+      ap₂ (λ (a b : List HistoryEvent). a ++ b) (reply_on r here.0 here.1) (replies_on rs (λ q h. known q (inr h)))
       ∙ sym (filter-append (is_on all key) (reply_line r ∷ []) (map reply_line rs))
 
   call_on : (event : Event) (c : Option CallNo) → ((id : NodeId) (k : List ℕ) (op : Op) (made : CallNo) → event ≡ Call id k op → c ≡ Some made → numbered made.0 calls ≡ Some k) →
       call_line key event c ≡ filter (is_on all key) (call_lines event c)
-  call_on (Call id k op) (Some made) known = sym (ap (λ (o : Option (List ℕ)). cond (is_of key o) (L.Call made op ∷ []) []) (more made.0 k (known id k op made refl refl)))
+  call_on (Call id k op) (Some made) known = sym (ap (λ (o : Option (List ℕ)). cond (is_of key o) (HistoryEvent.Call made op ∷ []) []) (more made.0 k (known id k op made refl refl)))
   call_on (Call id k op) None known = refl
   call_on event c known = refl
 
@@ -71,7 +71,7 @@ module _ (key : List ℕ) (calls all : List (List ℕ)) (more : (n : ℕ) (k : L
       ((r : Reply) → In a.shown.replies r → (k : List ℕ) × (numbered r.call.0 calls ≡ Some k)) →
       event_lines key calls event a.shown ≡ filter (is_on all key) (shown_lines event (Ok a))
   event_on event a call replies =
-      ap₂ (λ (x y : List Line). x ++ y) (call_on event a.shown.call call) (replies_on a.shown.replies replies)
+      ap₂ (λ (x y : List HistoryEvent). x ++ y) (call_on event a.shown.call call) (replies_on a.shown.replies replies)
       ∙ sym (filter-append (is_on all key) (call_lines event a.shown.call) (map reply_line a.shown.replies))
 
 -- ---- an event of a run
@@ -145,7 +145,7 @@ module _ (runs : RunsKeepParts) (key : List ℕ) where
       ∙ (ap (λ (l : List (List ℕ)). filter (is_on l key) (lines_from (world_of next) events)) (sym same_whole)
       ∙ ap (λ (v : WorldState). filter (is_on whole key) (lines_from v events)) world)))) in
       ap (λ (r : Result Accepted Refused). lines_with key calls event r ++ one.lines_from key (world_with w r) calls events) all.2
-      ∙ (ap₂ (λ (x y : List Line). x ++ y) first rest_here
+      ∙ (ap₂ (λ (x y : List HistoryEvent). x ++ y) first rest_here
       ∙ (sym (filter-append (is_on whole key) (shown_lines event (Ok a)) (lines_from a.world events))
       ∙ sym (ap (λ (r : Result Accepted Refused). filter (is_on whole key) (shown_lines event r ++ lines_from (world_with w r) events)) all.2)))
 
@@ -154,35 +154,35 @@ module _ (runs : RunsKeepParts) (key : List ℕ) where
   history_on run more ok = history_shown runs key run ok ∙ lines_on (record { header = run.header; events = [] }) run.events more (record { header = ok.header; accepted = tt }) ok.accepted
 
 -- ---- what is said of a call on the key
-op_filter : (p : Line → Bool) (n : ℕ) → ((line : Line) → call_no line ≡ n → p line ≡ true) → (xs : List Line) → op_of (filter p xs) n ≡ op_of xs n
+op_filter : (p : HistoryEvent → Bool) (n : ℕ) → ((line : HistoryEvent) → call_no line ≡ n → p line ≡ true) → (xs : List HistoryEvent) → op_of (filter p xs) n ≡ op_of xs n
 op_filter p n own [] = refl
-op_filter p n own (L.Call c op ∷ xs) = by_tests (p (L.Call c op)) refl (eqb c.0 n) refl (op_filter p n own xs)
+op_filter p n own (HistoryEvent.Call c op ∷ xs) = by_tests (p (HistoryEvent.Call c op)) refl (eqb c.0 n) refl (op_filter p n own xs)
   where
-    by_tests : (b : Bool) → p (L.Call c op) ≡ b → (t : Bool) → eqb c.0 n ≡ t → op_of (filter p xs) n ≡ op_of xs n →
-        op_of (cond b (L.Call c op ∷ filter p xs) (filter p xs)) n ≡ cond t (Some op) (op_of xs n)
+    by_tests : (b : Bool) → p (HistoryEvent.Call c op) ≡ b → (t : Bool) → eqb c.0 n ≡ t → op_of (filter p xs) n ≡ op_of xs n →
+        op_of (cond b (HistoryEvent.Call c op ∷ filter p xs) (filter p xs)) n ≡ cond t (Some op) (op_of xs n)
     by_tests true e true f more = ap (λ (t : Bool). cond t (Some op) (op_of (filter p xs) n)) f
     by_tests true e false f more = ap (λ (t : Bool). cond t (Some op) (op_of (filter p xs) n)) f ∙ more
-    by_tests false e true f more = absurd (false≢true (sym e ∙ own (L.Call c op) (eqb-true c.0 n f)))
+    by_tests false e true f more = absurd (false≢true (sym e ∙ own (HistoryEvent.Call c op) (eqb-true c.0 n f)))
     by_tests false e false f more = more
-op_filter p n own (L.Reply c answer ∷ xs) = by_test (p (L.Reply c answer)) (op_filter p n own xs)
+op_filter p n own (HistoryEvent.Reply c answer ∷ xs) = by_test (p (HistoryEvent.Reply c answer)) (op_filter p n own xs)
   where
-    by_test : (b : Bool) → op_of (filter p xs) n ≡ op_of xs n → op_of (cond b (L.Reply c answer ∷ filter p xs) (filter p xs)) n ≡ op_of xs n
+    by_test : (b : Bool) → op_of (filter p xs) n ≡ op_of xs n → op_of (cond b (HistoryEvent.Reply c answer ∷ filter p xs) (filter p xs)) n ≡ op_of xs n
     by_test true more = more
     by_test false more = more
 
-answer_filter : (p : Line → Bool) (n : ℕ) → ((line : Line) → call_no line ≡ n → p line ≡ true) → (xs : List Line) → answer_of (filter p xs) n ≡ answer_of xs n
+answer_filter : (p : HistoryEvent → Bool) (n : ℕ) → ((line : HistoryEvent) → call_no line ≡ n → p line ≡ true) → (xs : List HistoryEvent) → answer_of (filter p xs) n ≡ answer_of xs n
 answer_filter p n own [] = refl
-answer_filter p n own (L.Reply c answer ∷ xs) = by_tests (p (L.Reply c answer)) refl (eqb c.0 n) refl (answer_filter p n own xs)
+answer_filter p n own (HistoryEvent.Reply c answer ∷ xs) = by_tests (p (HistoryEvent.Reply c answer)) refl (eqb c.0 n) refl (answer_filter p n own xs)
   where
-    by_tests : (b : Bool) → p (L.Reply c answer) ≡ b → (t : Bool) → eqb c.0 n ≡ t → answer_of (filter p xs) n ≡ answer_of xs n →
-        answer_of (cond b (L.Reply c answer ∷ filter p xs) (filter p xs)) n ≡ cond t (Some answer) (answer_of xs n)
+    by_tests : (b : Bool) → p (HistoryEvent.Reply c answer) ≡ b → (t : Bool) → eqb c.0 n ≡ t → answer_of (filter p xs) n ≡ answer_of xs n →
+        answer_of (cond b (HistoryEvent.Reply c answer ∷ filter p xs) (filter p xs)) n ≡ cond t (Some answer) (answer_of xs n)
     by_tests true e true f more = ap (λ (t : Bool). cond t (Some answer) (answer_of (filter p xs) n)) f
     by_tests true e false f more = ap (λ (t : Bool). cond t (Some answer) (answer_of (filter p xs) n)) f ∙ more
-    by_tests false e true f more = absurd (false≢true (sym e ∙ own (L.Reply c answer) (eqb-true c.0 n f)))
+    by_tests false e true f more = absurd (false≢true (sym e ∙ own (HistoryEvent.Reply c answer) (eqb-true c.0 n f)))
     by_tests false e false f more = more
-answer_filter p n own (L.Call c op ∷ xs) = by_test (p (L.Call c op)) (answer_filter p n own xs)
+answer_filter p n own (HistoryEvent.Call c op ∷ xs) = by_test (p (HistoryEvent.Call c op)) (answer_filter p n own xs)
   where
-    by_test : (b : Bool) → answer_of (filter p xs) n ≡ answer_of xs n → answer_of (cond b (L.Call c op ∷ filter p xs) (filter p xs)) n ≡ answer_of xs n
+    by_test : (b : Bool) → answer_of (filter p xs) n ≡ answer_of xs n → answer_of (cond b (HistoryEvent.Call c op ∷ filter p xs) (filter p xs)) n ≡ answer_of xs n
     by_test true more = more
     by_test false more = more
 
@@ -190,10 +190,10 @@ answer_filter p n own (L.Call c op ∷ xs) = by_test (p (L.Call c op)) (answer_f
 abbrev pub IsOn : RunState → List ℕ → ℕ → Type 0
 IsOn run key n = numbered n (called_from run.events) ≡ Some key
 
-pub on_line : (key : List ℕ) (calls : List (List ℕ)) (n : ℕ) → numbered n calls ≡ Some key → (line : Line) → call_no line ≡ n → is_on calls key line ≡ true
+pub on_line : (key : List ℕ) (calls : List (List ℕ)) (n : ℕ) → numbered n calls ≡ Some key → (line : HistoryEvent) → call_no line ≡ n → is_on calls key line ≡ true
 on_line key calls n on line same = ap (λ (m : ℕ). is_of key (numbered m calls)) same ∙ (ap (is_of key) on ∙ same_itself key)
 
-pub of_on : (key : List ℕ) (calls : List (List ℕ)) (line : Line) → is_on calls key line ≡ true → numbered (call_no line) calls ≡ Some key
+pub of_on : (key : List ℕ) (calls : List (List ℕ)) (line : HistoryEvent) → is_on calls key line ≡ true → numbered (call_no line) calls ≡ Some key
 of_on key calls line e = by_found (numbered (call_no line) calls) e
   where
     by_found : (o : Option (List ℕ)) → is_of key o ≡ true → o ≡ Some key
@@ -208,11 +208,11 @@ module _ (runs : RunsKeepParts) (run : RunState) (ok : IsRun run) (key : List �
   whole = history_on runs key run [] ok ∙ ap (λ (l : List (List ℕ)). filter (is_on l key) (joint_history run)) (append-nil calls_of_run)
 
   pub same_op : (n : ℕ) → IsOn run key n → op_of (history run key) n ≡ op_of (joint_history run) n
-  same_op n on = ap (λ (l : List Line). op_of l n) whole ∙ op_filter (is_on calls_of_run key) n (on_line key calls_of_run n on) (joint_history run)
+  same_op n on = ap (λ (l : List HistoryEvent). op_of l n) whole ∙ op_filter (is_on calls_of_run key) n (on_line key calls_of_run n on) (joint_history run)
 
   pub same_answer : (n : ℕ) → IsOn run key n → answer_of (history run key) n ≡ answer_of (joint_history run) n
-  same_answer n on = ap (λ (l : List Line). answer_of l n) whole ∙ answer_filter (is_on calls_of_run key) n (on_line key calls_of_run n on) (joint_history run)
+  same_answer n on = ap (λ (l : List HistoryEvent). answer_of l n) whole ∙ answer_filter (is_on calls_of_run key) n (on_line key calls_of_run n on) (joint_history run)
 
   -- each line of the key is of one of its calls
-  pub line_on : (line : Line) → In (history run key) line → IsOn run key (call_no line)
-  line_on line h = of_on key calls_of_run line (of_filter (is_on calls_of_run key) (joint_history run) line (subst (λ (l : List Line). In l line) whole h)).1
+  pub line_on : (line : HistoryEvent) → In (history run key) line → IsOn run key (call_no line)
+  line_on line h = of_on key calls_of_run line (of_filter (is_on calls_of_run key) (joint_history run) line (subst (λ (l : List HistoryEvent). In l line) whole h)).1

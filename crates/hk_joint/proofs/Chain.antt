@@ -1,7 +1,7 @@
 -- The traces of a key at the moments of a run: each goes on from the one before.
 use Rattle.std.proofs.Common.{append_assoc, ◌≡◌, ℕ, List, [], ◌∷◌, ◌++◌, ◌≤◌, ◌∙◌, sym, refl, ap, subst, inl, inr, ⊎_elim, Ok}
 use Rattle.std.specs.Prelude.{⊤}
-use Rattle.hk_register.specs.Machine.{In, Mark, Update, Item, State}
+use Rattle.hk_register.specs.Machine.{In, Mark, Update, Item, RegisterState}
 use Rattle.hk_register.specs.Facts.{Complete}
 use Rattle.hk_register.specs.Parts.{Parts}
 use Rattle.hk_register.proofs.Grow.{in_either}
@@ -39,12 +39,12 @@ pub record IsStep (key : List ℕ) (old new : Trace) : Type 0 where
   pub begun : (u : Update) → In old.begun u → In new.begun u
   pub above : (i : Item) → In items i → Above (Views old) (project key old) i
 
-effects_goes : (V : ℕ → List ℕ) (old new : State) → Parts V old → Effects V old new → Goes V old new
+effects_goes : (V : ℕ → List ℕ) (old new : RegisterState) → Parts V old → Effects V old new → Goes V old new
 effects_goes V old new parts (inl e) = effect_goes V old new parts e.0 e.1
 effects_goes V old new parts (inr m) = effects_go V old m.0 new parts m.1.0 m.2.0 m.1.1 m.2.1
 
 -- by other views with the same members in the epochs of the marks
-other_views : (U V : ℕ → List ℕ) (st : State) → ((m : Mark) → In st.marks m → U m.epoch ≡ V m.epoch) → (s : ℕ) → Complete U st s → Complete V st s
+other_views : (U V : ℕ → List ℕ) (st : RegisterState) → ((m : Mark) → In st.marks m → U m.epoch ≡ V m.epoch) → (s : ℕ) → Complete U st s → Complete V st s
 other_views U V st same s (e, c) =
     let k = c.one_ready in
     let j = k.marked in

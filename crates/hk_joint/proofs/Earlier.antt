@@ -3,9 +3,9 @@ use Rattle.std.proofs.Common.{◌≡◌, ◌⊎◌, ℕ, Bool, true, ◌&&◌, �
 use Rattle.std.specs.Prelude.{nat_le}
 use Rattle.std.specs.List.{list_any}
 use Rattle.std.proofs.lemmas.Bool.{eq-eqb, leb-true, le-leb, and_parts, and_from}
-use Rattle.hk_history.specs.declared.event.Event.{Event as Line}
+use Rattle.hk_history.specs.declared.event.Event.{Event as HistoryEvent}
 use Rattle.hk_history.specs.History.{is_reply}
-use Rattle.hk_register.specs.Machine.{In, Update, Item, State, call_of}
+use Rattle.hk_register.specs.Machine.{In, Update, Item, RegisterState, call_of}
 use Rattle.hk_register.specs.Machine.Item.{ReadOnly}
 use Rattle.hk_register.specs.Facts.{Complete, Rests}
 use Rattle.hk_register.specs.Parts.{Parts}
@@ -22,30 +22,30 @@ pub use Rattle.hk_safety.proofs.Replied.{RepliedBy, replied_is}
 use Rattle.hk_joint.proofs.Served.{Above}
 
 -- ---- the tests
-abbrev pub reached : (ℕ → List ℕ) → ℕ → State → Bool
+abbrev pub reached : (ℕ → List ℕ) → ℕ → RegisterState → Bool
 reached V s st = list_any (λ u. nat_le s u.stamp && is_complete V st u.stamp) st.begun
 
-abbrev pub replied : ℕ → State → Bool
+abbrev pub replied : ℕ → RegisterState → Bool
 replied c st = list_any (is_reply c) (events_of st.history)
 
-pub reached_with : (V : ℕ → List ℕ) (st : State) (s : ℕ) (u : Update) → In st.begun u → s ≤ u.stamp → Complete V st u.stamp → reached V s st ≡ true
+pub reached_with : (V : ℕ → List ℕ) (st : RegisterState) (s : ℕ) (u : Update) → In st.begun u → s ≤ u.stamp → Complete V st u.stamp → reached V s st ≡ true
 reached_with V st s u h l c = in_any (λ u. nat_le s u.stamp && is_complete V st u.stamp) st.begun u h
     (and_from (nat_le s u.stamp) (is_complete V st u.stamp) (le-leb s u.stamp l) (is_complete_from V st u.stamp c))
 
-pub record IsReachedBy (V : ℕ → List ℕ) (st : State) (s : ℕ) : Type 0 where
+pub record IsReachedBy (V : ℕ → List ℕ) (st : RegisterState) (s : ℕ) : Type 0 where
   pub update : Update
   pub begun : In st.begun update
   pub not_below : s ≤ update.stamp
   pub complete : Complete V st update.stamp
 
-pub reached_is : (V : ℕ → List ℕ) (st : State) (s : ℕ) → reached V s st ≡ true → IsReachedBy V st s
+pub reached_is : (V : ℕ → List ℕ) (st : RegisterState) (s : ℕ) → reached V s st ≡ true → IsReachedBy V st s
 reached_is V st s e =
     let t = any_in (λ u. nat_le s u.stamp && is_complete V st u.stamp) st.begun e in
     let p = and_parts (nat_le s t.0.stamp) (is_complete V st t.0.stamp) t.2 in
     record { update = t.0; begun = t.1; not_below = leb-true s t.0.stamp p.0; complete = complete_is V st t.0.stamp p.1 }
 
 -- what is complete is reached by an update
-pub reached_by : (V : ℕ → List ℕ) (st : State) → Parts V st → (s b : ℕ) → 1 ≤ s → s ≤ b → Complete V st b → reached V s st ≡ true
+pub reached_by : (V : ℕ → List ℕ) (st : RegisterState) → Parts V st → (s b : ℕ) → 1 ≤ s → s ≤ b → Complete V st b → reached V s st ≡ true
 reached_by V st parts s b one l c = ⊎_elim
     (λ (zero_is : b ≡ 0). absurd (omega (arith, zero_is, one, l)))
     (λ (u : (u : Update) × In st.begun u × (u.stamp ≡ b)). reached_with V st s u.0 u.1 (rw u.2 l) (rw u.2 c))
@@ -61,7 +61,7 @@ look_replies (i ∷ items) x (inr h) =
     let t = any_in (is_reply x.call) (events_of items) (look_replies items x h) in
     in_any (is_reply x.call) (events_of items ++ item_events i) t.0 (in_left (events_of items) (item_events i) t.0 t.1) t.2
 look_replies (i ∷ items) x (inl e) =
-    let reply : Line = Rattle.hk_history.specs.declared.event.Event.TheVariants.Reply (record { 0 = x.call }) x.answer in
+    let reply : HistoryEvent = Rattle.hk_history.specs.declared.event.Event.TheVariants.Reply (record { 0 = x.call }) x.answer in
     let own : In (item_events (look_of x)) reply = inr (inl refl) in
     in_any (is_reply x.call) (events_of items ++ item_events i) reply
     (in_right (events_of items) (item_events i) reply (subst (λ (j : Item). In (item_events j) reply) e own)) (eq-eqb x.call x.call refl)
@@ -94,13 +94,13 @@ stands_older (x ∷ newer) items k i l (inl e) = absurd (let more = longer newer
     longer (x ∷ newer) items = let more = longer newer items in omega (arith, more)
 
 -- ---- an earlier state
-pub record IsEarlier (U : ℕ → List ℕ) (x last : State) : Type 0 where
+pub record IsEarlier (U : ℕ → List ℕ) (x last : RegisterState) : Type 0 where
   pub parts : Parts U x
   pub newer : List Item
   pub history : last.history ≡ newer ++ x.history
   pub later : (i : Item) → In newer i → Above U x i
 
-module _ (U : ℕ → List ℕ) (x last : State) (calls : CallParts last) (is : IsEarlier U x last) where
+module _ (U : ℕ → List ℕ) (x last : RegisterState) (calls : CallParts last) (is : IsEarlier U x last) where
   -- an item of the later history is there already, or is of a call that is served later
   pub there_or_later : (i : Item) → In last.history i → In x.history i ⊎ Above U x i
   there_or_later i h = ⊎_elim (λ (k : In is.newer i). inr (is.later i k)) (λ (k : In x.history i). inl k)

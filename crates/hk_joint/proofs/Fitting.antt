@@ -6,8 +6,8 @@ use Rattle.std.proofs.lemmas.Bool.{false≢true, eqb-true, eq-eqb}
 use Rattle.hk_base.specs.declared.call.Op.{Op}
 use Rattle.hk_base.specs.declared.call.Answer.{Answer}
 use Rattle.hk_base.specs.Register.{Register, first, act}
-use Rattle.hk_history.specs.declared.event.Event.{Event as Line}
-use Rattle.hk_history.specs.declared.event.Event.TheVariants as L
+use Rattle.hk_history.specs.declared.event.Event.{Event as HistoryEvent}
+use Rattle.hk_history.specs.declared.event.Event.TheVariants as Event
 use Rattle.hk_history.specs.declared.event.Entry.{Entry}
 use Rattle.hk_history.specs.History.{op_of, answer_of}
 use Rattle.hk_history.specs.Legal.{FitsCall, Legal, Stands, is_entry}
@@ -24,11 +24,11 @@ use Rattle.hk_joint.specs.Legal.{Registers, with_register, fresh, tag_of, FitsFr
 use Rattle.hk_joint.proofs.AllKeys.{call_no, IsOn, same_op, same_answer, line_on}
 
 -- ---- histories that say the same of the calls
-record SameSaid (H K : List Line) (n : ℕ) : Type 0 where
+record SameSaid (H K : List HistoryEvent) (n : ℕ) : Type 0 where
   op : op_of H n ≡ op_of K n
   answer : answer_of H n ≡ answer_of K n
 
-same_fits : (H K : List Line) (order : List Entry) → ((e : Entry) → In order e → SameSaid H K e.call.0) → (r : Register) → one.FitsFrom H r order → one.FitsFrom K r order
+same_fits : (H K : List HistoryEvent) (order : List Entry) → ((e : Entry) → In order e → SameSaid H K e.call.0) → (r : Register) → one.FitsFrom H r order → one.FitsFrom K r order
 same_fits H K [] same r fits = tt
 same_fits H K (e ∷ order) same r fits =
     let said = same e (inl refl) in
@@ -45,7 +45,7 @@ same_fits H K (e ∷ order) same r fits =
     )
 
 -- ---- one register for each key
-pub all_fit : (H : List Line) (order : List Standing) (registers : Registers) → ((key : List ℕ) → one.FitsFrom H (registers key) (entries_at key order)) → FitsFrom H registers order
+pub all_fit : (H : List HistoryEvent) (order : List Standing) (registers : Registers) → ((key : List ℕ) → one.FitsFrom H (registers key) (entries_at key order)) → FitsFrom H registers order
 all_fit H [] registers fits = tt
 all_fit H (s ∷ order) registers fits =
     let here : entries_at s.key (s ∷ order) ≡ entry_of s.slot ∷ entries_at s.key order =
@@ -74,15 +74,15 @@ all_fit H (s ∷ order) registers fits =
         )
 
 -- ---- a call of which a history has the operation
-op_line : (xs : List Line) (n : ℕ) → is_some (op_of xs n) ≡ true → (line : Line) × In xs line × (call_no line ≡ n)
+op_line : (xs : List HistoryEvent) (n : ℕ) → is_some (op_of xs n) ≡ true → (line : HistoryEvent) × In xs line × (call_no line ≡ n)
 op_line [] n e = absurd (false≢true e)
-op_line (L.Call c op ∷ xs) n e = by_test (eqb c.0 n) refl e (op_line xs n)
+op_line (Event.Call c op ∷ xs) n e = by_test (eqb c.0 n) refl e (op_line xs n)
   where
-    by_test : (b : Bool) → eqb c.0 n ≡ b → is_some (cond b (Some op) (op_of xs n)) ≡ true → (is_some (op_of xs n) ≡ true → (line : Line) × In xs line × (call_no line ≡ n)) →
-        (line : Line) × In (L.Call c op ∷ xs) line × (call_no line ≡ n)
-    by_test true t e more = (L.Call c op, inl refl, eqb-true c.0 n t)
+    by_test : (b : Bool) → eqb c.0 n ≡ b → is_some (cond b (Some op) (op_of xs n)) ≡ true → (is_some (op_of xs n) ≡ true → (line : HistoryEvent) × In xs line × (call_no line ≡ n)) →
+        (line : HistoryEvent) × In (Event.Call c op ∷ xs) line × (call_no line ≡ n)
+    by_test true t e more = (Event.Call c op, inl refl, eqb-true c.0 n t)
     by_test false t e more = let f = more e in (f.0, inr f.1, f.2)
-op_line (L.Reply c a ∷ xs) n e = let f = op_line xs n e in (f.0, inr f.1, f.2)
+op_line (Event.Reply c a ∷ xs) n e = let f = op_line xs n e in (f.0, inr f.1, f.2)
 
 module _ (runs : RunsKeepParts) (run : RunState) (ok : IsRun run) (key : List ℕ) where
   -- the calls of the key's order are calls on the key

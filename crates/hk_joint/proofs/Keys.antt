@@ -4,7 +4,7 @@ use Rattle.std.specs.Prelude.{⊤}
 use Rattle.std.specs.List.{flat_map}
 use Rattle.std.specs.Ordering.{match_ordering}
 use Rattle.hk_copy.specs.Batches.{key_cmp}
-use Rattle.hk_register.specs.Machine.{In, Item, Update, State}
+use Rattle.hk_register.specs.Machine.{In, Item, Update, RegisterState}
 use Rattle.hk_register.specs.Printed.{Slot}
 use Rattle.hk_register.specs.Printed as register
 use Rattle.hk_register.proofs.Grow.{in_left}
@@ -111,7 +111,7 @@ module _ (runs : RunsKeepParts) (h : Header) (header : IsHeader h) (key : List �
       let rest : AreAccepted (traced key t x a).world xs = subst (λ (w : WorldState). AreAccepted w xs) (sym (world_is key t x a (acting_of a))) ok.3 in
       subst (λ (z : Trace). IsKeyOf key first_key (trace_from key z xs)) (sym (ap (trace_with key t x) ok.2)) (empty_from xs (past ++ x ∷ []) (traced key t x a) now rest stays later)
 
-none_printed : (V : ℕ → List ℕ) (st : State) → st.history ≡ [] → st.begun ≡ [] → register.printed V st ≡ []
+none_printed : (V : ℕ → List ℕ) (st : RegisterState) → st.history ≡ [] → st.begun ≡ [] → register.printed V st ≡ []
 none_printed V st history begun = ap (λ (us : List Update). register.sort_slots (register.update_slots V st us ++ register.look_slots st.history)) begun
     ∙ ap (λ (is : List Item). register.sort_slots (register.look_slots is)) history
 

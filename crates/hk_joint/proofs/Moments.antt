@@ -4,10 +4,10 @@ use Rattle.std.specs.List.{list_any}
 use Rattle.std.proofs.lemmas.Bool.{false≢true, eq-eqb}
 use Rattle.hk_base.specs.declared.call.Answer.{Answer}
 use Rattle.hk_base.specs.declared.call.Op.{Op}
-use Rattle.hk_history.specs.declared.event.Event.{Event as Line}
-use Rattle.hk_history.specs.declared.event.Event.TheVariants as L
+use Rattle.hk_history.specs.declared.event.Event.{Event as HistoryEvent}
+use Rattle.hk_history.specs.declared.event.Event.TheVariants as Event
 use Rattle.hk_history.specs.History.{answer_of, is_call, is_answered}
-use Rattle.hk_register.specs.Machine.{In, Item, State, call_of}
+use Rattle.hk_register.specs.Machine.{In, Item, RegisterState, call_of}
 use Rattle.hk_register.specs.Machine.Item.{Called, Answered, Dropped, ReadOnly, Rejected}
 use Rattle.hk_register.specs.Facts.{Complete}
 use Rattle.hk_register.specs.Parts.{Parts}
@@ -22,7 +22,7 @@ use Rattle.hk_joint.proofs.Earlier.{reached, replied, look_of, replied_is, reach
 use Rattle.hk_joint.proofs.Served.{Above}
 
 -- an item that begins a call stands for the call's line
-begins_call : (items : List Item) (i : Item) (c : ℕ) (line : Line) → In items i → In (item_events i) line → is_call c line ≡ true → list_any (is_call c) (events_of items) ≡ true
+begins_call : (items : List Item) (i : Item) (c : ℕ) (line : HistoryEvent) → In items i → In (item_events i) line → is_call c line ≡ true → list_any (is_call c) (events_of items) ≡ true
 begins_call [] i c line h k e = absurd h
 begins_call (x ∷ items) i c line (inl is) k e =
     in_any (is_call c) (events_of items ++ item_events x) line (in_right (events_of items) (item_events x) line (subst (λ (j : Item). In (item_events j) line) is k)) e
@@ -31,12 +31,12 @@ begins_call (x ∷ items) i c line (inr h) k e =
     in_any (is_call c) (events_of items ++ item_events x) t.0 (in_left (events_of items) (item_events x) t.0 t.1) t.2
 
 pub called_there : (items : List Item) (c s : ℕ) (op : Op) → In items (Called c s op) → list_any (is_call c) (events_of items) ≡ true
-called_there items c s op h = begins_call items (Called c s op) c (L.Call (record { 0 = c }) op) h (inl refl) (eq-eqb c c refl)
+called_there items c s op h = begins_call items (Called c s op) c (Event.Call (record { 0 = c }) op) h (inl refl) (eq-eqb c c refl)
 
 pub looked_there : (items : List Item) (x : Slot) → In items (look_of x) → list_any (is_call x.call) (events_of items) ≡ true
-looked_there items x h = begins_call items (look_of x) x.call (L.Call (record { 0 = x.call }) x.op) h (inl refl) (eq-eqb x.call x.call refl)
+looked_there items x h = begins_call items (look_of x) x.call (Event.Call (record { 0 = x.call }) x.op) h (inl refl) (eq-eqb x.call x.call refl)
 
-module _ (U V : ℕ → List ℕ) (x last : State) (parts : Parts V last) (calls : CallParts last) (is : IsEarlier U x last) (grows : (s : ℕ) → Complete U x s → Complete V last s)
+module _ (U V : ℕ → List ℕ) (x last : RegisterState) (parts : Parts V last) (calls : CallParts last) (is : IsEarlier U x last) (grows : (s : ℕ) → Complete U x s → Complete V last s)
     (slots : List Slot) (printed : IsPrinted V last slots) where
   -- a change whose call is answered is reached when the reply is there
   pub change_replied : (a : Slot) → In slots a → a.place ≡ 0 → is_answered (answer_of (events_of last.history) a.call) ≡ true → replied a.call x ≡ true → reached U a.stamp x ≡ true
@@ -55,7 +55,7 @@ module _ (U V : ℕ → List ℕ) (x last : State) (parts : Parts V last) (calls
       by_item (ReadOnly c s op held y) h reply call =
           let there = in_last U x last calls is (ReadOnly c s op held y) h in
           let p = at_place last.history (ReadOnly c s op held y) there in
-          let w = printed.read_only p.0 c s op held y p.1 in
+          let w = printed.looks p.0 c s op held y p.1 in
           let same : a ≡ look_slot p.0 c s op held y = own_slot V last parts calls slots printed a (look_slot p.0 c s op held y) mine w (sym call) in
           let place : a.place ≡ p.0 = ap (λ (z : Slot). z.place) same in
           let pos = positive last.history p.0 (ReadOnly c s op held y) p.1 in

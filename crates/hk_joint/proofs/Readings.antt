@@ -8,23 +8,23 @@ use Rattle.hk_base.specs.declared.call.CallNo.{CallNo}
 use Rattle.hk_base.specs.declared.call.Content.{Content}
 use Rattle.hk_base.specs.declared.call.Op.TheVariants.{Read}
 use Rattle.hk_base.specs.declared.call.Reply.{Reply}
-use Rattle.hk_base.specs.declared.call.State.{State as RowState}
-use Rattle.hk_base.specs.declared.call.State.TheVariants as R
-use Rattle.hk_base.specs.declared.call.Why.TheVariants.{Lease, Row as OfRow}
+use Rattle.hk_base.specs.declared.call.State.{State}
+use Rattle.hk_base.specs.declared.call.State.TheVariants as State
+use Rattle.hk_base.specs.declared.call.Why.TheVariants as Why
 use Rattle.hk_base.specs.declared.stamp.NodeId.{NodeId}
 use Rattle.hk_base.specs.Register.{act}
 use Rattle.hk_base.specs.Stamp.{tag_of}
 use Rattle.hk_clocks.specs.Clocks.{Paces}
 use Rattle.hk_history.specs.History.{is_void}
 use Rattle.hk_key.specs.declared.row.Row.{Row}
-use Rattle.hk_register.specs.Machine.{In, Weaker, Marked, Mark, Node, Phase, Item, State}
+use Rattle.hk_register.specs.Machine.{In, Weaker, Marked, Mark, Node, Phase, Item, RegisterState}
 use Rattle.hk_register.specs.Machine.Phase.{Valid, Invalid, Write, Replay, Trans}
 use Rattle.hk_register.specs.Machine.Item.{ReadOnly, Rejected}
 use Rattle.hk_register.specs.Facts.{ReadyCovers, Complete}
 use Rattle.hk_register.specs.Effects.{row_mark, cover_mark}
 use Rattle.hk_register.specs.Parts.{Parts, NodeOk, PhaseOk}
 use Rattle.hk_register.proofs.Grow.{in_either}
-use Rattle.hk_node.specs.declared.event.NodeEvent.TheVariants as N
+use Rattle.hk_node.specs.declared.event.NodeEvent.TheVariants as NodeEvent
 use Rattle.hk_node.specs.Calls.{register_in, answers, lease_end, at_lease, at_state, at_turn, called}
 use Rattle.hk_node.specs.Node.{NodeState}
 use Rattle.hk_node.specs.Rows.{row_at}
@@ -62,22 +62,22 @@ read_answers x call key = by_lease (nat_lt (lease_end x) (x.clock + x.skew))
     row : Row
     row = row_at key x.rows
 
-    by_state : (s : RowState) → (answer : Answer) × (at_state s x call key Read row ≡ answers x key call answer)
-    by_state R.Valid = ((act Read (register_in row) 0).answer, ap (λ (b : Bool). at_turn b x call key Read row) (unchanged row.content (tag_of row.stamp)))
-    by_state R.Invalid = (Busy (OfRow row.state row.stamp), refl)
-    by_state R.Write = (Busy (OfRow row.state row.stamp), refl)
-    by_state R.Replay = (Busy (OfRow row.state row.stamp), refl)
-    by_state R.Trans = (Busy (OfRow row.state row.stamp), refl)
+    by_state : (s : State) → (answer : Answer) × (at_state s x call key Read row ≡ answers x key call answer)
+    by_state State.Valid = ((act Read (register_in row) 0).answer, ap (λ (b : Bool). at_turn b x call key Read row) (unchanged row.content (tag_of row.stamp)))
+    by_state State.Invalid = (Busy (Why.Row row.state row.stamp), refl)
+    by_state State.Write = (Busy (Why.Row row.state row.stamp), refl)
+    by_state State.Replay = (Busy (Why.Row row.state row.stamp), refl)
+    by_state State.Trans = (Busy (Why.Row row.state row.stamp), refl)
 
     by_lease : (b : Bool) → (answer : Answer) × (at_lease b x call key Read ≡ answers x key call answer)
-    by_lease true = (Busy (Lease (lease_end x) x.clock), refl)
+    by_lease true = (Busy (Why.Lease (lease_end x) x.clock), refl)
     by_lease false = by_state row.state
 
 -- ---- what a node that stays as it is shows anew was marked before
 weaker_chain : (k j l : Mark) → Weaker k j → Weaker j l → Weaker k l
 weaker_chain k j l a b = record { who = a.who ∙ b.who; epoch = a.epoch ∙ b.epoch; stamp = a.stamp ∙ b.stamp; exact = λ e. b.exact (a.exact e); ready = λ e. b.ready (a.ready e) }
 
-module _ (V : ℕ → List ℕ) (st : State) (n : ℕ) (x : Node) (ok : NodeOk V st n x) where
+module _ (V : ℕ → List ℕ) (st : RegisterState) (n : ℕ) (x : Node) (ok : NodeOk V st n x) where
   covered : (s : ℕ) → ReadyCovers st n x.epoch s → Marked st (cover_mark n x s)
   covered s c = (
     c.marked.0,
@@ -142,7 +142,7 @@ module _ (t : Trace) (id : NodeId) (key : List ℕ) (a : Accepted) (e : world_st
       by_way (inl s) =
           let st : IsStep t.world event a s.0 = s.1 in
           let r = read_answers st.x (next_call t.world) key in
-          let same : N.Call (next_call t.world) key Read ≡ st.how.0 = the_some _ _ st.how.1 in
+          let same : NodeEvent.Call (next_call t.world) key Read ≡ st.how.0 = the_some _ _ st.how.1 in
           let o : st.o ≡ answers st.x key (next_call t.world) r.0 = st.how.2 ∙ (ap (node_step st.x) (sym same) ∙ r.1) in
           record {
             node = s.0;

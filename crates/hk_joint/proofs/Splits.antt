@@ -4,7 +4,7 @@ use Rattle.std.specs.List.{list_any, position_or_len}
 use Rattle.std.proofs.lemmas.Bool.{false≢true}
 use Rattle.hk_base.specs.declared.call.CallNo.{CallNo}
 use Rattle.hk_base.specs.declared.call.Reply.{Reply}
-use Rattle.hk_history.specs.declared.event.Event.{Event as Line}
+use Rattle.hk_history.specs.declared.event.Event.{Event as HistoryEvent}
 use Rattle.hk_history.specs.History.{is_call, is_reply}
 use Rattle.hk_world.specs.declared.event.Event.{Event}
 use Rattle.hk_world.specs.declared.event.Event.TheVariants.{Call}
@@ -38,7 +38,7 @@ no_calls n [] = refl
 no_calls n (r ∷ rs) = no_calls n rs
 
 -- a call is the first line of its event
-call_first : (n : ℕ) (event : Event) (result : Result Accepted Refused) (rest : List Line) → list_any (is_call n) (shown_lines event result) ≡ true →
+call_first : (n : ℕ) (event : Event) (result : Result Accepted Refused) (rest : List HistoryEvent) → list_any (is_call n) (shown_lines event result) ≡ true →
     position_or_len (is_call n) (shown_lines event result ++ rest) ≡ 0
 call_first n event (Err refused) rest e = absurd (false≢true e)
 call_first n event (Ok a) rest e = by_event event a.shown.call e
@@ -67,7 +67,7 @@ pub between : (events : List Event) (w : WorldState) (a b : ℕ) → position_or
 between [] w a b l = absurd (omega (arith, l))
 between (x ∷ xs) w a b l = by_tests (list_any (is_call b) here) refl (list_any (is_reply a) here) refl (between xs next a b)
   where
-    here : List Line
+    here : List HistoryEvent
     here = shown_lines x (world_step w x)
 
     next : WorldState
@@ -94,13 +94,13 @@ between (x ∷ xs) w a b l = by_tests (list_any (is_call b) here) refl (list_any
         }
 
 -- lines only grow
-pub lines_stay : (p : Line → Bool) (m n : ℕ) → m ≤ n → (events : List Event) (w : WorldState) → list_any p (lines_from w (take m events)) ≡ true → list_any p (lines_from w (take n events)) ≡ true
+pub lines_stay : (p : HistoryEvent → Bool) (m n : ℕ) → m ≤ n → (events : List Event) (w : WorldState) → list_any p (lines_from w (take m events)) ≡ true → list_any p (lines_from w (take n events)) ≡ true
 lines_stay p zero n l [] w e = absurd (false≢true e)
 lines_stay p zero n l (x ∷ xs) w e = absurd (false≢true e)
 lines_stay p (suc m) zero l events w e = absurd (omega (arith, l))
 lines_stay p (suc m) (suc n) l [] w e = absurd (false≢true e)
 lines_stay p (suc m) (suc n) l (x ∷ xs) w e =
-    let here : List Line = shown_lines x (world_step w x) in
+    let here : List HistoryEvent = shown_lines x (world_step w x) in
     let next : WorldState = world_with w (world_step w x) in
     any_append p here (lines_from next (take n xs))
     ∙ by_test (list_any p here) (sym (any_append p here (lines_from next (take m xs))) ∙ e) (lines_stay p m n (omega (arith, l)) xs next)

@@ -3,8 +3,8 @@ use Rattle.std.proofs.Common.{◌≡◌, ℕ, zero, suc, Bool, true, false, cond
 use Rattle.std.specs.List.{filter, flat_map, list_any, position_or_len}
 use Rattle.std.proofs.lemmas.Bool.{false≢true, false_from_ne_true, eqb-true, cases_lt}
 use Rattle.std.proofs.lemmas.List.Sums.{fails_before_first, passes_at_first}
-use Rattle.hk_history.specs.declared.event.Event.{Event as Line}
-use Rattle.hk_history.specs.declared.event.Event.TheVariants as L
+use Rattle.hk_history.specs.declared.event.Event.{Event as HistoryEvent}
+use Rattle.hk_history.specs.declared.event.Event.TheVariants as HistoryEvent
 use Rattle.hk_history.specs.History.{answer_of, is_call, is_reply, is_answered}
 use Rattle.hk_history.specs.Legal.{Legal, Timely, is_entry}
 use Rattle.hk_register.specs.Machine.{In}
@@ -64,13 +64,13 @@ accepted_take (suc n) (x ∷ xs) w ok = (ok.0, ok.1, ok.2, accepted_take n xs ok
 pub run_up_to : (n : ℕ) (run : RunState) → IsRun run → IsRun (up_to n run)
 run_up_to n run ok = record { header = ok.header; accepted = accepted_take n run.events (start run.header) ok.accepted }
 
-reply_no : (n : ℕ) (line : Line) → is_reply n line ≡ true → call_no line ≡ n
-reply_no n (L.Call c op) e = absurd (false≢true e)
-reply_no n (L.Reply c answer) e = eqb-true c.0 n e
+reply_no : (n : ℕ) (line : HistoryEvent) → is_reply n line ≡ true → call_no line ≡ n
+reply_no n (HistoryEvent.Call c op) e = absurd (false≢true e)
+reply_no n (HistoryEvent.Reply c answer) e = eqb-true c.0 n e
 
-call_no_is : (n : ℕ) (line : Line) → is_call n line ≡ true → call_no line ≡ n
-call_no_is n (L.Call c op) e = eqb-true c.0 n e
-call_no_is n (L.Reply c answer) e = absurd (false≢true e)
+call_no_is : (n : ℕ) (line : HistoryEvent) → is_call n line ≡ true → call_no line ≡ n
+call_no_is n (HistoryEvent.Call c op) e = eqb-true c.0 n e
+call_no_is n (HistoryEvent.Reply c answer) e = absurd (false≢true e)
 
 -- the entry of a standing is of the call
 abbrev pub has : ℕ → Standing → Bool
@@ -158,19 +158,19 @@ module _ (runs : RunsKeepParts) (is_effects : EventIsEffects) (run : RunState) (
     reply_here n c on e =
         let t = any_in (is_reply c) (joint_history (up_to n run)) e in
         let mine = in_filter (is_on (called_from run.events) key) (joint_history (up_to n run)) t.0 t.1 (on_line key (called_from run.events) c on t.0 (reply_no c t.0 t.2)) in
-        in_any (is_reply c) (history (up_to n run) key) t.0 (subst (λ (l : List Line). In l t.0) (sym (so_far n)) mine) t.2
+        in_any (is_reply c) (history (up_to n run) key) t.0 (subst (λ (l : List HistoryEvent). In l t.0) (sym (so_far n)) mine) t.2
 
     pub call_there : (n c : ℕ) → list_any (is_call c) (history (up_to n run) key) ≡ true → list_any (is_call c) (joint_history (up_to n run)) ≡ true
     call_there n c e =
         let t = any_in (is_call c) (history (up_to n run) key) e in
-        let there = of_filter (is_on (called_from run.events) key) (joint_history (up_to n run)) t.0 (subst (λ (l : List Line). In l t.0) (so_far n) t.1) in
+        let there = of_filter (is_on (called_from run.events) key) (joint_history (up_to n run)) t.0 (subst (λ (l : List HistoryEvent). In l t.0) (so_far n) t.1) in
         in_any (is_call c) (joint_history (up_to n run)) t.0 there.0 t.2
 
     call_here : (n c : ℕ) → IsOn run key c → list_any (is_call c) (joint_history (up_to n run)) ≡ true → list_any (is_call c) (history (up_to n run) key) ≡ true
     call_here n c on e =
         let t = any_in (is_call c) (joint_history (up_to n run)) e in
         let mine = in_filter (is_on (called_from run.events) key) (joint_history (up_to n run)) t.0 t.1 (on_line key (called_from run.events) c on t.0 (call_no_is c t.0 t.2)) in
-        in_any (is_call c) (history (up_to n run) key) t.0 (subst (λ (l : List Line). In l t.0) (sym (so_far n)) mine) t.2
+        in_any (is_call c) (history (up_to n run) key) t.0 (subst (λ (l : List HistoryEvent). In l t.0) (sym (so_far n)) mine) t.2
 
     -- a call that has not begun stands later
     pub event_after : (b : Slot) → In (slots run key) b → (n : ℕ) → n ≤ length run.events → list_any (is_call b.call) (joint_history (up_to n run)) ≡ false → n < event_of run key b

@@ -7,7 +7,7 @@ use Rattle.hk_base.specs.declared.call.CallNo.{CallNo}
 use Rattle.hk_base.specs.declared.call.Op.TheVariants.{Read}
 use Rattle.hk_base.specs.declared.stamp.NodeId.{NodeId}
 use Rattle.hk_base.specs.declared.call.Reply.{Reply}
-use Rattle.hk_history.specs.declared.event.Event.{Event as Line}
+use Rattle.hk_history.specs.declared.event.Event.{Event as HistoryEvent}
 use Rattle.hk_history.specs.declared.event.Entry.{Entry}
 use Rattle.hk_history.specs.History.{is_call, is_reply}
 use Rattle.hk_history.specs.Legal.{Legal, is_entry}
@@ -45,21 +45,21 @@ use Rattle.hk_joint.proofs.Segments.{IsSegment, segments, of_batch, in_batch, Is
 use Rattle.hk_joint.proofs.Timing.{run_up_to, upto, at_first, moment_now, event_after_key, slot_on, IsStanding, in_joint, joint_rises, has, position_entries}
 
 -- ---- of one trace
-begins : (i : Item) (c : ℕ) (line : Line) → In (item_events i) line → is_call c line ≡ true → call_of i ≡ c
-begins (Called d s op) c line (inl e) r = eqb-true d c (subst (λ (l : Line). is_call c l ≡ true) e r)
+begins : (i : Item) (c : ℕ) (line : HistoryEvent) → In (item_events i) line → is_call c line ≡ true → call_of i ≡ c
+begins (Called d s op) c line (inl e) r = eqb-true d c (subst (λ (l : HistoryEvent). is_call c l ≡ true) e r)
 begins (Called d s op) c line (inr h) r = absurd h
-begins (Answered d s a) c line (inl e) r = absurd (false≢true (subst (λ (l : Line). is_call c l ≡ true) e r))
+begins (Answered d s a) c line (inl e) r = absurd (false≢true (subst (λ (l : HistoryEvent). is_call c l ≡ true) e r))
 begins (Answered d s a) c line (inr h) r = absurd h
-begins (Dropped d s a) c line (inl e) r = absurd (false≢true (subst (λ (l : Line). is_call c l ≡ true) e r))
+begins (Dropped d s a) c line (inl e) r = absurd (false≢true (subst (λ (l : HistoryEvent). is_call c l ≡ true) e r))
 begins (Dropped d s a) c line (inr h) r = absurd h
-begins (ReadOnly d s op held a) c line (inl e) r = eqb-true d c (subst (λ (l : Line). is_call c l ≡ true) e r)
-begins (ReadOnly d s op held a) c line (inr (inl e)) r = absurd (false≢true (subst (λ (l : Line). is_call c l ≡ true) e r))
+begins (ReadOnly d s op held a) c line (inl e) r = eqb-true d c (subst (λ (l : HistoryEvent). is_call c l ≡ true) e r)
+begins (ReadOnly d s op held a) c line (inr (inl e)) r = absurd (false≢true (subst (λ (l : HistoryEvent). is_call c l ≡ true) e r))
 begins (ReadOnly d s op held a) c line (inr (inr h)) r = absurd h
-begins (Rejected d op a) c line (inl e) r = eqb-true d c (subst (λ (l : Line). is_call c l ≡ true) e r)
-begins (Rejected d op a) c line (inr (inl e)) r = absurd (false≢true (subst (λ (l : Line). is_call c l ≡ true) e r))
+begins (Rejected d op a) c line (inl e) r = eqb-true d c (subst (λ (l : HistoryEvent). is_call c l ≡ true) e r)
+begins (Rejected d op a) c line (inr (inl e)) r = absurd (false≢true (subst (λ (l : HistoryEvent). is_call c l ≡ true) e r))
 begins (Rejected d op a) c line (inr (inr h)) r = absurd h
 
-begun_by : (items : List Item) (c : ℕ) (line : Line) → In (events_of items) line → is_call c line ≡ true → (i : Item) × In items i × (call_of i ≡ c)
+begun_by : (items : List Item) (c : ℕ) (line : HistoryEvent) → In (events_of items) line → is_call c line ≡ true → (i : Item) × In items i × (call_of i ≡ c)
 begun_by [] c line h r = absurd h
 begun_by (i ∷ items) c line h r = ⊎_elim
     (λ (k : In (events_of items) line). let t = begun_by items c line k r in (t.0, inr t.1, t.2))
@@ -206,7 +206,7 @@ module _ (runs : RunsKeepParts) (is_effects : EventIsEffects) (run : RunState) (
         let in_end : In last.history (ReadOnly c look.stamp Read look.content look.answer) = in_last (Views (now key (suc i))) (project key (now key (suc i))) (project key last) kept_run.calls m.earlier _ there in
         let p = at_place last.history (ReadOnly c look.stamp Read look.content look.answer) in_end in
         let slot : Slot = look_slot p.0 c look.stamp Read look.content look.answer in
-        let mine : In (slots run key) slot = (printed_is (Views last) (project key last) parts).read_only p.0 c look.stamp Read look.content look.answer p.1 in
+        let mine : In (slots run key) slot = (printed_is (Views last) (project key last) parts).looks p.0 c look.stamp Read look.content look.answer p.1 in
         let place : event_of run key slot ≡ replied_at run key c = is_other run key kept_run (moments_of_run runs is_effects run ok key) slot p.2 in
         let high : replied_at run key c ≤ suc i =
         upto runs is_effects run ok key (λ (z : Trace). list_any (is_reply c) (history_of z)) (suc i) at.within (look_replies (now key (suc i)).history slot there) in

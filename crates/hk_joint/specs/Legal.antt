@@ -2,8 +2,8 @@
 use Rattle.std.specs.Prelude.{◌≡◌, ℕ, List, [], ◌∷◌, ◌++◌, map, Option, None, Some, Result, Ok, Err, unwrap_or, if◌then◌else◌, ⊤, MatchOption}
 use Rattle.hk_base.specs.declared.call.CallNo.{CallNo}
 use Rattle.hk_base.specs.Register.{Register, first, act}
-use Rattle.hk_history.specs.declared.event.Event.{Event as Line}
-use Rattle.hk_history.specs.declared.event.Event.TheVariants as L
+use Rattle.hk_history.specs.declared.event.Event.{Event as HistoryEvent}
+use Rattle.hk_history.specs.declared.event.Event.TheVariants as HistoryEvent
 use Rattle.hk_history.specs.History.{op_of, answer_of, Before}
 use Rattle.hk_history.specs.Legal.{FitsCall, Timely, is_entry}
 use Rattle.hk_register.specs.Machine.{In}
@@ -22,21 +22,21 @@ use Rattle.hk_joint.specs.declared.batch.Reading.{Reading}
 use Rattle.hk_joint.specs.Batch.{batches}
 
 -- ---- the history of all keys
-abbrev pub call_lines : Event → Option CallNo → List Line
-call_lines (Call id key op) (Some call) = L.Call call op ∷ []
+abbrev pub call_lines : Event → Option CallNo → List HistoryEvent
+call_lines (Call id key op) (Some call) = HistoryEvent.Call call op ∷ []
 call_lines event call = []
 
 -- an event shows its call, and then its replies
-abbrev pub shown_lines : Event → Result Accepted Refused → List Line
+abbrev pub shown_lines : Event → Result Accepted Refused → List HistoryEvent
 shown_lines event (Ok a) = call_lines event a.shown.call ++ map reply_line a.shown.replies
 shown_lines event (Err refused) = []
 
-abbrev pub lines_from : WorldState → List Event → List Line
+abbrev pub lines_from : WorldState → List Event → List HistoryEvent
 lines_from w [] = []
 lines_from w (event ∷ events) = shown_lines event (world_step w event) ++ lines_from (world_with w (world_step w event)) events
 
 -- the calls of all keys and their replies, the first one first
-abbrev pub joint_history : RunState → List Line
+abbrev pub joint_history : RunState → List HistoryEvent
 joint_history run = lines_from (start run.header) run.events
 
 -- ---- one register for each key
@@ -54,7 +54,7 @@ abbrev pub tag_of : Standing → Option ℕ
 tag_of s = (entry_of s.slot).tag
 
 -- The operations, each acting on its key's register, give each answered call its answer.
-abbrev pub FitsFrom : List Line → Registers → List Standing → Type 0
+abbrev pub FitsFrom : List HistoryEvent → Registers → List Standing → Type 0
 FitsFrom history registers [] = ⊤
 FitsFrom history registers (s ∷ order) = MatchOption (op_of history s.slot.call) ⊥ (λ op.
     FitsCall (answer_of history s.slot.call) (tag_of s) (act op (registers s.key) (unwrap_or (tag_of s) 0))

@@ -3,8 +3,8 @@ use Rattle.std.specs.Prelude.{◌≡◌, ℕ, List, [], length, take, Option, No
 use Rattle.std.specs.List.{AllByRecursion}
 use Rattle.std.specs.Io.KnownBytes.{Appends}
 use Rattle.hk_outside.specs.declared.status.Status.{Status}
-use Rattle.hk_outside.specs.declared.status.Status.TheVariants as S
-use Rattle.hk_node.specs.Sound.{IsEvent}
+use Rattle.hk_outside.specs.declared.status.Status.TheVariants as Status
+use Rattle.hk_node.specs.Sound.{IsNodeEvent}
 use Rattle.hk_journal.specs.Journal.{IsReplay}
 use Rattle.hk_snap.specs.declared.snapshot.Snapshot.{Snapshot}
 use Rattle.hk_place.specs.Past.{Past}
@@ -15,7 +15,7 @@ use Rattle.hk_joint_storm.specs.Text.{text_of}
 -- a journal as a shard keeps it: a replay from its base, of events that a node may be given
 pub record IsPast (past : Past) : Type 0 where
   pub replay : IsReplay past.base past.journal
-  pub events : AllByRecursion (λ e. IsEvent e.event) past.journal
+  pub events : AllByRecursion (λ e. IsNodeEvent e.event) past.journal
 
 -- the lines that tell of these reads, by the first of them that has no place
 abbrev pub text_for : ℕ → ℕ → Past → List (List Snapshot) → List ℕ
@@ -28,10 +28,10 @@ IsGap (Some gap) = ⊤
 
 -- Done where each read has a place, and Gap where one has none, when the lines were written; WriteFault after a front of them; Memory before.
 abbrev pub IsConcluded : Status → ℕ → ℕ → Past → List (List Snapshot) → Option (List ℕ) → Option (List ℕ) → Type 0
-IsConcluded S.Done workers reads past founds held held' = (first_gap past founds ≡ None) × Appends held held' (text_for workers reads past founds)
-IsConcluded S.Gap workers reads past founds held held' = IsGap (first_gap past founds) × Appends held held' (text_for workers reads past founds)
-IsConcluded S.WriteFault workers reads past founds held held' = (count : ℕ) × Appends held held' (take count (text_for workers reads past founds))
-IsConcluded S.Memory workers reads past founds held held' = Appends held held' []
+IsConcluded Status.Done workers reads past founds held held' = (first_gap past founds ≡ None) × Appends held held' (text_for workers reads past founds)
+IsConcluded Status.Gap workers reads past founds held held' = IsGap (first_gap past founds) × Appends held held' (text_for workers reads past founds)
+IsConcluded Status.WriteFault workers reads past founds held held' = (count : ℕ) × Appends held held' (take count (text_for workers reads past founds))
+IsConcluded Status.Memory workers reads past founds held held' = Appends held held' []
 IsConcluded status workers reads past founds held held' = ⊥
 
 -- what some reads come to by the journal of a shard
@@ -43,13 +43,13 @@ pub record HasConcluded (status : Status) (workers reads : ℕ) (held held' : Op
 
 -- or memory was wanting, and nothing was written
 abbrev pub IsJointStorm : Status → ℕ → ℕ → Option (List ℕ) → Option (List ℕ) → Type 0
-IsJointStorm S.Memory workers reads held held' = Appends held held' []
+IsJointStorm Status.Memory workers reads held held' = Appends held held' []
 IsJointStorm status workers reads held held' = HasConcluded status workers reads held held'
 
 -- the statuses with which a storm of joint reads may end
 abbrev pub EndsJointStorm : Status → Type 0
-EndsJointStorm S.Done = ⊤
-EndsJointStorm S.Gap = ⊤
-EndsJointStorm S.WriteFault = ⊤
-EndsJointStorm S.Memory = ⊤
+EndsJointStorm Status.Done = ⊤
+EndsJointStorm Status.Gap = ⊤
+EndsJointStorm Status.WriteFault = ⊤
+EndsJointStorm Status.Memory = ⊤
 EndsJointStorm status = ⊥

@@ -10,7 +10,7 @@ use Rattle.hk_node.specs.Report.{changed_rows}
 use Rattle.hk_node.specs.Node.{NodeState}
 use Rattle.hk_node.specs.Outs.{IsOutOf}
 use Rattle.hk_node.specs.Steps.{node_step}
-use Rattle.hk_node.specs.Sound.{IsNode, IsEvent}
+use Rattle.hk_node.specs.Sound.{IsNode, IsNodeEvent}
 use Rattle.hk_journal.specs.declared.step_entry.JournalEntry.{JournalEntry}
 use Rattle.hk_journal.specs.Journal.{entry_of, replay, IsBefore, IsReplay, changed, published}
 
@@ -36,6 +36,6 @@ ChangedAreReported = (old new : Rows) → map (λ r. r.0) (changed old new) ≡ 
 
 -- what any other key has, the step leaves
 abbrev pub ChangedAreAll : Type 0
-ChangedAreAll = (node : NodeState) (event : NodeEvent) (key : List ℕ) → IsNode node → IsEvent event →
+ChangedAreAll = (node : NodeState) (event : NodeEvent) (key : List ℕ) → IsNode node → IsNodeEvent event →
     list_any (λ f. is_eq (key_cmp key f.key)) (changed_rows node.rows (node_step node event).node.rows) ≡ false →
     find_row key (node_step node event).node.rows ≡ find_row key node.rows

@@ -6,7 +6,7 @@ use Rattle.std.specs.Ordering.{nat_cmp}
 use Rattle.std.specs.declared.cmp.Ordering.{Ordering}
 use Rattle.std.specs.declared.cmp.Ordering.TheVariants.{Less, Equal, Greater}
 use Rattle.hk_base.specs.declared.stamp.Kind.{Kind}
-use Rattle.hk_base.specs.declared.stamp.Kind.TheVariants.{Write as Plain, Rmw}
+use Rattle.hk_base.specs.declared.stamp.Kind.TheVariants as Kind
 use Rattle.hk_base.specs.declared.call.State.{State}
 use Rattle.hk_base.specs.declared.call.State.TheVariants.{Valid, Invalid, Write, Replay, Trans}
 use Rattle.hk_base.specs.declared.call.Reply.{Reply}
@@ -44,8 +44,8 @@ inv_answers_waiting row from s kind content told e = by_order (nat_cmp (tag_of r
     given (Some reply) e = subst (λ (k : Option Reply). IsSomeAnd k (λ t. IsToldFor reply t)) e (record { call = refl; answer = inr (s, refl) })
 
     by_kind : (k : Kind) (p : Pending) → given_up_write k p.reply s ≡ Some told → IsToldForKept p.reply told
-    by_kind Plain p e = absurd (none-some told e)
-    by_kind Rmw p e = given p.reply e
+    by_kind Kind.Write p e = absurd (none-some told e)
+    by_kind Kind.Rmw p e = given p.reply e
 
     above : (state : State) (o : Option Pending) → given_up state o s ≡ Some told → IsSomeAnd o (λ p. IsToldForKept p.reply told)
     above Valid o e = absurd (none-some told e)
@@ -61,8 +61,8 @@ inv_answers_waiting row from s kind content told e = by_order (nat_cmp (tag_of r
     by_order Greater e = at kind e
       where
         at : (k : Kind) → (on_inv_at Greater row from s k content).out.reply ≡ Some told → HadWaiting row told
-        at Plain e = absurd (none-some told e)
-        at Rmw e = absurd (none-some told e)
+        at Kind.Write e = absurd (none-some told e)
+        at Kind.Rmw e = absurd (none-some told e)
 
 pub ack_answers_waiting : AckAnswersWaiting
 ack_answers_waiting me members row from s top told e = by_pending row.pending e

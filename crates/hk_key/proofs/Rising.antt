@@ -5,7 +5,7 @@ use Rattle.std.specs.declared.cmp.Ordering.{Ordering}
 use Rattle.std.specs.declared.cmp.Ordering.TheVariants.{Less, Equal, Greater}
 use Rattle.hk_base.specs.declared.stamp.Stamp.{Stamp}
 use Rattle.hk_base.specs.declared.stamp.Kind.{Kind}
-use Rattle.hk_base.specs.declared.stamp.Kind.TheVariants.{Write as Plain, Rmw}
+use Rattle.hk_base.specs.declared.stamp.Kind.TheVariants as Kind
 use Rattle.hk_base.specs.declared.call.State.{State}
 use Rattle.hk_base.specs.declared.call.State.TheVariants.{Valid, Invalid, Write, Replay, Trans}
 use Rattle.hk_base.specs.Stamp.{tag_of}
@@ -42,8 +42,8 @@ inv_never_lowers row from s kind content = by_order (nat_cmp (tag_of row.stamp) 
     by_order Greater e = by_kind kind
       where
         by_kind : (k : Kind) → tag_of row.stamp ≤ tag_of (on_inv_at Greater row from s k content).row.stamp
-        by_kind Plain = level row.stamp row.stamp refl
-        by_kind Rmw = level row.stamp row.stamp refl
+        by_kind Kind.Write = level row.stamp row.stamp refl
+        by_kind Kind.Rmw = level row.stamp row.stamp refl
 
 pub ack_never_lowers : AckNeverLowers
 ack_never_lowers me members row from s top = level row.stamp _ (by_pending row.pending)

@@ -7,7 +7,7 @@ use Rattle.std.specs.List.{IsDistinct}
 use Rattle.hk_base.specs.declared.stamp.Stamp.{Stamp}
 use Rattle.hk_base.specs.declared.stamp.NodeId.{NodeId}
 use Rattle.hk_base.specs.declared.stamp.Kind.{Kind}
-use Rattle.hk_base.specs.declared.stamp.Kind.TheVariants.{Write as Plain, Rmw}
+use Rattle.hk_base.specs.declared.stamp.Kind.TheVariants as Kind
 use Rattle.hk_base.specs.declared.call.State.{State}
 use Rattle.hk_base.specs.declared.call.State.TheVariants.{Valid, Invalid, Write, Replay, Trans}
 use Rattle.hk_base.specs.Stamp.{tag_of}
@@ -150,8 +150,8 @@ inv_keeps_sound me members row from s kind content within leaves ok = by_order (
     above Write (Some p) less h w u = by_kind p.kind refl
       where
         by_kind : (k : Kind) → p.kind ≡ k → IsSound me members (record { state = (displaced_write k p).0; stamp = s; kind = kind; content = content; kept_val = false; pending = (displaced_write k p).1 })
-        by_kind Plain e = record { within = within; holds = omega arith; waits = (w, e); left = left _ (omega arith) leaves; update = u }
-        by_kind Rmw e = record { within = within; holds = refl; waits = tt; left = left _ (omega arith) leaves; update = tt }
+        by_kind Kind.Write e = record { within = within; holds = omega arith; waits = (w, e); left = left _ (omega arith) leaves; update = u }
+        by_kind Kind.Rmw e = record { within = within; holds = refl; waits = tt; left = left _ (omega arith) leaves; update = tt }
 
     by_order : (o : Ordering) → nat_cmp (tag_of row.stamp) (tag_of s) ≡ o → IsSound me members (on_inv_at o row from s kind content).row
     by_order Less e = above row.state row.pending (grind arith) ok.holds ok.waits ok.update
@@ -159,8 +159,8 @@ inv_keeps_sound me members row from s kind content within leaves ok = by_order (
     by_order Greater e = by_kind kind
       where
         by_kind : (k : Kind) → IsSound me members (on_inv_at Greater row from s k content).row
-        by_kind Plain = ok
-        by_kind Rmw = ok
+        by_kind Kind.Write = ok
+        by_kind Kind.Rmw = ok
 
 pub ack_keeps_sound : AckKeepsSound
 ack_keeps_sound me members row from s top other ok = by_pending row.pending ok.holds ok.waits ok.update

@@ -9,7 +9,7 @@ use Rattle.std.proofs.lemmas.Bool.{false≢true, false_from_ne_true}
 use Rattle.hk_base.specs.declared.stamp.Stamp.{Stamp}
 use Rattle.hk_base.specs.declared.stamp.NodeId.{NodeId}
 use Rattle.hk_base.specs.declared.stamp.Kind.{Kind}
-use Rattle.hk_base.specs.declared.stamp.Kind.TheVariants.{Write as Plain, Rmw}
+use Rattle.hk_base.specs.declared.stamp.Kind.TheVariants as Kind
 use Rattle.hk_base.specs.declared.call.State.{State}
 use Rattle.hk_base.specs.declared.call.State.TheVariants.{Valid, Invalid, Write, Replay, Trans}
 use Rattle.hk_base.specs.Stamp.{tag_of}
@@ -68,8 +68,8 @@ same_after_inv row from s kind content same = by_order (nat_cmp (tag_of row.stam
     by_order Greater e same = by_kind kind
       where
         by_kind : (k : Kind) → (on_inv_at Greater row from s k content).row ≡ row
-        by_kind Plain = refl
-        by_kind Rmw = refl
+        by_kind Kind.Write = refl
+        by_kind Kind.Rmw = refl
 
 pub same_after_ack : SameAfterAck
 same_after_ack me members row from s top same = by_pending row.pending refl same

@@ -7,7 +7,7 @@ use Rattle.std.specs.declared.cmp.Ordering.{Ordering}
 use Rattle.std.specs.declared.cmp.Ordering.TheVariants.{Less, Equal, Greater}
 use Rattle.hk_base.specs.declared.stamp.Stamp.{Stamp}
 use Rattle.hk_base.specs.declared.stamp.Kind.{Kind}
-use Rattle.hk_base.specs.declared.stamp.Kind.TheVariants.{Write as Plain, Rmw}
+use Rattle.hk_base.specs.declared.stamp.Kind.TheVariants as Kind
 use Rattle.hk_base.specs.declared.call.State.{State}
 use Rattle.hk_base.specs.declared.call.State.TheVariants.{Valid, Invalid, Write, Replay, Trans}
 use Rattle.hk_base.specs.declared.call.Reply.{Reply}
@@ -81,8 +81,8 @@ inv_answers_or_waits me members row p reply from s kind content ok e own = by_or
       row = record { state = (displaced_write k q).0; stamp = s; kind = kind; content = content; kept_val = false; pending = (displaced_write k q).1 };
       out = record { send = send; reply = given_up_write k q.reply s };
     })
-    by_kind Plain q send keeps = inl (record { update = keeps; state = inr refl; silent = refl })
-    by_kind Rmw q send keeps = inr (record {
+    by_kind Kind.Write q send keeps = inl (record { update = keeps; state = inr refl; silent = refl })
+    by_kind Kind.Rmw q send keeps = inr (record {
       told = subst (λ (o : Option Reply). IsSomeAnd (aborted o s) (λ told. IsToldFor reply told)) (sym keeps.1) (record { call = refl; answer = inr (s, refl) });
       gone = refl;
       state = inr refl;
@@ -105,8 +105,8 @@ inv_answers_or_waits me members row p reply from s kind content ok e own = by_or
     by_order Greater = at kind
       where
         at : (k : Kind) → GoesOnOrIsAnswered p reply (on_inv_at Greater row from s k content)
-        at Plain = unchanged (on_inv_at Greater row from s Plain content).out.send
-        at Rmw = unchanged (on_inv_at Greater row from s Rmw content).out.send
+        at Kind.Write = unchanged (on_inv_at Greater row from s Kind.Write content).out.send
+        at Kind.Rmw = unchanged (on_inv_at Greater row from s Kind.Rmw content).out.send
 
 pub ack_answers_or_waits : AckAnswersOrWaits
 ack_answers_or_waits me members row p reply from s top ok e own = by_pending row.pending e

@@ -5,7 +5,7 @@ use Rattle.std.specs.Option.{IsSome}
 use Rattle.std.specs.List.{IsDistinct, AllByRecursion, list_any}
 use Rattle.hk_base.specs.declared.stamp.Stamp.{Stamp}
 use Rattle.hk_base.specs.declared.stamp.NodeId.{NodeId}
-use Rattle.hk_base.specs.declared.stamp.Kind.TheVariants.{Write as Plain}
+use Rattle.hk_base.specs.declared.stamp.Kind.TheVariants as Kind
 use Rattle.hk_base.specs.declared.call.State.{State}
 use Rattle.hk_base.specs.declared.call.State.TheVariants.{Valid, Invalid, Write, Replay, Trans}
 use Rattle.hk_base.specs.Stamp.{tag_of}
@@ -34,7 +34,7 @@ Waits Valid pending = ⊤
 Waits Invalid pending = ⊤
 Waits Write pending = IfSome pending (λ p. IsSome p.reply)
 Waits Replay pending = IfSome pending (λ p. p.reply ≡ None)
-Waits Trans pending = IfSome pending (λ p. IsSome p.reply × (p.kind ≡ Plain))
+Waits Trans pending = IfSome pending (λ p. IsSome p.reply × (p.kind ≡ Kind.Write))
 
 abbrev pub note_numbers : List Ack → List ℕ
 note_numbers acks = map (λ ack. ack.node.0) acks

@@ -9,7 +9,7 @@ use Rattle.std.specs.declared.cmp.Ordering.TheVariants.{Less, Equal, Greater}
 use Rattle.hk_base.specs.declared.stamp.Stamp.{Stamp}
 use Rattle.hk_base.specs.declared.stamp.NodeId.{NodeId}
 use Rattle.hk_base.specs.declared.stamp.Kind.{Kind}
-use Rattle.hk_base.specs.declared.stamp.Kind.TheVariants.{Write as Plain, Rmw}
+use Rattle.hk_base.specs.declared.stamp.Kind.TheVariants as Kind
 use Rattle.hk_base.specs.declared.call.State.{State}
 use Rattle.hk_base.specs.declared.call.State.TheVariants.{Valid, Invalid, Write, Replay, Trans}
 use Rattle.hk_base.specs.declared.call.Content.{Content}
@@ -23,13 +23,13 @@ use Rattle.hk_key.specs.declared.row.Row.{Row}
 use Rattle.hk_key.specs.declared.out.Aim.{Aim}
 use Rattle.hk_key.specs.declared.out.Aim.TheVariants.{One, Others, NotAcked}
 use Rattle.hk_key.specs.declared.out.What.{What}
-use Rattle.hk_key.specs.declared.out.What.TheVariants.{InvRow, InvPending, Ack as AckOf, Val as ValOf}
+use Rattle.hk_key.specs.declared.out.What.TheVariants as What
 use Rattle.hk_key.specs.declared.out.Out.{Out}
 use Rattle.hk_key.specs.Notes.{all_noted, all_exact, note_in}
 
 -- the row of a key that nothing has touched: Valid, `0.0`, kind Write, no content
 abbrev pub first_row : Row
-first_row = record { state = Valid; stamp = record { version = 0; node = 0 }; kind = Plain; content = None; kept_val = false; pending = None }
+first_row = record { state = Valid; stamp = record { version = 0; node = 0 }; kind = Kind.Write; content = None; kept_val = false; pending = None }
 
 -- a row, and what its step gives
 pub record Done : Type 0 where
@@ -56,7 +56,7 @@ abbrev pub completed_at : Bool → Bool → Row → Pending → Done
 -- its own stamp, all exact: becomes Valid, VAL to all others
 completed_at true true row p = record {
   row = record row { state = Valid; pending = None };
-  out = record { send = Some (record { aim = Others; what = ValOf p.stamp }); reply = p.reply };
+  out = record { send = Some (record { aim = Others; what = What.Val p.stamp }); reply = p.reply };
 }
 -- its own stamp, a note not exact: becomes Invalid
 completed_at true false row p = record { row = record row { state = Invalid; pending = None }; out = record { send = None; reply = p.reply } }
@@ -74,7 +74,7 @@ abbrev pub started_at : Bool → Row → Pending → Done
 -- with no others: completes at once
 started_at true row p = completed row p
 -- with others: INV of the pending update to all others
-started_at false row p = sends (record row { pending = Some p }) Others InvPending
+started_at false row p = sends (record row { pending = Some p }) Others What.InvPending
 
 abbrev pub started : NodeId → List NodeId → Row → Pending → Done
 started me members row p = started_at (all_noted me members p.acks) row p
@@ -93,9 +93,9 @@ begin me members reply s kind content = started me members
 -- Where a row in Write goes under an INV above it, and with which pending update, by the kind of that.
 abbrev pub displaced_write : Kind → Pending → State × Option Pending
 -- on INV, stamp greater, Write with a plain write: becomes Trans
-displaced_write Plain p = (Trans, Some p)
+displaced_write Kind.Write p = (Trans, Some p)
 -- on INV, stamp greater, Write with a read-modify-write: drops it, becomes Invalid
-displaced_write Rmw p = (Invalid, None)
+displaced_write Kind.Rmw p = (Invalid, None)
 
 -- Where any row goes under an INV above it.
 abbrev pub displaced : State → Option Pending → State × Option Pending
@@ -116,9 +116,9 @@ aborted None s = None
 aborted (Some reply) s = Some (record reply { answer = Aborted s })
 
 abbrev pub given_up_write : Kind → Option Reply → Stamp → Option Reply
-given_up_write Plain reply s = None
+given_up_write Kind.Write reply s = None
 -- on INV, stamp greater, Write with a read-modify-write: answers Aborted with the letter's stamp
-given_up_write Rmw reply s = aborted reply s
+given_up_write Kind.Rmw reply s = aborted reply s
 
 -- the answer of the call that an INV above the row gives up, if it does
 abbrev pub given_up : State → Option Pending → Stamp → Option Reply
@@ -141,14 +141,14 @@ on_inv_at Less row from s kind content = record {
     kept_val = false;
     pending = (displaced row.state row.pending).1;
   };
-  out = record { send = Some (record { aim = One from; what = AckOf s s }); reply = given_up row.state row.pending s };
+  out = record { send = Some (record { aim = One from; what = What.Ack s s }); reply = given_up row.state row.pending s };
 }
 -- stamp equal: ACK with top equal to the stamp, nothing changes
-on_inv_at Equal row from s kind content = sends row (One from) (AckOf s s)
+on_inv_at Equal row from s kind content = sends row (One from) (What.Ack s s)
 -- stamp lower, kind Write: ACK of the letter's stamp with top the row's stamp
-on_inv_at Greater row from s Plain content = sends row (One from) (AckOf s row.stamp)
+on_inv_at Greater row from s Kind.Write content = sends row (One from) (What.Ack s row.stamp)
 -- stamp lower, kind Rmw: INV of the row's own stamp, kind and content, to the sender
-on_inv_at Greater row from s Rmw content = sends row (One from) InvRow
+on_inv_at Greater row from s Kind.Rmw content = sends row (One from) What.InvRow
 
 abbrev pub on_inv : Row → NodeId → Stamp → Kind → Option Content → Done
 on_inv row from s kind content = on_inv_at (nat_cmp (tag_of row.stamp) (tag_of s)) row from s kind content
@@ -202,7 +202,7 @@ on_val row s = on_val_at (tag_of row.stamp == tag_of s) row
 
 -- RESEND, a pending update: INV of the pending to each other that is not noted
 abbrev pub resend_at : Option Pending → Row → Done
-resend_at (Some p) row = sends row NotAcked InvPending
+resend_at (Some p) row = sends row NotAcked What.InvPending
 resend_at None row = still row
 
 abbrev pub resend : Row → Done

@@ -15,7 +15,7 @@ use Rattle.hk_node.specs.Node.{NodeState}
 use Rattle.hk_node.specs.Calls.{lease_end}
 use Rattle.hk_node.specs.Stepped.{replies_of}
 use Rattle.hk_node.specs.Steps.{node_step}
-use Rattle.hk_node.specs.Sound.{IsNode, IsEvent}
+use Rattle.hk_node.specs.Sound.{IsNode, IsNodeEvent}
 use Rattle.hk_node.specs.Laws.{IsNoCall}
 use Rattle.hk_snap.specs.declared.rule.Publication.{Publication}
 use Rattle.hk_snap.specs.Snapshots.{cell_of}
@@ -158,7 +158,7 @@ called_at_once s t ticket call key op event replies ask asks kept new answer sam
 pub called_letters : (s : ShardState) (call : CallNo) (key : List ℕ) (op : Op) (event : NodeEvent) (letters : List Letter) → IsShard s → event ≡ Call call key op
     → letters ≡ (node_step s.part event).letters → AllByRecursion IsLetter letters
 called_letters s call key op event letters is same given =
-    subst (AllByRecursion IsLetter) (sym given) (letters_in_range s.part event (part_is_node s is) (subst IsEvent (sym same) tt))
+    subst (AllByRecursion IsLetter) (sym given) (letters_in_range s.part event (part_is_node s is) (subst IsNodeEvent (sym same) tt))
 
 -- ---- the keys of open rows
 -- a step that is reported is followed
@@ -184,7 +184,7 @@ module _ (places : List NodeNames) (node : NodeId) (number skew : ℕ) where
   abbrev locked : ShardState → List (CallNo × Ask) → OpenState → LockedState
   locked shard asks keys = record { node = node; number = number; skew = skew; shard = shard; asks = asks; open_keys = keys }
 
-  moved : (s t : ShardState) (ticket : ℕ) (event : NodeEvent) (asks new : List (CallNo × Ask)) (keys followed : OpenState) → IsShard s → IsEvent event → IsApplied s ticket event t
+  moved : (s t : ShardState) (ticket : ℕ) (event : NodeEvent) (asks new : List (CallNo × Ask)) (keys followed : OpenState) → IsShard s → IsNodeEvent event → IsApplied s ticket event t
       → IsLocked places (locked s asks keys) → Follows ticket s.part.rows t.part.rows keys followed → IsHeld t.part.rows (lists_in t.ends) t.last (asks_in new)
       → IsLocked places (locked t new followed)
   moved s t ticket event asks new keys followed is within applied old follow held = record {
@@ -197,7 +197,7 @@ module _ (places : List NodeNames) (node : NodeId) (number skew : ℕ) where
   }
 
   -- a step that is no call
-  pub applied_locked : (s t : ShardState) (ticket : ℕ) (event : NodeEvent) (asks new : List (CallNo × Ask)) (keys followed : OpenState) → IsShard s → s.last < ticket → IsEvent event
+  pub applied_locked : (s t : ShardState) (ticket : ℕ) (event : NodeEvent) (asks new : List (CallNo × Ask)) (keys followed : OpenState) → IsShard s → s.last < ticket → IsNodeEvent event
       → IsNoCall event → IsApplied s ticket event t → Delivers (replies_of (node_step s.part event)) (asks_in asks) (asks_in new) → Follows ticket s.part.rows t.part.rows keys followed
       → IsLocked places (locked s asks keys) → IsLocked places (locked t new followed)
   applied_locked s t ticket event asks new keys followed is up within no_call applied delivered follow old =

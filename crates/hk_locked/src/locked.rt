@@ -5,7 +5,7 @@ ghost use Rattle.std.specs.Option.{option_copied, IfSome};
 ghost use Rattle.std.specs.List.{AllByRecursion};
 ghost use Rattle.hk_base.specs.Range.{IsLetter};
 ghost use Rattle.hk_base.specs.declared.time.TheConstants.{MAX_TIME};
-ghost use Rattle.hk_node.specs.Sound.{IsEvent};
+ghost use Rattle.hk_node.specs.Sound.{IsNodeEvent};
 ghost use Rattle.hk_node.specs.Outs.{IsOutOf};
 ghost use Rattle.hk_node.specs.Laws.{IsNoCall};
 ghost use Rattle.hk_shard.specs.Shard.{IsShard, IsApplied};
@@ -190,7 +190,7 @@ fn step<R: Wait>(
     event: NodeEvent,
 ) -> Result<NodeOut, Memory>
     requires ticket { shard.old.last < ticket }
-    requires event { IsEvent event }
+    requires event { IsNodeEvent event }
     ensures out { IfOk result (λ out. IsOutOf out shard.old.part (node_step shard.old.part event)) }
     ensures applied { OnOk result (IsApplied shard.old ticket event shard.new) }
     ensures followed { OnOk result (Follows ticket shard.old.part.rows shard.new.part.rows keys.old keys.new) }
@@ -326,7 +326,7 @@ impl<F: Completion + Copy + Drop, P: Places> LockedShard<F, P> {
         event: NodeEvent,
     ) -> Result<Given, Memory>
         requires ticket { self.old.shard.last < ticket }
-        requires event { IsEvent event }
+        requires event { IsNodeEvent event }
         requires no_call { IsNoCall event }
         ensures letters { IfOk result (λ given. AllByRecursion IsLetter given.letters) }
         ensures applied { OnOk result (IsApplied self.old.shard ticket event self.new.shard) }

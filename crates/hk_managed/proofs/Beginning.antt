@@ -8,7 +8,7 @@ use Rattle.hk_base.specs.declared.letter.Actor.{Actor}
 use Rattle.hk_base.specs.declared.letter.Actor.TheVariants.{Manager}
 use Rattle.hk_base.specs.declared.letter.Letter.{Letter}
 use Rattle.hk_base.specs.declared.letter.Body.{Body}
-use Rattle.hk_base.specs.declared.letter.Body.TheVariants.{Activate as ActivateBody}
+use Rattle.hk_base.specs.declared.letter.Body.TheVariants as Body
 use Rattle.hk_node.specs.Node.{NodeState, epoch_in, epoch_of}
 use Rattle.hk_node.specs.Heard.{raised, has_majority}
 use Rattle.hk_node.specs.Stepped.{Stepped}
@@ -19,19 +19,19 @@ use Rattle.hk_managed.proofs.NodeSteps.{IsHeard}
 
 -- ---- letters are kept
 pub sent_on : (letters more : List Letter) (m epoch : ℕ) → HasSent letters m epoch → HasSent (letters ++ more) m epoch
-sent_on letters more m epoch h = record { view = h.view; of = h.of; under = h.under; to = h.to; sent = in_left letters more (record { epoch = h.under; from = Manager m; to = h.to; body = ActivateBody h.view }) h.sent }
+sent_on letters more m epoch h = record { view = h.view; of = h.of; under = h.under; to = h.to; sent = in_left letters more (record { epoch = h.under; from = Manager m; to = h.to; body = Body.Activate h.view }) h.sent }
 
 pub activated_on : (managers : ℕ) (letters more : List Letter) (epoch : ℕ) → IsActivated managers letters epoch → IsActivated managers (letters ++ more) epoch
 activated_on managers letters more epoch h = record { test = h.test; many = h.many; each = λ m t. sent_on letters more m epoch (h.each m t) }
 
 -- an ACTIVATE of a manager, of any addressee
-pub has_sent : (letters : List Letter) (l : Letter) (m : ℕ) (view : View) → In letters l → l.from ≡ Manager m → l.body ≡ ActivateBody view → HasSent letters m view.epoch
+pub has_sent : (letters : List Letter) (l : Letter) (m : ℕ) (view : View) → In letters l → l.from ≡ Manager m → l.body ≡ Body.Activate view → HasSent letters m view.epoch
 has_sent letters l m view h from body = record { view = view; of = refl; under = l.epoch; to = l.to; sent = at l.from l.body from body h }
   where
-    at : (f : Actor) (b : Body) → f ≡ Manager m → b ≡ ActivateBody view → In letters (record { epoch = l.epoch; from = f; to = l.to; body = b }) → In letters (record { epoch = l.epoch; from = Manager m; to = l.to; body = ActivateBody view })
+    at : (f : Actor) (b : Body) → f ≡ Manager m → b ≡ Body.Activate view → In letters (record { epoch = l.epoch; from = f; to = l.to; body = b }) → In letters (record { epoch = l.epoch; from = Manager m; to = l.to; body = Body.Activate view })
     at f b p q x = move (rw (p, q) at x)
       where
-        move : In letters (record { epoch = l.epoch; from = Manager m; to = l.to; body = ActivateBody view }) → In letters (record { epoch = l.epoch; from = Manager m; to = l.to; body = ActivateBody view })
+        move : In letters (record { epoch = l.epoch; from = Manager m; to = l.to; body = Body.Activate view }) → In letters (record { epoch = l.epoch; from = Manager m; to = l.to; body = Body.Activate view })
         move x = x
 
 -- ---- what a node keeps

@@ -10,7 +10,7 @@ use Rattle.hk_clocks.specs.Clocks.{Paces}
 use Rattle.hk_clocks.specs.Steps.{ClockEvent, greatest_clock}
 use Rattle.hk_clocks.specs.Steps.ClockEvent.{Start, Stop, Tick, TickAll}
 use Rattle.hk_clocks.specs.Runs.{IsEvent}
-use Rattle.hk_manager.specs.Steps.{ticks as manager_ticks}
+use Rattle.hk_manager.specs.Steps.{manager_ticks}
 use Rattle.hk_node.specs.Steps.{ticks}
 use Rattle.hk_earned.specs.Machine.{Setting, State, MayBegin, started_after, next}
 use Rattle.hk_earned.specs.Machine.Event.{Clock}

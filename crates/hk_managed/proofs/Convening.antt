@@ -7,7 +7,7 @@ use Rattle.hk_base.specs.declared.letter.Letter.{Letter}
 use Rattle.hk_paxos.specs.Run.{In, put}
 use Rattle.hk_manager.specs.declared.event.ManagerEvent.{ManagerEvent}
 use Rattle.hk_manager.specs.Manager.{ManagerState}
-use Rattle.hk_manager.specs.Steps.{Stepped as ManagerStepped, manager_step as step_of}
+use Rattle.hk_manager.specs.Steps.{ManagerStepped, manager_step as step_of}
 use Rattle.hk_council.specs.Council.{Council, Event as Move, IsNode, WasSent, learned_with, last_epoch, stepped_by, next, MayHappen, IsRun, last_council, start}
 use Rattle.hk_council.specs.Council.Event.{Step, Post, Stop}
 use Rattle.hk_council.specs.Agreed.{IsAgreed, Agreement}

@@ -7,18 +7,18 @@ use Rattle.hk_base.specs.declared.letter.Actor.{Actor}
 use Rattle.hk_base.specs.declared.letter.Actor.TheVariants.{Node, Manager}
 use Rattle.hk_base.specs.declared.letter.Letter.{Letter}
 use Rattle.hk_base.specs.declared.letter.Body.{Body}
-use Rattle.hk_base.specs.declared.letter.Body.TheVariants.{Inv, Ack, Val, CopyAsk, CopyGive, LeaseAsk, LeaseGive, Prepare, Promise, Accept, Accepted as AcceptedBody, Chosen, Activate as ActivateBody}
+use Rattle.hk_base.specs.declared.letter.Body.TheVariants as Body
 use Rattle.hk_key.specs.Table.{resend}
 use Rattle.hk_clocks.specs.declared.fault.ClockFault.{ClockFault}
 use Rattle.hk_clocks.specs.Clocks.{ClockState}
 use Rattle.hk_clocks.specs.Steps.{clock_step, greatest_clock}
-use Rattle.hk_clocks.specs.Steps.ClockEvent.{Start as ClockStart, Stop as ClockStop, Tick as ClockTick, TickAll as ClockTickAll}
+use Rattle.hk_clocks.specs.Steps.{ClockEvent}
 use Rattle.hk_paxos.specs.Run.{In}
 use Rattle.hk_manager.specs.declared.event.ManagerEvent.{ManagerEvent}
-use Rattle.hk_manager.specs.declared.event.ManagerEvent.TheVariants.{Propose as Proposal, Receive as Receipt, Activate as Activation, Tick as ManagerTick}
+use Rattle.hk_manager.specs.declared.event.ManagerEvent.TheVariants as ManagerEvent
 use Rattle.hk_manager.specs.declared.fault.ManagerFault.{ManagerFault}
 use Rattle.hk_manager.specs.Manager.{ManagerState}
-use Rattle.hk_manager.specs.Steps.{Stepped as ManagerStepped, manager_step as step_of, ticks as manager_ticks}
+use Rattle.hk_manager.specs.Steps.{ManagerStepped, manager_step as step_of, manager_ticks}
 use Rattle.hk_council.specs.Council.{Council, WasSent}
 use Rattle.hk_node.specs.Rows.{find_row}
 use Rattle.hk_node.specs.Node.{NodeState, epoch_of, is_other}
@@ -43,19 +43,19 @@ use Rattle.hk_managed.proofs.Ticking.{no_news, all_has}
 
 -- ---- a node's letters are in its own name
 heard_nodes : (body : Body) (x : NodeState) (m : ℕ) → FromNodes (heard body x m).letters
-heard_nodes (LeaseGive end) x m = tt
-heard_nodes (ActivateBody view) x m = (activated_heard x m view).nodes
-heard_nodes (Inv k s kind content) x m = tt
-heard_nodes (Ack k s top) x m = tt
-heard_nodes (Val k s) x m = tt
-heard_nodes (CopyAsk after room) x m = tt
-heard_nodes (CopyGive after done items) x m = tt
-heard_nodes (LeaseAsk asked) x m = tt
-heard_nodes (Prepare ballot) x m = tt
-heard_nodes (Promise ballot vote) x m = tt
-heard_nodes (Accept ballot view) x m = tt
-heard_nodes (AcceptedBody ballot) x m = tt
-heard_nodes (Chosen view) x m = tt
+heard_nodes (Body.LeaseGive end) x m = tt
+heard_nodes (Body.Activate view) x m = (activated_heard x m view).nodes
+heard_nodes (Body.Inv k s kind content) x m = tt
+heard_nodes (Body.Ack k s top) x m = tt
+heard_nodes (Body.Val k s) x m = tt
+heard_nodes (Body.CopyAsk after room) x m = tt
+heard_nodes (Body.CopyGive after done items) x m = tt
+heard_nodes (Body.LeaseAsk asked) x m = tt
+heard_nodes (Body.Prepare ballot) x m = tt
+heard_nodes (Body.Promise ballot vote) x m = tt
+heard_nodes (Body.Accept ballot view) x m = tt
+heard_nodes (Body.Accepted ballot) x m = tt
+heard_nodes (Body.Chosen view) x m = tt
 
 given_nodes : (x : NodeState) (s : Stepped) (b : Bool) → FromNodes s.letters → FromNodes (cond b s (idle x)).letters
 given_nodes x s true h = h
@@ -69,7 +69,7 @@ receives_nodes x l = by_sender l.from
     by_sender (Node n) = given_nodes x (received l.body x n) (is_addressed x l.to && (nat_eq l.epoch (epoch_of x) && is_other x n)) (received_quiet l.body x n).nodes
 
 asks_nodes : (x : NodeState) (m : ℕ) → FromNodes (asks_lease x m).letters
-asks_nodes x m = given_nodes x (record { node = x; letters = record { epoch = epoch_of x; from = Node x.id; to = Manager m; body = LeaseAsk x.clock } ∷ []; told = []; installed = None }) (nat_lt m x.managers) (tt, tt)
+asks_nodes x m = given_nodes x (record { node = x; letters = record { epoch = epoch_of x; from = Node x.id; to = Manager m; body = Body.LeaseAsk x.clock } ∷ []; told = []; installed = None }) (nat_lt m x.managers) (tt, tt)
 
 -- a letter of this number was sent
 pub sent_at : (n : ℕ) (letters : List Letter) (l : Letter) → numbered n letters ≡ Some l → In letters l
@@ -114,7 +114,7 @@ module _ (w : WorldState) (h : HasCouncil w) (council : IsCouncil w) (some : 1 �
   by_manager_tick to m g at (Ok clocks) e =
       let then_world : WorldState = record w { managers = put_manager m (managing (manager_ticks g to).manager) w.managers; paces = clocks.paces } in
       goal_of (record { world = then_world; told = []; shown = nothing }) (manager_ticked_by (Ok clocks) w m to g) refl e
-      (step_has w h m g at (ManagerTick to) (manager_ticks g to) then_world (λ d is. tt) refl refl (sym (append-nil w.letters)) (sym (no_news w council m (managing g) at)))
+      (step_has w h m g at (ManagerEvent.Tick to) (manager_ticks g to) then_world (λ d is. tt) refl refl (sym (append-nil w.letters)) (sym (no_news w council m (managing g) at)))
   by_manager_tick to m g at (Err fault) e = absurd cc
 
   by_all : (to : ℕ) (r : Result ClockState ClockFault) → all_ticked_by r w to ≡ Ok a → Goal
@@ -125,36 +125,36 @@ module _ (w : WorldState) (h : HasCouncil w) (council : IsCouncil w) (some : 1 �
 
   by_letter : (n : ℕ) (o : Option Letter) → numbered n w.letters ≡ o → takes w o ≡ Ok a → Goal
   by_letter n None found e = absurd cc
-  by_letter n (Some l) found e = actor_step Goal w a l.to (λ id node. acts w id node (receives node l)) (λ m g. manager_acts w m (step_of g (Receipt l)))
+  by_letter n (Some l) found e = actor_step Goal w a l.to (λ id node. acts w id node (receives node l)) (λ m g. manager_acts w m (step_of g (ManagerEvent.Receive l)))
       (λ id x to at e. by_node id x (receives x l) (receives_nodes x l) e)
-      (λ m g to at e. by_step m g at (Receipt l) (λ d is. subst (λ (letters : List Letter). In letters l) (sym is.sent) (sent_at n w.letters l found)) (step_of g (Receipt l)) refl e) e
+      (λ m g to at e. by_step m g at (ManagerEvent.Receive l) (λ d is. subst (λ (letters : List Letter). In letters l) (sym is.sent) (sent_at n w.letters l found)) (step_of g (ManagerEvent.Receive l)) refl e) e
 
   by_start : (id : NodeId) (o : Option Process) → starts_at o w id ≡ Ok a → Goal
   by_start id (Some p) e = absurd cc
   by_start id None e = by_member (may_join w id) e
     where
-      by_member : (b : Bool) → cond b (aside (record w { processes = put_process id (joining w id) w.processes; paces = paces_by w (ClockStart (Node id) (greatest_clock 1 w.paces)) }) nothing) (Err NotMember) ≡ Ok a → Goal
+      by_member : (b : Bool) → cond b (aside (record w { processes = put_process id (joining w id) w.processes; paces = paces_by w (ClockEvent.Start (Node id) (greatest_clock 1 w.paces)) }) nothing) (Err NotMember) ≡ Ok a → Goal
       by_member true e =
-          let then_world : WorldState = record w { processes = put_process id (joining w id) w.processes; paces = paces_by w (ClockStart (Node id) (greatest_clock 1 w.paces)) } in
+          let then_world : WorldState = record w { processes = put_process id (joining w id) w.processes; paces = paces_by w (ClockEvent.Start (Node id) (greatest_clock 1 w.paces)) } in
           goal_of (record { world = then_world; told = []; shown = nothing }) (aside then_world nothing) refl e (aside_has w h then_world refl refl refl)
       by_member false e = absurd cc
 
   by_crash : (id : NodeId) (x : NodeState) → crashes_at w id x ≡ Ok a → Goal
   by_crash id x e =
-      let then_world : WorldState = record w { processes = put_process id (record { node = x; crashed = true }) w.processes; paces = paces_by w (ClockStop (Node id)) } in
+      let then_world : WorldState = record w { processes = put_process id (record { node = x; crashed = true }) w.processes; paces = paces_by w (ClockEvent.Stop (Node id)) } in
       goal_of (record { world = then_world; told = []; shown = nothing }) (crashes_at w id x) refl e (aside_has w h then_world refl refl refl)
 
   by_manager_crash : (m : ℕ) (g : ManagerState) → manager_at m w.managers ≡ Some (managing g) → manager_crashes_at w m g ≡ Ok a → Goal
   by_manager_crash m g at e =
-      let then_world : WorldState = record w { managers = put_manager m (record { manager = g; crashed = true }) w.managers; paces = paces_by w (ClockStop (Manager m)) } in
+      let then_world : WorldState = record w { managers = put_manager m (record { manager = g; crashed = true }) w.managers; paces = paces_by w (ClockEvent.Stop (Manager m)) } in
       goal_of (record { world = then_world; told = []; shown = nothing }) (manager_crashes_at w m g) refl e (stop_has w h m g at then_world refl refl refl)
 
   pub council_kept : (event : Event) → world_step w event ≡ Ok a → Goal
   council_kept (Call id key op) e = node_step Goal w a id (calls_at w id key op) (λ x at e. by_call id x key op e) e
   council_kept (Take n) e = by_letter n (numbered n w.letters) refl e
   council_kept (Tick actor to) e = actor_step Goal w a actor (ticks_at w to) (manager_ticks_at w to)
-      (λ id x q at e. by_tick to id x (clock_step (clocks_of w) (ClockTick (Node id) to)) e) (λ m g q at e. by_manager_tick to m g at (clock_step (clocks_of w) (ClockTick (Manager m) to)) e) e
-  council_kept (TickAll to) e = by_all to (clock_step (clocks_of w) (ClockTickAll to)) e
+      (λ id x q at e. by_tick to id x (clock_step (clocks_of w) (ClockEvent.Tick (Node id) to)) e) (λ m g q at e. by_manager_tick to m g at (clock_step (clocks_of w) (ClockEvent.Tick (Manager m) to)) e) e
+  council_kept (TickAll to) e = by_all to (clock_step (clocks_of w) (ClockEvent.TickAll to)) e
   council_kept (Crash actor) e = actor_step Goal w a actor (crashes_at w) (manager_crashes_at w) (λ id x q at e. by_crash id x e) (λ m g q at e. by_manager_crash m g at e) e
   council_kept (Resend id key) e = node_step Goal w a id (λ node. acts w id node (resent node key)) (λ x at e. by_node id x (resent x key) (found_quiet x key resend (find_row key x.rows)).nodes e) e
   council_kept (Replay id key) e = node_step Goal w a id (λ node. acts w id node (replayed node key)) (λ x at e. by_node id x (replayed x key) (replayed_quiet x key).nodes e) e
@@ -164,5 +164,5 @@ module _ (w : WorldState) (h : HasCouncil w) (council : IsCouncil w) (some : 1 �
   council_kept (Install id epoch) e = not_told Goal w a w.managers (live w id (λ node. installs_at (numbered epoch w.views) w id node)) some e
   council_kept (Lease id end) e = not_told Goal w a w.managers (live w id (leases_at w id end)) some e
   council_kept (AskLease id m) e = node_step Goal w a id (λ node. acts w id node (asks_lease node m)) (λ x at e. by_node id x (asks_lease x m) (asks_nodes x m) e) e
-  council_kept (Propose m base change) e = manager_step Goal w a m (λ g. manager_acts w m (step_of g (Proposal base change))) (λ g at e. by_step m g at (Proposal base change) (λ d is. tt) (step_of g (Proposal base change)) refl e) e
-  council_kept (Activate m) e = manager_step Goal w a m (λ g. manager_acts w m (step_of g Activation)) (λ g at e. by_step m g at Activation (λ d is. tt) (step_of g Activation) refl e) e
+  council_kept (Propose m base change) e = manager_step Goal w a m (λ g. manager_acts w m (step_of g (ManagerEvent.Propose base change))) (λ g at e. by_step m g at (ManagerEvent.Propose base change) (λ d is. tt) (step_of g (ManagerEvent.Propose base change)) refl e) e
+  council_kept (Activate m) e = manager_step Goal w a m (λ g. manager_acts w m (step_of g ManagerEvent.Activate)) (λ g at e. by_step m g at ManagerEvent.Activate (λ d is. tt) (step_of g ManagerEvent.Activate) refl e) e

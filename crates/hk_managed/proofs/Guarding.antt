@@ -3,7 +3,7 @@ use Rattle.std.proofs.Common.{◌≡◌, ◌≤◌, ℕ, length, true, false, Op
 use Rattle.hk_base.specs.declared.stamp.NodeId.{NodeId}
 use Rattle.hk_base.specs.declared.view.View.{View}
 use Rattle.hk_base.specs.declared.letter.Actor.TheVariants.{Node, Manager}
-use Rattle.hk_base.specs.declared.letter.Body.TheVariants.{Activate as ActivateBody}
+use Rattle.hk_base.specs.declared.letter.Body.TheVariants as Body
 use Rattle.hk_node.specs.Node.{NodeState, epoch_of, is_member}
 use Rattle.hk_earned.specs.Machine.{In}
 use Rattle.hk_earned.specs.Earned.{IsLeftOut}
@@ -23,7 +23,7 @@ use Rattle.hk_managed.proofs.Viewing.{ViewIn, AllViews}
 module _ (w : WorldState) (sound : IsWorld w) where
   -- an ACTIVATE of the world is one of the state
   activate_stands : (e : IsEarned w) (m epoch : ℕ) → HasSent w.letters m epoch → In e.state.activates (record { manager = m; epoch = epoch })
-  activate_stands e m epoch h = subst (λ (k : ℕ). In e.state.activates (record { manager = m; epoch = k })) h.of (e.mirrors.letters (record { epoch = h.under; from = Manager m; to = h.to; body = ActivateBody h.view }) h.sent)
+  activate_stands e m epoch h = subst (λ (k : ℕ). In e.state.activates (record { manager = m; epoch = k })) h.of (e.mirrors.letters (record { epoch = h.under; from = Manager m; to = h.to; body = Body.Activate h.view }) h.sent)
 
   pub activated_ended : IsEarned w → (epoch : ℕ) → IsActivated (length w.managers) w.letters epoch → Ended w epoch
   activated_ended e epoch a n x at lower before view low is_before is_view was out =

@@ -12,19 +12,19 @@ use Rattle.hk_base.specs.declared.letter.Actor.{Actor}
 use Rattle.hk_base.specs.declared.letter.Actor.TheVariants.{Node, Manager}
 use Rattle.hk_base.specs.declared.letter.Letter.{Letter}
 use Rattle.hk_base.specs.declared.letter.Body.{Body}
-use Rattle.hk_base.specs.declared.letter.Body.TheVariants.{Inv, Ack, Val, CopyAsk, CopyGive, LeaseAsk, LeaseGive, Prepare, Promise, Accept, Accepted as AcceptedBody, Chosen, Activate as ActivateBody}
+use Rattle.hk_base.specs.declared.letter.Body.TheVariants as Body
 use Rattle.hk_lease.specs.declared.grants.NotPast.{NotPast as StillRuns}
 use Rattle.hk_lease.specs.Past.{past_answer}
 use Rattle.hk_key.specs.Table.{resend}
 use Rattle.hk_clocks.specs.declared.fault.ClockFault.{ClockFault}
 use Rattle.hk_clocks.specs.Clocks.{ClockState, Paces}
 use Rattle.hk_clocks.specs.Steps.{clock_step, greatest_clock}
-use Rattle.hk_clocks.specs.Steps.ClockEvent.{Start as ClockStart, Stop as ClockStop, Tick as ClockTick, TickAll as ClockTickAll}
-use Rattle.hk_manager.specs.declared.event.ManagerEvent.TheVariants.{Propose as Proposal, Receive as Receipt, Activate as Activation}
+use Rattle.hk_clocks.specs.Steps.{ClockEvent}
+use Rattle.hk_manager.specs.declared.event.ManagerEvent.TheVariants as ManagerEvent
 use Rattle.hk_manager.specs.declared.fault.ManagerFault.{ManagerFault}
 use Rattle.hk_manager.specs.Manager.{ManagerState}
 use Rattle.hk_manager.specs.Sends.{to_members}
-use Rattle.hk_manager.specs.Steps.{Stepped as ManagerStepped, sends, receives as manager_receives, proposes, activates_by, manager_step as step_of, ticks as manager_ticks}
+use Rattle.hk_manager.specs.Steps.{ManagerStepped, sends, receives as manager_receives, proposes, activates_by, manager_step as step_of, manager_ticks}
 use Rattle.hk_node.specs.Rows.{find_row}
 use Rattle.hk_node.specs.Node.{NodeState, epoch_in, epoch_of, is_other}
 use Rattle.hk_node.specs.Stepped.{Stepped, idle}
@@ -141,7 +141,7 @@ module _ (w : WorldState) (sound : IsWorld w) (council : IsCouncil w) (kept : Is
     }
       where
         asks : Stepped
-        asks = record { node = x; letters = record { epoch = epoch_of x; from = Node x.id; to = Manager m; body = LeaseAsk x.clock } ∷ []; told = []; installed = None }
+        asks = record { node = x; letters = record { epoch = epoch_of x; from = Node x.id; to = Manager m; body = Body.LeaseAsk x.clock } ∷ []; told = []; installed = None }
 
         by_there : (b : Bool) → length (cond b asks (idle x)).node.activated ≡ length w.managers → HasHeard (length w.managers) (w.letters ++ (cond b asks (idle x)).letters) (cond b asks (idle x)).node
         by_there true l = quiet_heard (length w.managers) w.letters x here asks l refl refl
@@ -149,15 +149,15 @@ module _ (w : WorldState) (sound : IsWorld w) (council : IsCouncil w) (kept : Is
 
     -- a letter that was sent to it
     module _ (l : Letter) (sent : In w.letters l) (to : l.to ≡ Node id) where
-      give_goal : (m end : ℕ) → l.from ≡ Manager m → l.body ≡ LeaseGive end → StepGoal (heard (LeaseGive end) x m)
+      give_goal : (m end : ℕ) → l.from ≡ Manager m → l.body ≡ Body.LeaseGive end → StepGoal (heard (Body.LeaseGive end) x m)
       give_goal m end from body then_sound = record {
         some = kept.some;
         earned = give_earned w sound council kept.earned id x at calls m end (stands_give kept.earned.state l id m end from to body (kept.earned.mirrors.letters l sent));
-        heard = put_heard (length w.managers) w.letters [] w.processes id (alive (heard (LeaseGive end) x m).node) kept.heard
-            (quiet_heard (length w.managers) w.letters x here (heard (LeaseGive end) x m) (long (heard (LeaseGive end) x m) then_sound) refl refl);
+        heard = put_heard (length w.managers) w.letters [] w.processes id (alive (heard (Body.LeaseGive end) x m).node) kept.heard
+            (quiet_heard (length w.managers) w.letters x here (heard (Body.LeaseGive end) x m) (long (heard (Body.LeaseGive end) x m) then_sound) refl refl);
       }
 
-      activate_goal : (m : ℕ) (view : View) → l.from ≡ Manager m → l.body ≡ ActivateBody view → StepGoal (activated_by x m view)
+      activate_goal : (m : ℕ) (view : View) → l.from ≡ Manager m → l.body ≡ Body.Activate view → StepGoal (activated_by x m view)
       activate_goal m view from body then_sound =
           let is = activated_heard x m view in
           record {
@@ -168,19 +168,19 @@ module _ (w : WorldState) (sound : IsWorld w) (council : IsCouncil w) (kept : Is
           }
 
       heard_goal : (body : Body) (m : ℕ) → l.from ≡ Manager m → l.body ≡ body → StepGoal (heard body x m)
-      heard_goal (LeaseGive end) m from is = give_goal m end from is
-      heard_goal (ActivateBody view) m from is = activate_goal m view from is
-      heard_goal (Inv k s kind content) m from is = quiet_goal (idle x) (idle_quiet x)
-      heard_goal (Ack k s top) m from is = quiet_goal (idle x) (idle_quiet x)
-      heard_goal (Val k s) m from is = quiet_goal (idle x) (idle_quiet x)
-      heard_goal (CopyAsk after room) m from is = quiet_goal (idle x) (idle_quiet x)
-      heard_goal (CopyGive after done items) m from is = quiet_goal (idle x) (idle_quiet x)
-      heard_goal (LeaseAsk asked) m from is = quiet_goal (idle x) (idle_quiet x)
-      heard_goal (Prepare ballot) m from is = quiet_goal (idle x) (idle_quiet x)
-      heard_goal (Promise ballot vote) m from is = quiet_goal (idle x) (idle_quiet x)
-      heard_goal (Accept ballot view) m from is = quiet_goal (idle x) (idle_quiet x)
-      heard_goal (AcceptedBody ballot) m from is = quiet_goal (idle x) (idle_quiet x)
-      heard_goal (Chosen view) m from is = quiet_goal (idle x) (idle_quiet x)
+      heard_goal (Body.LeaseGive end) m from is = give_goal m end from is
+      heard_goal (Body.Activate view) m from is = activate_goal m view from is
+      heard_goal (Body.Inv k s kind content) m from is = quiet_goal (idle x) (idle_quiet x)
+      heard_goal (Body.Ack k s top) m from is = quiet_goal (idle x) (idle_quiet x)
+      heard_goal (Body.Val k s) m from is = quiet_goal (idle x) (idle_quiet x)
+      heard_goal (Body.CopyAsk after room) m from is = quiet_goal (idle x) (idle_quiet x)
+      heard_goal (Body.CopyGive after done items) m from is = quiet_goal (idle x) (idle_quiet x)
+      heard_goal (Body.LeaseAsk asked) m from is = quiet_goal (idle x) (idle_quiet x)
+      heard_goal (Body.Prepare ballot) m from is = quiet_goal (idle x) (idle_quiet x)
+      heard_goal (Body.Promise ballot vote) m from is = quiet_goal (idle x) (idle_quiet x)
+      heard_goal (Body.Accept ballot view) m from is = quiet_goal (idle x) (idle_quiet x)
+      heard_goal (Body.Accepted ballot) m from is = quiet_goal (idle x) (idle_quiet x)
+      heard_goal (Body.Chosen view) m from is = quiet_goal (idle x) (idle_quiet x)
 
       receives_goal : StepGoal (receives x l)
       receives_goal = by_sender l.from refl
@@ -215,18 +215,18 @@ module _ (w : WorldState) (sound : IsWorld w) (council : IsCouncil w) (kept : Is
   manager_goal m g s earned a e = goal_of (record { world = with_manager_step w m s; told = []; shown = manager_shown w m s }) a (manager_acts w m (Ok s)) refl e
       (λ then_sound then_council. record { some = some_still (put_manager m (managing s.manager) w.managers) (length-set w.managers m (managing s.manager)); earned = earned then_sound then_council; heard = manager_heard m (managing s.manager) s.letters })
 
-  propose_goal : (m base : ℕ) (change : Change) (g : ManagerState) → manager_at m w.managers ≡ Some (managing g) → (a : Accepted) → manager_acts w m (step_of g (Proposal base change)) ≡ Ok a → Goal a
+  propose_goal : (m base : ℕ) (change : Change) (g : ManagerState) → manager_at m w.managers ≡ Some (managing g) → (a : Accepted) → manager_acts w m (step_of g (ManagerEvent.Propose base change)) ≡ Ok a → Goal a
   propose_goal m base change g at a e = by_result (proposes g base change) refl e
     where
       by_result : (r : Result ManagerStepped ManagerFault) → proposes g base change ≡ r → manager_acts w m r ≡ Ok a → Goal a
       by_result (Ok s) is e = manager_goal m g s (λ then_sound then_council. learned_earned w sound council kept.earned m g at s then_sound then_council (proposed g base change s is)) a e
       by_result (Err fault) is e = absurd cc
 
-  activate_step_goal : (m : ℕ) (g : ManagerState) → manager_at m w.managers ≡ Some (managing g) → (a : Accepted) → manager_acts w m (step_of g Activation) ≡ Ok a → Goal a
+  activate_step_goal : (m : ℕ) (g : ManagerState) → manager_at m w.managers ≡ Some (managing g) → (a : Accepted) → manager_acts w m (step_of g ManagerEvent.Activate) ≡ Ok a → Goal a
   activate_step_goal m g at a e = by_past (past_answer g.untils g.held g.clock) refl e
     where
       by_past : (r : Result Unit StillRuns) → past_answer g.untils g.held g.clock ≡ r → manager_acts w m (activates_by r g) ≡ Ok a → Goal a
-      by_past (Ok u) is e = manager_goal m g (sends g (to_members g g.held.epoch (ActivateBody g.held))) (λ then_sound then_council. activates_earned w sound council kept.earned m g at is) a e
+      by_past (Ok u) is e = manager_goal m g (sends g (to_members g g.held.epoch (Body.Activate g.held))) (λ then_sound then_council. activates_earned w sound council kept.earned m g at is) a e
       by_past (Err running) is e = absurd cc
 
   takes_goal : (n : ℕ) (a : Accepted) → takes w (numbered n w.letters) ≡ Ok a → Goal a
@@ -234,7 +234,7 @@ module _ (w : WorldState) (sound : IsWorld w) (council : IsCouncil w) (kept : Is
     where
       by_letter : (o : Option Letter) → numbered n w.letters ≡ o → takes w o ≡ Ok a → Goal a
       by_letter None found e = absurd cc
-      by_letter (Some l) found e = actor_step (Goal a) w a l.to (λ id node. acts w id node (receives node l)) (λ m g. manager_acts w m (step_of g (Receipt l)))
+      by_letter (Some l) found e = actor_step (Goal a) w a l.to (λ id node. acts w id node (receives node l)) (λ m g. manager_acts w m (step_of g (ManagerEvent.Receive l)))
           (λ id x to at e. acts_goal id x at (receives x l) (receives_goal id x at w.calls l (letter_in n w.letters l found) to) a e)
           (λ m g to at e. manager_goal m g (manager_receives g l) (receipt_earned w sound council kept.earned m g at l (letter_in n w.letters l found) to) a e) e
 
@@ -248,9 +248,9 @@ module _ (w : WorldState) (sound : IsWorld w) (council : IsCouncil w) (kept : Is
   no_letters ps paces h = subst (λ (letters : List Letter). IsEarned (record w { processes = ps; managers = w.managers; paces = paces; letters = letters })) (sym (append-nil w.letters)) h
 
   tick_goal : (to : ℕ) → to ≤ MAX_TIME → (id : NodeId) (x : NodeState) → process_at id w.processes ≡ Some (alive x) → (a : Accepted) → ticks_at w to id x ≡ Ok a → Goal a
-  tick_goal to within id x at a e = by_result (clock_step (clocks_of w) (ClockTick (Node id) to)) refl e
+  tick_goal to within id x at a e = by_result (clock_step (clocks_of w) (ClockEvent.Tick (Node id) to)) refl e
     where
-      by_result : (r : Result ClockState ClockFault) → clock_step (clocks_of w) (ClockTick (Node id) to) ≡ r → ticked_by r w id to x ≡ Ok a → Goal a
+      by_result : (r : Result ClockState ClockFault) → clock_step (clocks_of w) (ClockEvent.Tick (Node id) to) ≡ r → ticked_by r w id to x ≡ Ok a → Goal a
       by_result (Ok clocks) is e =
           let s : Stepped = ticks x to in
           let next : WorldState = record (with_step w id s) { paces = clocks.paces } in
@@ -258,37 +258,37 @@ module _ (w : WorldState) (sound : IsWorld w) (council : IsCouncil w) (kept : Is
           (λ then_sound then_council. record {
             some = kept.some;
             earned = no_letters (put_process id (alive s.node) w.processes) clocks.paces
-                (node_clocked w sound council kept.earned (ClockTick (Node id) to) within tt id (alive x) (alive s.node) clocks.paces at refl refl (paces_made w (ClockTick (Node id) to) clocks is));
+                (node_clocked w sound council kept.earned (ClockEvent.Tick (Node id) to) within tt id (alive x) (alive s.node) clocks.paces at refl refl (paces_made w (ClockEvent.Tick (Node id) to) clocks is));
             heard = put_heard (length w.managers) w.letters [] w.processes id (alive s.node) kept.heard
                 (heard_on (length w.managers) w.letters [] s.node (as_heard (length w.managers) w.letters x s.node refl refl (here id x at w.calls)));
           })
       by_result (Err fault) is e = absurd cc
 
   manager_tick_goal : (to : ℕ) → to ≤ MAX_TIME → (m : ℕ) (g : ManagerState) → manager_at m w.managers ≡ Some (managing g) → (a : Accepted) → manager_ticks_at w to m g ≡ Ok a → Goal a
-  manager_tick_goal to within m g at a e = by_result (clock_step (clocks_of w) (ClockTick (Manager m) to)) refl e
+  manager_tick_goal to within m g at a e = by_result (clock_step (clocks_of w) (ClockEvent.Tick (Manager m) to)) refl e
     where
-      by_result : (r : Result ClockState ClockFault) → clock_step (clocks_of w) (ClockTick (Manager m) to) ≡ r → manager_ticked_by r w m to g ≡ Ok a → Goal a
+      by_result : (r : Result ClockState ClockFault) → clock_step (clocks_of w) (ClockEvent.Tick (Manager m) to) ≡ r → manager_ticked_by r w m to g ≡ Ok a → Goal a
       by_result (Ok clocks) is e =
           let p : ManagerProcess = managing (manager_ticks g to).manager in
           goal_of (record { world = record w { managers = put_manager m p w.managers; paces = clocks.paces }; told = []; shown = nothing }) a (manager_ticked_by (Ok clocks) w m to g) refl e
           (λ then_sound then_council. record {
             some = some_still (put_manager m p w.managers) (length-set w.managers m p);
-            earned = manager_clocked w sound council kept.earned (ClockTick (Manager m) to) within tt m (managing g) p clocks.paces at refl refl (paces_made w (ClockTick (Manager m) to) clocks is);
+            earned = manager_clocked w sound council kept.earned (ClockEvent.Tick (Manager m) to) within tt m (managing g) p clocks.paces at refl refl (paces_made w (ClockEvent.Tick (Manager m) to) clocks is);
             heard = managers_changed (put_manager m p w.managers) (length-set w.managers m p);
           })
       by_result (Err fault) is e = absurd cc
 
-  all_tick_goal : (to : ℕ) → to ≤ MAX_TIME → (a : Accepted) → all_ticked_by (clock_step (clocks_of w) (ClockTickAll to)) w to ≡ Ok a → Goal a
-  all_tick_goal to within a e = by_result (clock_step (clocks_of w) (ClockTickAll to)) refl e
+  all_tick_goal : (to : ℕ) → to ≤ MAX_TIME → (a : Accepted) → all_ticked_by (clock_step (clocks_of w) (ClockEvent.TickAll to)) w to ≡ Ok a → Goal a
+  all_tick_goal to within a e = by_result (clock_step (clocks_of w) (ClockEvent.TickAll to)) refl e
     where
-      by_result : (r : Result ClockState ClockFault) → clock_step (clocks_of w) (ClockTickAll to) ≡ r → all_ticked_by r w to ≡ Ok a → Goal a
+      by_result : (r : Result ClockState ClockFault) → clock_step (clocks_of w) (ClockEvent.TickAll to) ≡ r → all_ticked_by r w to ≡ Ok a → Goal a
       by_result (Ok clocks) is e =
           let ps : Processes = map (process_ticked to) w.processes in
           let ms : List ManagerProcess = map (manager_ticked to) w.managers in
           goal_of (record { world = record w { processes = ps; managers = ms; paces = clocks.paces }; told = []; shown = nothing }) a (all_ticked_by (Ok clocks) w to) refl e
           (λ then_sound then_council. record {
             some = some_still (map (manager_ticked to) w.managers) (length-map w.managers (manager_ticked to));
-            earned = all_clocked w sound council kept.earned (ClockTickAll to) within tt to clocks.paces (paces_made w (ClockTickAll to) clocks is);
+            earned = all_clocked w sound council kept.earned (ClockEvent.TickAll to) within tt to clocks.paces (paces_made w (ClockEvent.TickAll to) clocks is);
             heard = subst (λ (k : ℕ). AllHeard k w.letters (map (process_ticked to) w.processes)) (sym (length-map w.managers (manager_ticked to)))
                 (λ n. ticked_heard (length w.managers) w.letters to n w.processes (kept.heard n));
           })
@@ -297,20 +297,20 @@ module _ (w : WorldState) (sound : IsWorld w) (council : IsCouncil w) (kept : Is
   crash_goal : (id : NodeId) (x : NodeState) → process_at id w.processes ≡ Some (alive x) → (a : Accepted) → crashes_at w id x ≡ Ok a → Goal a
   crash_goal id x at a e =
       let p : Process = record { node = x; crashed = true } in
-      goal_of (record { world = record w { processes = put_process id p w.processes; paces = paces_by w (ClockStop (Node id)) }; told = []; shown = nothing }) a (crashes_at w id x) refl e
+      goal_of (record { world = record w { processes = put_process id p w.processes; paces = paces_by w (ClockEvent.Stop (Node id)) }; told = []; shown = nothing }) a (crashes_at w id x) refl e
       (λ then_sound then_council. record {
         some = kept.some;
-        earned = node_clocked w sound council kept.earned (ClockStop (Node id)) tt tt id (alive x) p (paces_by w (ClockStop (Node id))) at refl refl refl;
+        earned = node_clocked w sound council kept.earned (ClockEvent.Stop (Node id)) tt tt id (alive x) p (paces_by w (ClockEvent.Stop (Node id))) at refl refl refl;
         heard = put_quietly (length w.managers) w.letters w.processes id p kept.heard (here id x at w.calls);
       })
 
   manager_crash_goal : (m : ℕ) (g : ManagerState) → manager_at m w.managers ≡ Some (managing g) → (a : Accepted) → manager_crashes_at w m g ≡ Ok a → Goal a
   manager_crash_goal m g at a e =
       let p : ManagerProcess = record { manager = g; crashed = true } in
-      goal_of (record { world = record w { managers = put_manager m p w.managers; paces = paces_by w (ClockStop (Manager m)) }; told = []; shown = nothing }) a (manager_crashes_at w m g) refl e
+      goal_of (record { world = record w { managers = put_manager m p w.managers; paces = paces_by w (ClockEvent.Stop (Manager m)) }; told = []; shown = nothing }) a (manager_crashes_at w m g) refl e
       (λ then_sound then_council. record {
         some = some_still (put_manager m p w.managers) (length-set w.managers m p);
-        earned = manager_clocked w sound council kept.earned (ClockStop (Manager m)) tt tt m (managing g) p (paces_by w (ClockStop (Manager m))) at refl refl refl;
+        earned = manager_clocked w sound council kept.earned (ClockEvent.Stop (Manager m)) tt tt m (managing g) p (paces_by w (ClockEvent.Stop (Manager m))) at refl refl refl;
         heard = managers_changed (put_manager m p w.managers) (length-set w.managers m p);
       })
 
@@ -326,9 +326,9 @@ module _ (w : WorldState) (sound : IsWorld w) (council : IsCouncil w) (kept : Is
   start_goal id a e = by_process (process_at id w.processes) refl e
     where
       by_member : process_at id w.processes ≡ None → (b : Bool) →
-          cond b (aside (record w { processes = put_process id (joining w id) w.processes; paces = paces_by w (ClockStart (Node id) (greatest_clock 1 w.paces)) }) nothing) (Err NotMember) ≡ Ok a → Goal a
+          cond b (aside (record w { processes = put_process id (joining w id) w.processes; paces = paces_by w (ClockEvent.Start (Node id) (greatest_clock 1 w.paces)) }) nothing) (Err NotMember) ≡ Ok a → Goal a
       by_member at true e =
-          let next : WorldState = record w { processes = put_process id (joining w id) w.processes; paces = paces_by w (ClockStart (Node id) (greatest_clock 1 w.paces)) } in
+          let next : WorldState = record w { processes = put_process id (joining w id) w.processes; paces = paces_by w (ClockEvent.Start (Node id) (greatest_clock 1 w.paces)) } in
           goal_of (record { world = next; told = []; shown = nothing }) a (aside next nothing) refl e
           (λ then_sound then_council.
           let clock = (process_is next then_sound id (joining w id) (put_same id (joining w id) w.processes)).node.clock in
@@ -361,8 +361,8 @@ module _ (w : WorldState) (sound : IsWorld w) (council : IsCouncil w) (kept : Is
   event_goal (Install id epoch) is a e = not_told (Goal a) w a w.managers (live w id (λ node. installs_at (numbered epoch w.views) w id node)) kept.some e
   event_goal (Lease id end) is a e = not_told (Goal a) w a w.managers (live w id (leases_at w id end)) kept.some e
   event_goal (AskLease id m) is a e = node_step (Goal a) w a id (λ node. acts w id node (asks_lease node m)) (λ x at e. acts_goal id x at (asks_lease x m) (ask_goal id x at w.calls m) a e) e
-  event_goal (Propose m base change) is a e = manager_step (Goal a) w a m (λ g. manager_acts w m (step_of g (Proposal base change))) (λ g at e. propose_goal m base change g at a e) e
-  event_goal (Activate m) is a e = manager_step (Goal a) w a m (λ g. manager_acts w m (step_of g Activation)) (λ g at e. activate_step_goal m g at a e) e
+  event_goal (Propose m base change) is a e = manager_step (Goal a) w a m (λ g. manager_acts w m (step_of g (ManagerEvent.Propose base change))) (λ g at e. propose_goal m base change g at a e) e
+  event_goal (Activate m) is a e = manager_step (Goal a) w a m (λ g. manager_acts w m (step_of g ManagerEvent.Activate)) (λ g at e. activate_step_goal m g at a e) e
 
 -- what is kept is kept by each accepted event of a world with managers
 pub event_kept : (w : WorldState) → IsWorld w → IsCouncil w → (event : Event) → IsEvent event → (a : Accepted) → world_step w event ≡ Ok a → IsWorld a.world → IsCouncil a.world → IsKept w → IsKept a.world

@@ -7,14 +7,14 @@ use Rattle.hk_base.specs.declared.time.TheConstants.{MAX_TIME}
 use Rattle.hk_base.specs.declared.view.View.{View}
 use Rattle.hk_base.specs.declared.letter.Actor.TheVariants.{Node, Manager}
 use Rattle.hk_base.specs.declared.letter.Letter.{Letter}
-use Rattle.hk_base.specs.declared.letter.Body.TheVariants.{LeaseGive, Activate as ActivateBody}
+use Rattle.hk_base.specs.declared.letter.Body.TheVariants as Body
 use Rattle.hk_lease.specs.Grants.{with_grant}
 use Rattle.hk_lease.specs.Past.{is_member, past_answer}
 use Rattle.hk_lease.specs.Wait.{wait}
 use Rattle.hk_clocks.specs.Runs.{seen}
 use Rattle.hk_manager.specs.Manager.{ManagerState}
 use Rattle.hk_manager.specs.Sends.{letter_to, to_members}
-use Rattle.hk_manager.specs.Steps.{Stepped, sends, receives}
+use Rattle.hk_manager.specs.Steps.{ManagerStepped, sends, receives}
 use Rattle.hk_earned.specs.Machine.{Setting, State, Ask, Give, Activate, In, member, clock, next, put}
 use Rattle.hk_earned.specs.Machine.Event.{Learn, TakeAsk, SendActivate}
 use Rattle.hk_earned.proofs.Places.{by_put}
@@ -63,7 +63,7 @@ module _ (w : WorldState) (sound : IsWorld w) (council : IsCouncil w) (e : IsEar
   reads : clock e.state (Manager m) ≡ g.clock
   reads = reads_in w e.state e.mirrors.clocks (Manager m) g.clock (manager_reads w sound m g at)
 
-  module _ (s : Stepped) where
+  module _ (s : ManagerStepped) where
     abbrev then_world : WorldState
     then_world = with_manager_step w m s
 
@@ -128,8 +128,8 @@ module _ (w : WorldState) (sound : IsWorld w) (council : IsCouncil w) (e : IsEar
   the_view = ap (view_in w.views) here.held ∙ view_at w.views g.held.epoch g.held (council.held m (managing g) at)
 
   -- ---- a lease is granted
-  abbrev pub grants : NodeId → ℕ → Stepped
-  grants n asked = sends (record g { untils = with_grant g.untils n (g.clock + wait g.lease) }) (letter_to g g.held.epoch (LeaseGive (min (asked + g.lease) MAX_TIME)) (Node n) ∷ [])
+  abbrev pub grants : NodeId → ℕ → ManagerStepped
+  grants n asked = sends (record g { untils = with_grant g.untils n (g.clock + wait g.lease) }) (letter_to g g.held.epoch (Body.LeaseGive (min (asked + g.lease) MAX_TIME)) (Node n) ∷ [])
 
   pub grant_earned : (n : NodeId) (asked : ℕ) → In e.state.asks (record { node = n; manager = m; asked = asked }) → is_member g.held n ≡ true → IsEarned (then_world (grants n asked))
   grant_earned n asked sent inside = made_earned (grants n asked) after
@@ -162,14 +162,14 @@ module _ (w : WorldState) (sound : IsWorld w) (council : IsCouncil w) (e : IsEar
       told k lease p q = rw (p, q) refl
 
   -- ---- a view is let begin
-  pub activates_earned : past_answer g.untils g.held g.clock ≡ Ok tt → IsEarned (then_world (sends g (to_members g g.held.epoch (ActivateBody g.held))))
+  pub activates_earned : past_answer g.untils g.held g.clock ≡ Ok tt → IsEarned (then_world (sends g (to_members g g.held.epoch (Body.Activate g.held))))
   activates_earned quiet = made_earned s after
       (parts_then s after e.mirrors.upto (event_kept (setting_of w e.founders) (stay_out w sound council e.founders) e.state (SendActivate m) (is_live, quiet_now) e.parts)) refl
       (record { asks = λ y h. h; gives = λ y h. h; activates = λ y h. inr h }) (λ k. record { started = refl; ends = refl; granted = refl })
       (record { held = here.held; untils = here.untils }) (λ j d. record { held = refl; untils = refl }) (upto_then s) (all_told g.held.members)
     where
-      s : Stepped
-      s = sends g (to_members g g.held.epoch (ActivateBody g.held))
+      s : ManagerStepped
+      s = sends g (to_members g g.held.epoch (Body.Activate g.held))
 
       after : State
       after = next (setting_of w e.founders) e.state (SendActivate m)
@@ -183,7 +183,7 @@ module _ (w : WorldState) (sound : IsWorld w) (council : IsCouncil w) (e : IsEar
       told : (k epoch : ℕ) → k ≡ m → epoch ≡ e.state.held m → ◌≡◌ {A = Activate} (record { manager = k; epoch = epoch }) (record { manager = m; epoch = e.state.held m })
       told k epoch p q = rw (p, q) refl
 
-      all_told : (members : List NodeId) → AllByRecursion (Stands after) (map (λ member. letter_to g g.held.epoch (ActivateBody g.held) (Node member)) members)
+      all_told : (members : List NodeId) → AllByRecursion (Stands after) (map (λ member. letter_to g g.held.epoch (Body.Activate g.held) (Node member)) members)
       all_told [] = tt
       all_told (n ∷ members) = (inl (told g.id g.held.epoch (manager_is w sound m (managing g) at).own (sym here.held)), all_told members)
 
@@ -191,5 +191,5 @@ module _ (w : WorldState) (sound : IsWorld w) (council : IsCouncil w) (e : IsEar
   pub receipt_earned : (l : Letter) → In w.letters l → l.to ≡ Manager m → IsWorld (then_world (receives g l)) → IsCouncil (then_world (receives g l)) → IsEarned (then_world (receives g l))
   receipt_earned l sent to then_sound then_council = ⊎_elim
       (λ (k : IsLearned g (receives g l)). learned_earned (receives g l) then_sound then_council k)
-      (λ (k : IsGrant g l.from l.body (receives g l)). subst (λ (s : Stepped). IsEarned (then_world s)) (sym k.is)
+      (λ (k : IsGrant g l.from l.body (receives g l)). subst (λ (s : ManagerStepped). IsEarned (then_world s)) (sym k.is)
       (grant_earned k.node k.asked (stands_ask e.state l k.node m k.asked k.asks to k.said (e.mirrors.letters l sent)) k.member)) (received g l)

@@ -12,7 +12,7 @@ use Rattle.hk_base.specs.declared.letter.Actor.{Actor}
 use Rattle.hk_base.specs.declared.letter.Actor.TheVariants.{Node, Manager}
 use Rattle.hk_base.specs.declared.letter.Letter.{Letter}
 use Rattle.hk_base.specs.declared.letter.Body.{Body}
-use Rattle.hk_base.specs.declared.letter.Body.TheVariants.{Inv, Ack, Val, CopyAsk, CopyGive, LeaseAsk, LeaseGive, Prepare, Promise as PromiseBody, Accept, Accepted, Chosen, Activate as ActivateBody}
+use Rattle.hk_base.specs.declared.letter.Body.TheVariants as Body
 use Rattle.hk_paxos.specs.declared.acceptor.Promise.{Promise}
 use Rattle.hk_paxos.specs.declared.proposer.Proposer.{Proposer}
 use Rattle.hk_paxos.specs.Paxos.{acceptor_on_prepare, acceptor_on_accept, proposer_new, proposer_on_promise, proposer_on_accepted}
@@ -25,11 +25,11 @@ use Rattle.hk_manager.specs.declared.fault.ManagerFault.TheVariants.{Behind}
 use Rattle.hk_manager.specs.Manager.{ManagerState, instance_at, with_instance}
 use Rattle.hk_manager.specs.Changes.{changed, change_fault}
 use Rattle.hk_manager.specs.Sends.{letter_to, to_all, to_others, told_all}
-use Rattle.hk_manager.specs.Steps.{Stepped, sends, idle, learns, promise_body, prepares, accepts, counts_promise, counts_acceptance, reports, proposal_in, at_proposal, is_too_late, from_node, from_manager, is_addressed, receives_from, receives, begins, begins_unless, proposes}
+use Rattle.hk_manager.specs.Steps.{ManagerStepped, sends, idle, learns, promise_body, prepares, accepts, counts_promise, counts_acceptance, reports, proposal_in, at_proposal, is_too_late, from_node, from_manager, is_addressed, receives_from, receives, begins, begins_unless, proposes}
 use Rattle.hk_managed.proofs.NodeSteps.{IsPlain, ArePlain}
 
 -- it noted no until, and holds what it held or a later view
-pub record IsLearned (m : ManagerState) (s : Stepped) : Type 0 where
+pub record IsLearned (m : ManagerState) (s : ManagerStepped) : Type 0 where
   pub held : (s.manager.held ≡ m.held) ⊎ (m.held.epoch < s.manager.held.epoch)
   pub untils : s.manager.untils ≡ m.untils
   pub letters : ArePlain s.letters
@@ -65,16 +65,16 @@ module _ (m : ManagerState) (epoch : ℕ) where
   accepts_learned : (ballot : _) (view : View) → IsLearned m (accepts m epoch ballot view)
   accepts_learned ballot view = record { held = inl refl; untils = refl; letters = at (acceptor_on_accept (instance_at epoch m.instances).acceptor ballot view).answer }
     where
-      at : (o : Option _) → ArePlain (told_all m epoch (option_map (λ b. Accepted b) o))
+      at : (o : Option _) → ArePlain (told_all m epoch (option_map (λ b. Body.Accepted b) o))
       at None = tt
-      at (Some b) = mapped_plain m epoch (Accepted b) (range_with_len 0 m.managers) tt
+      at (Some b) = mapped_plain m epoch (Body.Accepted b) (range_with_len 0 m.managers) tt
 
 promise_learned : (p : Proposer) (m : ManagerState) (from : ℕ) (promise : Promise) → IsLearned m (counts_promise p m from promise)
 promise_learned p m from promise = record { held = inl refl; untils = refl; letters = at (proposer_on_promise p from promise).answer }
   where
-    at : (o : Option View) → ArePlain (told_all m p.epoch (option_map (λ view. Accept p.ballot view) o))
+    at : (o : Option View) → ArePlain (told_all m p.epoch (option_map (λ view. Body.Accept p.ballot view) o))
     at None = tt
-    at (Some view) = mapped_plain m p.epoch (Accept p.ballot view) (range_with_len 0 m.managers) tt
+    at (Some view) = mapped_plain m p.epoch (Body.Accept p.ballot view) (range_with_len 0 m.managers) tt
 
 acceptance_learned : (p : Proposer) (m : ManagerState) (from : ℕ) (ballot : _) → IsLearned m (counts_acceptance p m from ballot)
 acceptance_learned p m from ballot = at (proposer_on_accepted p from ballot).answer
@@ -85,64 +85,64 @@ acceptance_learned p m from ballot = at (proposer_on_accepted p from ballot).ans
     at : (o : Option View) → IsLearned m (reports (record m { proposal = Some (proposer_on_accepted p from ballot).after }) o)
     at None = record { held = inl refl; untils = refl; letters = tt }
     at (Some view) =
-        let l = view_learned now view (to_others now view.epoch (Chosen view)) (mapped_plain now view.epoch (Chosen view) (filter (λ to. not (to == now.id)) (range_with_len 0 now.managers)) tt) in
+        let l = view_learned now view (to_others now view.epoch (Body.Chosen view)) (mapped_plain now view.epoch (Body.Chosen view) (filter (λ to. not (to == now.id)) (range_with_len 0 now.managers)) tt) in
         record { held = l.held; untils = l.untils; letters = l.letters }
 
-at_learned : (o : Option Proposer) (m : ManagerState) (step : Proposer → Stepped) → ((p : Proposer) → IsLearned m (step p)) → IsLearned m (at_proposal o m step)
+at_learned : (o : Option Proposer) (m : ManagerState) (step : Proposer → ManagerStepped) → ((p : Proposer) → IsLearned m (step p)) → IsLearned m (at_proposal o m step)
 at_learned None m step each = same_learned m
 at_learned (Some p) m step each = each p
 
-given_learned : (m : ManagerState) (s : Stepped) (b : Bool) → IsLearned m s → IsLearned m (cond b (idle m) s)
+given_learned : (m : ManagerState) (s : ManagerStepped) (b : Bool) → IsLearned m s → IsLearned m (cond b (idle m) s)
 given_learned m s true l = same_learned m
 given_learned m s false l = l
 
 by_manager : (body : Body) (m : ManagerState) (epoch from : ℕ) → IsLearned m (from_manager body m epoch from)
-by_manager (Prepare ballot) m epoch from = given_learned m (prepares m epoch ballot) (is_too_late ballot) (prepares_learned m epoch ballot)
-by_manager (PromiseBody ballot vote) m epoch from = at_learned (proposal_in m.proposal epoch) m (λ p. counts_promise p m from (record { ballot = ballot; accepted = vote })) (λ p. promise_learned p m from (record { ballot = ballot; accepted = vote }))
-by_manager (Accept ballot view) m epoch from = given_learned m (accepts m epoch ballot view) (is_too_late ballot) (accepts_learned m epoch ballot view)
-by_manager (Accepted ballot) m epoch from = at_learned (proposal_in m.proposal epoch) m (λ p. counts_acceptance p m from ballot) (λ p. acceptance_learned p m from ballot)
-by_manager (Chosen view) m epoch from = view_learned m view [] tt
-by_manager (Inv k s kind content) m epoch from = same_learned m
-by_manager (Ack k s top) m epoch from = same_learned m
-by_manager (Val k s) m epoch from = same_learned m
-by_manager (CopyAsk after room) m epoch from = same_learned m
-by_manager (CopyGive after done items) m epoch from = same_learned m
-by_manager (LeaseAsk asked) m epoch from = same_learned m
-by_manager (LeaseGive end) m epoch from = same_learned m
-by_manager (ActivateBody view) m epoch from = same_learned m
+by_manager (Body.Prepare ballot) m epoch from = given_learned m (prepares m epoch ballot) (is_too_late ballot) (prepares_learned m epoch ballot)
+by_manager (Body.Promise ballot vote) m epoch from = at_learned (proposal_in m.proposal epoch) m (λ p. counts_promise p m from (record { ballot = ballot; accepted = vote })) (λ p. promise_learned p m from (record { ballot = ballot; accepted = vote }))
+by_manager (Body.Accept ballot view) m epoch from = given_learned m (accepts m epoch ballot view) (is_too_late ballot) (accepts_learned m epoch ballot view)
+by_manager (Body.Accepted ballot) m epoch from = at_learned (proposal_in m.proposal epoch) m (λ p. counts_acceptance p m from ballot) (λ p. acceptance_learned p m from ballot)
+by_manager (Body.Chosen view) m epoch from = view_learned m view [] tt
+by_manager (Body.Inv k s kind content) m epoch from = same_learned m
+by_manager (Body.Ack k s top) m epoch from = same_learned m
+by_manager (Body.Val k s) m epoch from = same_learned m
+by_manager (Body.CopyAsk after room) m epoch from = same_learned m
+by_manager (Body.CopyGive after done items) m epoch from = same_learned m
+by_manager (Body.LeaseAsk asked) m epoch from = same_learned m
+by_manager (Body.LeaseGive end) m epoch from = same_learned m
+by_manager (Body.Activate view) m epoch from = same_learned m
 
 -- ---- leases
 -- it granted a lease to a member of the view that it holds, whose letter asked for one
-pub record IsGrant (m : ManagerState) (from : Actor) (body : Body) (s : Stepped) : Type 0 where
+pub record IsGrant (m : ManagerState) (from : Actor) (body : Body) (s : ManagerStepped) : Type 0 where
   pub node : NodeId
   pub asked : ℕ
   pub asks : from ≡ Node node
-  pub said : body ≡ LeaseAsk asked
+  pub said : body ≡ Body.LeaseAsk asked
   pub member : is_member m.held node ≡ true
-  pub is : s ≡ sends (record m { untils = with_grant m.untils node (m.clock + wait m.lease) }) (letter_to m m.held.epoch (LeaseGive (min (asked + m.lease) MAX_TIME)) (Node node) ∷ [])
+  pub is : s ≡ sends (record m { untils = with_grant m.untils node (m.clock + wait m.lease) }) (letter_to m m.held.epoch (Body.LeaseGive (min (asked + m.lease) MAX_TIME)) (Node node) ∷ [])
 
-abbrev pub Ways : ManagerState → Actor → Body → Stepped → Type 0
+abbrev pub Ways : ManagerState → Actor → Body → ManagerStepped → Type 0
 Ways m from body s = IsLearned m s ⊎ IsGrant m from body s
 
 by_node : (body : Body) (m : ManagerState) (n : NodeId) → Ways m (Node n) body (from_node body m n)
-by_node (LeaseAsk asked) m n = at (is_member m.held n) refl
+by_node (Body.LeaseAsk asked) m n = at (is_member m.held n) refl
   where
     at : (b : Bool) → is_member m.held n ≡ b →
-        Ways m (Node n) (LeaseAsk asked) (cond b (sends (record m { untils = with_grant m.untils n (m.clock + wait m.lease) }) (letter_to m m.held.epoch (LeaseGive (min (asked + m.lease) MAX_TIME)) (Node n) ∷ [])) (idle m))
+        Ways m (Node n) (Body.LeaseAsk asked) (cond b (sends (record m { untils = with_grant m.untils n (m.clock + wait m.lease) }) (letter_to m m.held.epoch (Body.LeaseGive (min (asked + m.lease) MAX_TIME)) (Node n) ∷ [])) (idle m))
     at true e = inr (record { node = n; asked = asked; asks = refl; said = refl; member = e; is = refl })
     at false e = inl (same_learned m)
-by_node (Inv k s kind content) m n = inl (same_learned m)
-by_node (Ack k s top) m n = inl (same_learned m)
-by_node (Val k s) m n = inl (same_learned m)
-by_node (CopyAsk after room) m n = inl (same_learned m)
-by_node (CopyGive after done items) m n = inl (same_learned m)
-by_node (LeaseGive end) m n = inl (same_learned m)
-by_node (Prepare ballot) m n = inl (same_learned m)
-by_node (PromiseBody ballot vote) m n = inl (same_learned m)
-by_node (Accept ballot view) m n = inl (same_learned m)
-by_node (Accepted ballot) m n = inl (same_learned m)
-by_node (Chosen view) m n = inl (same_learned m)
-by_node (ActivateBody view) m n = inl (same_learned m)
+by_node (Body.Inv k s kind content) m n = inl (same_learned m)
+by_node (Body.Ack k s top) m n = inl (same_learned m)
+by_node (Body.Val k s) m n = inl (same_learned m)
+by_node (Body.CopyAsk after room) m n = inl (same_learned m)
+by_node (Body.CopyGive after done items) m n = inl (same_learned m)
+by_node (Body.LeaseGive end) m n = inl (same_learned m)
+by_node (Body.Prepare ballot) m n = inl (same_learned m)
+by_node (Body.Promise ballot vote) m n = inl (same_learned m)
+by_node (Body.Accept ballot view) m n = inl (same_learned m)
+by_node (Body.Accepted ballot) m n = inl (same_learned m)
+by_node (Body.Chosen view) m n = inl (same_learned m)
+by_node (Body.Activate view) m n = inl (same_learned m)
 
 pub received : (m : ManagerState) (l : Letter) → Ways m l.from l.body (receives m l)
 received m l = by_admitted (is_addressed m l.to && nat_le l.epoch MAX_EPOCH)
@@ -162,25 +162,25 @@ received m l = by_admitted (is_addressed m l.to && nat_le l.epoch MAX_EPOCH)
 -- ---- proposals
 begins_learned : (m : ManagerState) (change : Change) → IsLearned m (begins m change)
 begins_learned m change = given_learned m begun (nat_lt MAX_EPOCH (m.held.epoch + 1) || nat_lt MAX_ROUND ((instance_at (m.held.epoch + 1) m.instances).round + 1))
-    (record { held = inl refl; untils = refl; letters = mapped_plain m (m.held.epoch + 1) (Prepare ballot) (range_with_len 0 m.managers) tt })
+    (record { held = inl refl; untils = refl; letters = mapped_plain m (m.held.epoch + 1) (Body.Prepare ballot) (range_with_len 0 m.managers) tt })
   where
     ballot : Ballot
     ballot = record { round = (instance_at (m.held.epoch + 1) m.instances).round + 1; manager = m.id }
 
-    begun : Stepped
+    begun : ManagerStepped
     begun = sends (record (with_instance m (m.held.epoch + 1) (record (instance_at (m.held.epoch + 1) m.instances) { round = ballot.round })) { proposal = Some (proposer_new (m.held.epoch + 1) ballot (changed m.held change) m.managers) })
-        (to_all m (m.held.epoch + 1) (Prepare ballot))
+        (to_all m (m.held.epoch + 1) (Body.Prepare ballot))
 
-abbrev made : Stepped → Result Stepped ManagerFault
+abbrev made : ManagerStepped → Result ManagerStepped ManagerFault
 made s = Ok s
 
-the_made : (r : Result Stepped ManagerFault) (a b : Stepped) → r ≡ Ok a → r ≡ Ok b → a ≡ b
+the_made : (r : Result ManagerStepped ManagerFault) (a b : ManagerStepped) → r ≡ Ok a → r ≡ Ok b → a ≡ b
 the_made r a b p q = ok_same (sym p ∙ q)
   where
-    ok_same : {x y : Stepped} → made x ≡ made y → x ≡ y
+    ok_same : {x y : ManagerStepped} → made x ≡ made y → x ≡ y
     ok_same e = cc
 
-pub proposed : (m : ManagerState) (base : ℕ) (change : Change) (s : Stepped) → proposes m base change ≡ Ok s → IsLearned m s
+pub proposed : (m : ManagerState) (base : ℕ) (change : Change) (s : ManagerStepped) → proposes m base change ≡ Ok s → IsLearned m s
 proposed m base change s e = by_base (m.held.epoch == base) e
   where
     by_fault : (o : Option ManagerFault) → begins_unless o m change ≡ Ok s → IsLearned m s

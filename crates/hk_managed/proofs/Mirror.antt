@@ -8,7 +8,7 @@ use Rattle.hk_base.specs.declared.letter.Actor.{Actor}
 use Rattle.hk_base.specs.declared.letter.Actor.TheVariants.{Node, Manager}
 use Rattle.hk_base.specs.declared.letter.Letter.{Letter}
 use Rattle.hk_base.specs.declared.letter.Body.{Body}
-use Rattle.hk_base.specs.declared.letter.Body.TheVariants.{Inv, Ack, Val, CopyAsk, CopyGive, LeaseAsk, LeaseGive, Prepare, Promise, Accept, Accepted, Chosen, Activate as ActivateBody}
+use Rattle.hk_base.specs.declared.letter.Body.TheVariants as Body
 use Rattle.hk_clocks.specs.Clocks.{ClockState, clock_of}
 use Rattle.hk_clocks.specs.Steps.{ClockEvent, clock_step}
 use Rattle.hk_clocks.specs.Runs.{made_or, seen}
@@ -41,31 +41,31 @@ activated_in st (Manager m) epoch = In st.activates (record { manager = m; epoch
 activated_in st (Node n) epoch = Unit
 
 abbrev body_in : Body → State → Actor → Actor → Type 0
-body_in (LeaseAsk asked) st from to = asked_in st from to asked
-body_in (LeaseGive end) st from to = given_in st from to end
-body_in (ActivateBody view) st from to = activated_in st from view.epoch
+body_in (Body.LeaseAsk asked) st from to = asked_in st from to asked
+body_in (Body.LeaseGive end) st from to = given_in st from to end
+body_in (Body.Activate view) st from to = activated_in st from view.epoch
 body_in body st from to = Unit
 
 -- a letter that bears on leases is one of the state's
 abbrev pub Stands : State → Letter → Type 0
 Stands st l = body_in l.body st l.from l.to
 
-pub stands_ask : (st : State) (l : Letter) (n : NodeId) (m asked : ℕ) → l.from ≡ Node n → l.to ≡ Manager m → l.body ≡ LeaseAsk asked → Stands st l → In st.asks (record { node = n; manager = m; asked = asked })
+pub stands_ask : (st : State) (l : Letter) (n : NodeId) (m asked : ℕ) → l.from ≡ Node n → l.to ≡ Manager m → l.body ≡ Body.LeaseAsk asked → Stands st l → In st.asks (record { node = n; manager = m; asked = asked })
 stands_ask st l n m asked from to body h = at l.body l.from l.to body from to h
   where
-    here : body_in (LeaseAsk asked) st (Node n) (Manager m) → In st.asks (record { node = n; manager = m; asked = asked })
+    here : body_in (Body.LeaseAsk asked) st (Node n) (Manager m) → In st.asks (record { node = n; manager = m; asked = asked })
     here x = x
 
-    at : (b : Body) (f t : Actor) → b ≡ LeaseAsk asked → f ≡ Node n → t ≡ Manager m → body_in b st f t → In st.asks (record { node = n; manager = m; asked = asked })
+    at : (b : Body) (f t : Actor) → b ≡ Body.LeaseAsk asked → f ≡ Node n → t ≡ Manager m → body_in b st f t → In st.asks (record { node = n; manager = m; asked = asked })
     at b f t p q r x = here (rw (p, q, r) at x)
 
-pub stands_give : (st : State) (l : Letter) (n : NodeId) (m end : ℕ) → l.from ≡ Manager m → l.to ≡ Node n → l.body ≡ LeaseGive end → Stands st l → In st.gives (record { manager = m; node = n; end = end })
+pub stands_give : (st : State) (l : Letter) (n : NodeId) (m end : ℕ) → l.from ≡ Manager m → l.to ≡ Node n → l.body ≡ Body.LeaseGive end → Stands st l → In st.gives (record { manager = m; node = n; end = end })
 stands_give st l n m end from to body h = at l.body l.from l.to body from to h
   where
-    here : body_in (LeaseGive end) st (Manager m) (Node n) → In st.gives (record { manager = m; node = n; end = end })
+    here : body_in (Body.LeaseGive end) st (Manager m) (Node n) → In st.gives (record { manager = m; node = n; end = end })
     here x = x
 
-    at : (b : Body) (f t : Actor) → b ≡ LeaseGive end → f ≡ Manager m → t ≡ Node n → body_in b st f t → In st.gives (record { manager = m; node = n; end = end })
+    at : (b : Body) (f t : Actor) → b ≡ Body.LeaseGive end → f ≡ Manager m → t ≡ Node n → body_in b st f t → In st.gives (record { manager = m; node = n; end = end })
     at b f t p q r x = here (rw (p, q, r) at x)
 
 pub record Widens (st next : State) : Type 0 where
@@ -91,37 +91,37 @@ stands_on st next wide l = by_body l.body l.from l.to
     by_activate (Node n) epoch h = tt
 
     by_body : (body : Body) (from to : Actor) → body_in body st from to → body_in body next from to
-    by_body (LeaseAsk asked) from to h = by_ask from to asked h
-    by_body (LeaseGive end) from to h = by_give from to end h
-    by_body (ActivateBody view) from to h = by_activate from view.epoch h
-    by_body (Inv k s kind content) from to h = tt
-    by_body (Ack k s top) from to h = tt
-    by_body (Val k s) from to h = tt
-    by_body (CopyAsk after room) from to h = tt
-    by_body (CopyGive after done items) from to h = tt
-    by_body (Prepare ballot) from to h = tt
-    by_body (Promise ballot vote) from to h = tt
-    by_body (Accept ballot view) from to h = tt
-    by_body (Accepted ballot) from to h = tt
-    by_body (Chosen view) from to h = tt
+    by_body (Body.LeaseAsk asked) from to h = by_ask from to asked h
+    by_body (Body.LeaseGive end) from to h = by_give from to end h
+    by_body (Body.Activate view) from to h = by_activate from view.epoch h
+    by_body (Body.Inv k s kind content) from to h = tt
+    by_body (Body.Ack k s top) from to h = tt
+    by_body (Body.Val k s) from to h = tt
+    by_body (Body.CopyAsk after room) from to h = tt
+    by_body (Body.CopyGive after done items) from to h = tt
+    by_body (Body.Prepare ballot) from to h = tt
+    by_body (Body.Promise ballot vote) from to h = tt
+    by_body (Body.Accept ballot view) from to h = tt
+    by_body (Body.Accepted ballot) from to h = tt
+    by_body (Body.Chosen view) from to h = tt
 
 plain_stands : (st : State) (l : Letter) → IsPlain l.body → Stands st l
 plain_stands st l = by_body l.body l.from l.to
   where
     by_body : (body : Body) (from to : Actor) → IsPlain body → body_in body st from to
-    by_body (LeaseAsk asked) from to h = absurd h
-    by_body (LeaseGive end) from to h = absurd h
-    by_body (ActivateBody view) from to h = absurd h
-    by_body (Inv k s kind content) from to h = tt
-    by_body (Ack k s top) from to h = tt
-    by_body (Val k s) from to h = tt
-    by_body (CopyAsk after room) from to h = tt
-    by_body (CopyGive after done items) from to h = tt
-    by_body (Prepare ballot) from to h = tt
-    by_body (Promise ballot vote) from to h = tt
-    by_body (Accept ballot view) from to h = tt
-    by_body (Accepted ballot) from to h = tt
-    by_body (Chosen view) from to h = tt
+    by_body (Body.LeaseAsk asked) from to h = absurd h
+    by_body (Body.LeaseGive end) from to h = absurd h
+    by_body (Body.Activate view) from to h = absurd h
+    by_body (Body.Inv k s kind content) from to h = tt
+    by_body (Body.Ack k s top) from to h = tt
+    by_body (Body.Val k s) from to h = tt
+    by_body (Body.CopyAsk after room) from to h = tt
+    by_body (Body.CopyGive after done items) from to h = tt
+    by_body (Body.Prepare ballot) from to h = tt
+    by_body (Body.Promise ballot vote) from to h = tt
+    by_body (Body.Accept ballot view) from to h = tt
+    by_body (Body.Accepted ballot) from to h = tt
+    by_body (Body.Chosen view) from to h = tt
 
 pub all_plain : (st : State) (letters : List Letter) → ArePlain letters → AllByRecursion (Stands st) letters
 all_plain st [] plain = tt

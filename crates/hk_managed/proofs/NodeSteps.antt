@@ -6,8 +6,8 @@ use Rattle.hk_base.specs.declared.stamp.Stamp.{Stamp}
 use Rattle.hk_base.specs.declared.stamp.NodeId.{NodeId}
 use Rattle.hk_base.specs.declared.call.CallNo.{CallNo}
 use Rattle.hk_base.specs.declared.call.Op.{Op}
-use Rattle.hk_base.specs.declared.call.State.{State as RowState}
-use Rattle.hk_base.specs.declared.call.State.TheVariants.{Valid as IsValid, Invalid as IsInvalid, Write as IsWrite, Replay as IsReplay, Trans as IsTrans}
+use Rattle.hk_base.specs.declared.call.State.{State}
+use Rattle.hk_base.specs.declared.call.State.TheVariants as State
 use Rattle.hk_base.specs.declared.letter.Body.{Body}
 use Rattle.hk_base.specs.declared.letter.Body.TheVariants.{Inv, Ack, Val, CopyAsk, CopyGive, LeaseAsk, LeaseGive, Prepare, Promise, Accept, Accepted, Chosen, Activate}
 use Rattle.hk_base.specs.declared.letter.Letter.{Letter}
@@ -18,7 +18,7 @@ use Rattle.hk_key.specs.declared.row.Row.{Row}
 use Rattle.hk_key.specs.declared.row.Pending.{Pending}
 use Rattle.hk_key.specs.declared.out.Sending.{Sending}
 use Rattle.hk_key.specs.declared.out.What.{What}
-use Rattle.hk_key.specs.declared.out.What.TheVariants.{InvRow, InvPending, Ack as AckOf, Val as ValOf}
+use Rattle.hk_key.specs.declared.out.What.TheVariants as What
 use Rattle.hk_key.specs.Table.{Done, replay}
 use Rattle.hk_council.specs.Council.{IsNode}
 use Rattle.hk_node.specs.Rows.{Rows, find_row, row_at}
@@ -62,14 +62,14 @@ letters_plain x body [] plain = tt
 letters_plain x body (n ∷ to) plain = (plain, letters_plain x body to plain)
 
 body_plain : (key : List ℕ) (row : Row) (what : What) → IsPlain (body_of key row what)
-body_plain key row InvRow = tt
-body_plain key row InvPending = at row.pending
+body_plain key row What.InvRow = tt
+body_plain key row What.InvPending = at row.pending
   where
     at : (o : Option Pending) → IsPlain (pending_body key row o)
     at None = tt
     at (Some p) = tt
-body_plain key row (AckOf s top) = tt
-body_plain key row (ValOf s) = tt
+body_plain key row (What.Ack s top) = tt
+body_plain key row (What.Val s) = tt
 
 sent_plain : (x : NodeState) (key : List ℕ) (row : Row) (o : Option Sending) → ArePlain (sent x key row o)
 sent_plain x key row None = tt
@@ -105,12 +105,12 @@ called_quiet x call key op = by_lease (ltb (lease_end x) (x.clock + x.skew))
     by_turn true = by_limit (next_stamp (kind_of op) (row_at key x.rows).stamp x.id)
     by_turn false = record { ends = refl; granted = refl; activated = refl; view = refl; letters = tt; nodes = tt }
 
-    by_state : (s : RowState) → IsQuiet x (at_state s x call key op (row_at key x.rows))
-    by_state IsValid = by_turn (act op (register_in (row_at key x.rows)) 0).changed
-    by_state IsInvalid = record { ends = refl; granted = refl; activated = refl; view = refl; letters = tt; nodes = tt }
-    by_state IsWrite = record { ends = refl; granted = refl; activated = refl; view = refl; letters = tt; nodes = tt }
-    by_state IsReplay = record { ends = refl; granted = refl; activated = refl; view = refl; letters = tt; nodes = tt }
-    by_state IsTrans = record { ends = refl; granted = refl; activated = refl; view = refl; letters = tt; nodes = tt }
+    by_state : (s : State) → IsQuiet x (at_state s x call key op (row_at key x.rows))
+    by_state State.Valid = by_turn (act op (register_in (row_at key x.rows)) 0).changed
+    by_state State.Invalid = record { ends = refl; granted = refl; activated = refl; view = refl; letters = tt; nodes = tt }
+    by_state State.Write = record { ends = refl; granted = refl; activated = refl; view = refl; letters = tt; nodes = tt }
+    by_state State.Replay = record { ends = refl; granted = refl; activated = refl; view = refl; letters = tt; nodes = tt }
+    by_state State.Trans = record { ends = refl; granted = refl; activated = refl; view = refl; letters = tt; nodes = tt }
 
     by_lease : (b : Bool) → IsQuiet x (at_lease b x call key op)
     by_lease true = record { ends = refl; granted = refl; activated = refl; view = refl; letters = tt; nodes = tt }

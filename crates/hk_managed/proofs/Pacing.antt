@@ -13,17 +13,16 @@ use Rattle.hk_base.specs.declared.letter.Letter.{Letter}
 use Rattle.hk_clocks.specs.declared.fault.ClockFault.{ClockFault}
 use Rattle.hk_clocks.specs.Clocks.{ClockState, Paces, by_actor, pace_of}
 use Rattle.hk_clocks.specs.Steps.{ClockEvent, clock_step, greatest_clock}
-use Rattle.hk_clocks.specs.Steps.ClockEvent.{Start as ClockStart, Stop as ClockStop, Tick as ClockTick, TickAll as ClockTickAll}
 use Rattle.hk_clocks.specs.Paced.{Moment, AreLiveFrom, DoNotFall, IsPaced, AreLeads}
 use Rattle.hk_clocks.specs.Laws.{AreWithin}
 use Rattle.hk_clocks.specs.Runs.{IsEvent as IsClockEvent, made_or, seen, lead_of, leads_in}
 use Rattle.hk_clocks.proofs.Deciding.{decide}
 use Rattle.hk_clocks.proofs.Following.{Follows, still, fall_not, are_leads}
 use Rattle.hk_clocks.proofs.Running.{goes, lead_within}
-use Rattle.hk_manager.specs.declared.event.ManagerEvent.TheVariants.{Propose as Proposal, Receive as Receipt, Activate as Activation}
+use Rattle.hk_manager.specs.declared.event.ManagerEvent.TheVariants as ManagerEvent
 use Rattle.hk_manager.specs.declared.fault.ManagerFault.{ManagerFault}
 use Rattle.hk_manager.specs.Manager.{ManagerState}
-use Rattle.hk_manager.specs.Steps.{Stepped as ManagerStepped, manager_step as step_of}
+use Rattle.hk_manager.specs.Steps.{ManagerStepped, manager_step as step_of}
 use Rattle.hk_node.specs.Node.{NodeState, epoch_of, is_member}
 use Rattle.hk_node.specs.Copies.{asks_copy}
 use Rattle.hk_node.specs.Steps.{receives, resent, replayed, asks_lease}
@@ -79,24 +78,24 @@ module _ (w : WorldState) (sound : IsWorld w) where
   stepped m (Err fault) = inl refl
 
   ticked : (to : ℕ) → to ≤ MAX_TIME → (id : NodeId) (x : NodeState) → Goes w (ticks_at w to id x)
-  ticked to low id x = at (clock_step (clocks_of w) (ClockTick (Node id) to)) refl
+  ticked to low id x = at (clock_step (clocks_of w) (ClockEvent.Tick (Node id) to)) refl
     where
-      at : (r : Result ClockState ClockFault) → clock_step (clocks_of w) (ClockTick (Node id) to) ≡ r → Goes w (ticked_by r w id to x)
-      at (Ok clocks) is = inr (ClockTick (Node id) to, low, clocks_by w (ClockTick (Node id) to) clocks.paces (paces_made w (ClockTick (Node id) to) clocks is))
+      at : (r : Result ClockState ClockFault) → clock_step (clocks_of w) (ClockEvent.Tick (Node id) to) ≡ r → Goes w (ticked_by r w id to x)
+      at (Ok clocks) is = inr (ClockEvent.Tick (Node id) to, low, clocks_by w (ClockEvent.Tick (Node id) to) clocks.paces (paces_made w (ClockEvent.Tick (Node id) to) clocks is))
       at (Err fault) is = inl refl
 
   manager_ticked : (to : ℕ) → to ≤ MAX_TIME → (m : ℕ) (g : ManagerState) → Goes w (manager_ticks_at w to m g)
-  manager_ticked to low m g = at (clock_step (clocks_of w) (ClockTick (Manager m) to)) refl
+  manager_ticked to low m g = at (clock_step (clocks_of w) (ClockEvent.Tick (Manager m) to)) refl
     where
-      at : (r : Result ClockState ClockFault) → clock_step (clocks_of w) (ClockTick (Manager m) to) ≡ r → Goes w (manager_ticked_by r w m to g)
-      at (Ok clocks) is = inr (ClockTick (Manager m) to, low, clocks_by w (ClockTick (Manager m) to) clocks.paces (paces_made w (ClockTick (Manager m) to) clocks is))
+      at : (r : Result ClockState ClockFault) → clock_step (clocks_of w) (ClockEvent.Tick (Manager m) to) ≡ r → Goes w (manager_ticked_by r w m to g)
+      at (Ok clocks) is = inr (ClockEvent.Tick (Manager m) to, low, clocks_by w (ClockEvent.Tick (Manager m) to) clocks.paces (paces_made w (ClockEvent.Tick (Manager m) to) clocks is))
       at (Err fault) is = inl refl
 
   all_ticked : (to : ℕ) → to ≤ MAX_TIME → Goes w (all_tick w to)
-  all_ticked to low = at (clock_step (clocks_of w) (ClockTickAll to)) refl
+  all_ticked to low = at (clock_step (clocks_of w) (ClockEvent.TickAll to)) refl
     where
-      at : (r : Result ClockState ClockFault) → clock_step (clocks_of w) (ClockTickAll to) ≡ r → Goes w (all_ticked_by r w to)
-      at (Ok clocks) is = inr (ClockTickAll to, low, clocks_by w (ClockTickAll to) clocks.paces (paces_made w (ClockTickAll to) clocks is))
+      at : (r : Result ClockState ClockFault) → clock_step (clocks_of w) (ClockEvent.TickAll to) ≡ r → Goes w (all_ticked_by r w to)
+      at (Ok clocks) is = inr (ClockEvent.TickAll to, low, clocks_by w (ClockEvent.TickAll to) clocks.paces (paces_made w (ClockEvent.TickAll to) clocks is))
       at (Err fault) is = inl refl
 
   started : (id : NodeId) (o : Option Process) → Goes w (starts_at o w id)
@@ -104,9 +103,9 @@ module _ (w : WorldState) (sound : IsWorld w) where
   started id None = at (may_join w id)
     where
       event : ClockEvent
-      event = ClockStart (Node id) (greatest_clock 1 w.paces)
+      event = ClockEvent.Start (Node id) (greatest_clock 1 w.paces)
 
-      at : (b : Bool) → Goes w (cond b (aside (record w { processes = put_process id (joining w id) w.processes; paces = paces_by w (ClockStart (Node id) (greatest_clock 1 w.paces)) }) nothing) (Err NotMember))
+      at : (b : Bool) → Goes w (cond b (aside (record w { processes = put_process id (joining w id) w.processes; paces = paces_by w (ClockEvent.Start (Node id) (greatest_clock 1 w.paces)) }) nothing) (Err NotMember))
       at true = inr (event, greatest_within (clocks_of w) 1 sound.clocks (omega arith), clocks_by w event (paces_by w event) refl)
       at false = inl refl
 
@@ -136,7 +135,7 @@ module _ (w : WorldState) (sound : IsWorld w) where
 
   taken : (o : Option Letter) → Goes w (takes w o)
   taken None = inl refl
-  taken (Some l) = of_actor l.to (λ id node. acts w id node (receives node l)) (λ m g. manager_acts w m (step_of g (Receipt l))) (λ id x to. inl refl) (λ m g to. stepped m (step_of g (Receipt l)))
+  taken (Some l) = of_actor l.to (λ id node. acts w id node (receives node l)) (λ m g. manager_acts w m (step_of g (ManagerEvent.Receive l))) (λ id x to. inl refl) (λ m g to. stepped m (step_of g (ManagerEvent.Receive l)))
 
   goes_by : (event : Event) → IsEvent event → Goes w (world_step w event)
   goes_by (Call id key op) is = by_node (process_at id w.processes) (calls_at w id key op) (λ x. inl refl)
@@ -144,8 +143,8 @@ module _ (w : WorldState) (sound : IsWorld w) where
   goes_by (Tick actor to) is = of_actor actor (ticks_at w to) (manager_ticks_at w to) (λ id x to_it. ticked to is.1 id x) (λ m g to_it. manager_ticked to is.1 m g)
   goes_by (TickAll to) is = all_ticked to is
   goes_by (Crash actor) is = of_actor actor (crashes_at w) (manager_crashes_at w)
-      (λ id x to_it. inr (ClockStop (Node id), tt, clocks_by w (ClockStop (Node id)) (paces_by w (ClockStop (Node id))) refl))
-      (λ m g to_it. inr (ClockStop (Manager m), tt, clocks_by w (ClockStop (Manager m)) (paces_by w (ClockStop (Manager m))) refl))
+      (λ id x to_it. inr (ClockEvent.Stop (Node id), tt, clocks_by w (ClockEvent.Stop (Node id)) (paces_by w (ClockEvent.Stop (Node id))) refl))
+      (λ m g to_it. inr (ClockEvent.Stop (Manager m), tt, clocks_by w (ClockEvent.Stop (Manager m)) (paces_by w (ClockEvent.Stop (Manager m))) refl))
   goes_by (Resend id key) is = by_node (process_at id w.processes) (λ node. acts w id node (resent node key)) (λ x. inl refl)
   goes_by (Replay id key) is = by_node (process_at id w.processes) (λ node. acts w id node (replayed node key)) (λ x. inl refl)
   goes_by (Copy id from room) is = by_node (process_at id w.processes) (λ node. acts w id node (asks_copy node from room)) (λ x. inl refl)
@@ -154,8 +153,8 @@ module _ (w : WorldState) (sound : IsWorld w) where
   goes_by (Install id epoch) is = told w.managers (live w id (λ node. installs_at (numbered epoch w.views) w id node)) (by_node (process_at id w.processes) (λ node. installs_at (numbered epoch w.views) w id node) (λ x. installed (numbered epoch w.views) id x))
   goes_by (Lease id end) is = told w.managers (live w id (leases_at w id end)) (by_node (process_at id w.processes) (leases_at w id end) (λ x. leased id end x))
   goes_by (AskLease id m) is = by_node (process_at id w.processes) (λ node. acts w id node (asks_lease node m)) (λ x. inl refl)
-  goes_by (Propose m base change) is = by_manager (manager_at m w.managers) (λ g. manager_acts w m (step_of g (Proposal base change))) (λ g. stepped m (step_of g (Proposal base change)))
-  goes_by (Activate m) is = by_manager (manager_at m w.managers) (λ g. manager_acts w m (step_of g Activation)) (λ g. stepped m (step_of g Activation))
+  goes_by (Propose m base change) is = by_manager (manager_at m w.managers) (λ g. manager_acts w m (step_of g (ManagerEvent.Propose base change))) (λ g. stepped m (step_of g (ManagerEvent.Propose base change)))
+  goes_by (Activate m) is = by_manager (manager_at m w.managers) (λ g. manager_acts w m (step_of g ManagerEvent.Activate)) (λ g. stepped m (step_of g ManagerEvent.Activate))
 
   follows_by : (event : Event) → IsEvent event → Follows (clocks_of w) (clocks_of (after w (world_step w event)))
   follows_by event is = ⊎_elim

@@ -9,12 +9,12 @@ use Rattle.hk_base.specs.declared.letter.Letter.{Letter}
 use Rattle.hk_clocks.specs.declared.fault.ClockFault.{ClockFault}
 use Rattle.hk_clocks.specs.Clocks.{ClockState}
 use Rattle.hk_clocks.specs.Steps.{clock_step, greatest_clock}
-use Rattle.hk_clocks.specs.Steps.ClockEvent.{Start as ClockStart, Stop as ClockStop, Tick as ClockTick, TickAll as ClockTickAll}
+use Rattle.hk_clocks.specs.Steps.{ClockEvent}
 use Rattle.hk_base.specs.declared.letter.Actor.TheVariants.{Node, Manager}
-use Rattle.hk_manager.specs.declared.event.ManagerEvent.TheVariants.{Propose as Proposal, Receive as Receipt, Activate as Activation}
+use Rattle.hk_manager.specs.declared.event.ManagerEvent.TheVariants as ManagerEvent
 use Rattle.hk_manager.specs.declared.fault.ManagerFault.{ManagerFault}
 use Rattle.hk_manager.specs.Manager.{ManagerState}
-use Rattle.hk_manager.specs.Steps.{Stepped as ManagerStepped, manager_step as step_of, ticks as manager_ticks}
+use Rattle.hk_manager.specs.Steps.{ManagerStepped, manager_step as step_of, manager_ticks}
 use Rattle.hk_node.specs.Node.{NodeState}
 use Rattle.hk_node.specs.Stepped.{Stepped}
 use Rattle.hk_node.specs.Calls.{called}
@@ -97,26 +97,26 @@ module _ (w : WorldState) (some : 1 ≤ length w.managers) (a : Accepted) where
 
   by_letter : (o : Option Letter) → takes w o ≡ Ok a → Goal
   by_letter None e = absurd cc
-  by_letter (Some l) e = actor_step Goal w a l.to (λ id node. acts w id node (receives node l)) (λ m g. manager_acts w m (step_of g (Receipt l)))
-      (λ id x to at e. by_node id x (receives x l) e) (λ m g to at e. by_manager m (step_of g (Receipt l)) e) e
+  by_letter (Some l) e = actor_step Goal w a l.to (λ id node. acts w id node (receives node l)) (λ m g. manager_acts w m (step_of g (ManagerEvent.Receive l)))
+      (λ id x to at e. by_node id x (receives x l) e) (λ m g to at e. by_manager m (step_of g (ManagerEvent.Receive l)) e) e
 
   by_start : (id : NodeId) (o : Option Process) → starts_at o w id ≡ Ok a → Goal
   by_start id (Some p) e = absurd cc
   by_start id None e = by_member (may_join w id) e
     where
-      by_member : (b : Bool) → cond b (aside (record w { processes = put_process id (joining w id) w.processes; paces = paces_by w (ClockStart (Node id) (greatest_clock 1 w.paces)) }) nothing) (Err NotMember) ≡ Ok a → Goal
-      by_member true e = quiet (record w { processes = put_process id (joining w id) w.processes; paces = paces_by w (ClockStart (Node id) (greatest_clock 1 w.paces)) }) nothing refl refl refl e
+      by_member : (b : Bool) → cond b (aside (record w { processes = put_process id (joining w id) w.processes; paces = paces_by w (ClockEvent.Start (Node id) (greatest_clock 1 w.paces)) }) nothing) (Err NotMember) ≡ Ok a → Goal
+      by_member true e = quiet (record w { processes = put_process id (joining w id) w.processes; paces = paces_by w (ClockEvent.Start (Node id) (greatest_clock 1 w.paces)) }) nothing refl refl refl e
       by_member false e = absurd cc
 
   pub grows : (event : Event) → world_step w event ≡ Ok a → Goal
   grows (Call id key op) e = node_step Goal w a id (calls_at w id key op) (λ x at e. by_call id x key op e) e
   grows (Take n) e = by_letter (numbered n w.letters) e
   grows (Tick actor to) e = actor_step Goal w a actor (ticks_at w to) (manager_ticks_at w to)
-      (λ id x q at e. by_tick to id x (clock_step (clocks_of w) (ClockTick (Node id) to)) e) (λ m g q at e. by_manager_tick to m g (clock_step (clocks_of w) (ClockTick (Manager m) to)) e) e
-  grows (TickAll to) e = by_all to (clock_step (clocks_of w) (ClockTickAll to)) e
+      (λ id x q at e. by_tick to id x (clock_step (clocks_of w) (ClockEvent.Tick (Node id) to)) e) (λ m g q at e. by_manager_tick to m g (clock_step (clocks_of w) (ClockEvent.Tick (Manager m) to)) e) e
+  grows (TickAll to) e = by_all to (clock_step (clocks_of w) (ClockEvent.TickAll to)) e
   grows (Crash actor) e = actor_step Goal w a actor (crashes_at w) (manager_crashes_at w)
-      (λ id x q at e. quiet (record w { processes = put_process id (record { node = x; crashed = true }) w.processes; paces = paces_by w (ClockStop (Node id)) }) nothing refl refl refl e)
-      (λ m g q at e. quiet (record w { managers = put_manager m (record { manager = g; crashed = true }) w.managers; paces = paces_by w (ClockStop (Manager m)) }) nothing (length-set w.managers m (record { manager = g; crashed = true })) refl refl e) e
+      (λ id x q at e. quiet (record w { processes = put_process id (record { node = x; crashed = true }) w.processes; paces = paces_by w (ClockEvent.Stop (Node id)) }) nothing refl refl refl e)
+      (λ m g q at e. quiet (record w { managers = put_manager m (record { manager = g; crashed = true }) w.managers; paces = paces_by w (ClockEvent.Stop (Manager m)) }) nothing (length-set w.managers m (record { manager = g; crashed = true })) refl refl e) e
   grows (Resend id key) e = node_step Goal w a id (λ node. acts w id node (resent node key)) (λ x at e. by_node id x (resent x key) e) e
   grows (Replay id key) e = node_step Goal w a id (λ node. acts w id node (replayed node key)) (λ x at e. by_node id x (replayed x key) e) e
   grows (Copy id from room) e = node_step Goal w a id (λ node. acts w id node (asks_copy node from room)) (λ x at e. by_node id x (asks_copy x from room) e) e
@@ -125,5 +125,5 @@ module _ (w : WorldState) (some : 1 ≤ length w.managers) (a : Accepted) where
   grows (Install id epoch) e = not_told Goal w a w.managers (live w id (λ node. installs_at (numbered epoch w.views) w id node)) some e
   grows (Lease id end) e = not_told Goal w a w.managers (live w id (leases_at w id end)) some e
   grows (AskLease id m) e = node_step Goal w a id (λ node. acts w id node (asks_lease node m)) (λ x at e. by_node id x (asks_lease x m) e) e
-  grows (Propose m base change) e = manager_step Goal w a m (λ g. manager_acts w m (step_of g (Proposal base change))) (λ g at e. by_manager m (step_of g (Proposal base change)) e) e
-  grows (Activate m) e = manager_step Goal w a m (λ g. manager_acts w m (step_of g Activation)) (λ g at e. by_manager m (step_of g Activation) e) e
+  grows (Propose m base change) e = manager_step Goal w a m (λ g. manager_acts w m (step_of g (ManagerEvent.Propose base change))) (λ g at e. by_manager m (step_of g (ManagerEvent.Propose base change)) e) e
+  grows (Activate m) e = manager_step Goal w a m (λ g. manager_acts w m (step_of g ManagerEvent.Activate)) (λ g at e. by_manager m (step_of g ManagerEvent.Activate) e) e

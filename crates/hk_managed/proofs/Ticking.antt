@@ -4,9 +4,9 @@ use Rattle.std.proofs.lemmas.Bool.{cases_eq, le-ltb}
 use Rattle.std.proofs.lemmas.List.{length-map}
 use Rattle.hk_base.specs.declared.view.View.{View}
 use Rattle.hk_paxos.specs.Run.{put}
-use Rattle.hk_manager.specs.declared.event.ManagerEvent.TheVariants.{Tick as ManagerTick}
+use Rattle.hk_manager.specs.declared.event.ManagerEvent.TheVariants as ManagerEvent
 use Rattle.hk_manager.specs.Manager.{ManagerState}
-use Rattle.hk_manager.specs.Steps.{ticks as manager_ticks}
+use Rattle.hk_manager.specs.Steps.{manager_ticks}
 use Rattle.hk_council.specs.Council.{Council, MayHappen, learned_with, next, start}
 use Rattle.hk_council.specs.Council.Event.{Step}
 use Rattle.hk_world.specs.declared.process.ManagerProcess.{ManagerProcess}
@@ -61,7 +61,7 @@ module _ (w : WorldState) (h : HasCouncil w) (council : IsCouncil w) (to : ℕ) 
       learned_all = t.learned_all;
     }
 
-    moved : p.crashed ≡ false → (d : Council) → TickedTo n d → MayHappen h.count d (Step n (ManagerTick to)) × TickedTo (suc n) (next d (Step n (ManagerTick to)))
+    moved : p.crashed ≡ false → (d : Council) → TickedTo n d → MayHappen h.count d (Step n (ManagerEvent.Tick to)) × TickedTo (suc n) (next d (Step n (ManagerEvent.Tick to)))
     moved runs d t = (
       (record { known = let k = slice_get_within w.managers n p at in let e = h.many in omega (arith, k, e); running = t.stopped n p at ∙ runs }, tt),
       record {
@@ -93,7 +93,7 @@ module _ (w : WorldState) (h : HasCouncil w) (council : IsCouncil w) (to : ℕ) 
     where
       by_crashed : (p : ManagerProcess) → manager_at n w.managers ≡ Some p → (b : Bool) → p.crashed ≡ b → Reached h.count c0 (TickedTo n) → Reached h.count c0 (TickedTo (suc n))
       by_crashed p at true e r = reach_same h.count c0 (TickedTo n) (TickedTo (suc n)) (passed n p at e) r
-      by_crashed p at false e r = reach_more h.count c0 (TickedTo n) (TickedTo (suc n)) (Step n (ManagerTick to)) (moved n p at e) r
+      by_crashed p at false e r = reach_more h.count c0 (TickedTo n) (TickedTo (suc n)) (Step n (ManagerEvent.Tick to)) (moved n p at e) r
 
   -- all clocks rise
   pub all_has : (after : WorldState) → after.managers ≡ map (manager_ticked to) w.managers → after.letters ≡ w.letters → after.views ≡ w.views → HasCouncil after

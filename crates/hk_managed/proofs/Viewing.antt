@@ -9,16 +9,16 @@ use Rattle.hk_base.specs.declared.letter.Actor.{Actor}
 use Rattle.hk_base.specs.declared.letter.Actor.TheVariants.{Node, Manager}
 use Rattle.hk_base.specs.declared.letter.Letter.{Letter}
 use Rattle.hk_base.specs.declared.letter.Body.{Body}
-use Rattle.hk_base.specs.declared.letter.Body.TheVariants.{Inv, Ack, Val, CopyAsk, CopyGive, LeaseAsk, LeaseGive, Prepare, Promise, Accept, Accepted as AcceptedBody, Chosen, Activate as ActivateBody}
+use Rattle.hk_base.specs.declared.letter.Body.TheVariants as Body
 use Rattle.hk_key.specs.Table.{resend}
 use Rattle.hk_clocks.specs.declared.fault.ClockFault.{ClockFault}
 use Rattle.hk_clocks.specs.Clocks.{ClockState}
 use Rattle.hk_clocks.specs.Steps.{clock_step, greatest_clock}
-use Rattle.hk_clocks.specs.Steps.ClockEvent.{Start as ClockStart, Stop as ClockStop, Tick as ClockTick, TickAll as ClockTickAll}
-use Rattle.hk_manager.specs.declared.event.ManagerEvent.TheVariants.{Propose as Proposal, Receive as Receipt, Activate as Activation}
+use Rattle.hk_clocks.specs.Steps.{ClockEvent}
+use Rattle.hk_manager.specs.declared.event.ManagerEvent.TheVariants as ManagerEvent
 use Rattle.hk_manager.specs.declared.fault.ManagerFault.{ManagerFault}
 use Rattle.hk_manager.specs.Manager.{ManagerState}
-use Rattle.hk_manager.specs.Steps.{Stepped as ManagerStepped, manager_step as step_of, ticks as manager_ticks}
+use Rattle.hk_manager.specs.Steps.{ManagerStepped, manager_step as step_of, manager_ticks}
 use Rattle.hk_node.specs.Rows.{find_row}
 use Rattle.hk_node.specs.Node.{NodeState, epoch_of, is_other}
 use Rattle.hk_node.specs.Stepped.{Stepped, idle}
@@ -58,26 +58,26 @@ record IsBegun (x : NodeState) (from : Actor) (body : Body) (s : Stepped) : Type
   manager : ℕ
   view : View
   sender : from ≡ Manager manager
-  says : body ≡ ActivateBody view
+  says : body ≡ Body.Activate view
   now : s.node.view ≡ Some view
 
 abbrev Ways : NodeState → Actor → Body → Stepped → Type 0
 Ways x from body s = (s.node.view ≡ x.view) ⊎ IsBegun x from body s
 
 heard_view : (body : Body) (x : NodeState) (m : ℕ) → Ways x (Manager m) body (heard body x m)
-heard_view (LeaseGive end) x m = inl refl
-heard_view (ActivateBody view) x m = ⊎_elim inl (λ now. inr (record { manager = m; view = view; sender = refl; says = refl; now = now.0 })) (activated_heard x m view).view_now
-heard_view (Inv k s kind content) x m = inl refl
-heard_view (Ack k s top) x m = inl refl
-heard_view (Val k s) x m = inl refl
-heard_view (CopyAsk after room) x m = inl refl
-heard_view (CopyGive after done items) x m = inl refl
-heard_view (LeaseAsk asked) x m = inl refl
-heard_view (Prepare ballot) x m = inl refl
-heard_view (Promise ballot vote) x m = inl refl
-heard_view (Accept ballot view) x m = inl refl
-heard_view (AcceptedBody ballot) x m = inl refl
-heard_view (Chosen view) x m = inl refl
+heard_view (Body.LeaseGive end) x m = inl refl
+heard_view (Body.Activate view) x m = ⊎_elim inl (λ now. inr (record { manager = m; view = view; sender = refl; says = refl; now = now.0 })) (activated_heard x m view).view_now
+heard_view (Body.Inv k s kind content) x m = inl refl
+heard_view (Body.Ack k s top) x m = inl refl
+heard_view (Body.Val k s) x m = inl refl
+heard_view (Body.CopyAsk after room) x m = inl refl
+heard_view (Body.CopyGive after done items) x m = inl refl
+heard_view (Body.LeaseAsk asked) x m = inl refl
+heard_view (Body.Prepare ballot) x m = inl refl
+heard_view (Body.Promise ballot vote) x m = inl refl
+heard_view (Body.Accept ballot view) x m = inl refl
+heard_view (Body.Accepted ballot) x m = inl refl
+heard_view (Body.Chosen view) x m = inl refl
 
 receives_view : (x : NodeState) (l : Letter) → Ways x l.from l.body (receives x l)
 receives_view x l = by_sender l.from
@@ -93,7 +93,7 @@ receives_view x l = by_sender l.from
 asks_view : (x : NodeState) (m : ℕ) → (asks_lease x m).node.view ≡ x.view
 asks_view x m = at (nat_lt m x.managers)
   where
-    at : (b : Bool) → (cond b (record { node = x; letters = record { epoch = epoch_of x; from = Node x.id; to = Manager m; body = LeaseAsk x.clock } ∷ []; told = []; installed = None }) (idle x)).node.view ≡ x.view
+    at : (b : Bool) → (cond b (record { node = x; letters = record { epoch = epoch_of x; from = Node x.id; to = Manager m; body = Body.LeaseAsk x.clock } ∷ []; told = []; installed = None }) (idle x)).node.view ≡ x.view
     at true = refl
     at false = refl
 
@@ -181,8 +181,8 @@ module _ (w : WorldState) (all : AllViews w.views w.processes) (council : IsCoun
 
   by_letter : (n : ℕ) (o : Option Letter) → numbered n w.letters ≡ o → takes w o ≡ Ok a → Goal
   by_letter n None found e = absurd cc
-  by_letter n (Some l) found e = actor_step Goal w a l.to (λ id node. acts w id node (receives node l)) (λ m g. manager_acts w m (step_of g (Receipt l)))
-      (λ id x to at e. by_node id x (receives x l) (by_receipt n l found id x at) e) (λ m g to at e. by_manager m (step_of g (Receipt l)) e) e
+  by_letter n (Some l) found e = actor_step Goal w a l.to (λ id node. acts w id node (receives node l)) (λ m g. manager_acts w m (step_of g (ManagerEvent.Receive l)))
+      (λ id x to at e. by_node id x (receives x l) (by_receipt n l found id x at) e) (λ m g to at e. by_manager m (step_of g (ManagerEvent.Receive l)) e) e
 
   by_start : (id : NodeId) (o : Option Process) → starts_at o w id ≡ Ok a → Goal
   by_start id (Some p) e = absurd cc
@@ -191,19 +191,19 @@ module _ (w : WorldState) (all : AllViews w.views w.processes) (council : IsCoun
       no_view_yet : HasView w.views (joining w id).node
       no_view_yet v is = absurd cc
 
-      by_member : (b : Bool) → cond b (aside (record w { processes = put_process id (joining w id) w.processes; paces = paces_by w (ClockStart (Node id) (greatest_clock 1 w.paces)) }) nothing) (Err NotMember) ≡ Ok a → Goal
-      by_member true e = by_aside (record w { processes = put_process id (joining w id) w.processes; paces = paces_by w (ClockStart (Node id) (greatest_clock 1 w.paces)) }) nothing (put_views w.views w.processes id (joining w id) all no_view_yet) e
+      by_member : (b : Bool) → cond b (aside (record w { processes = put_process id (joining w id) w.processes; paces = paces_by w (ClockEvent.Start (Node id) (greatest_clock 1 w.paces)) }) nothing) (Err NotMember) ≡ Ok a → Goal
+      by_member true e = by_aside (record w { processes = put_process id (joining w id) w.processes; paces = paces_by w (ClockEvent.Start (Node id) (greatest_clock 1 w.paces)) }) nothing (put_views w.views w.processes id (joining w id) all no_view_yet) e
       by_member false e = absurd cc
 
   pub views_kept : (event : Event) → world_step w event ≡ Ok a → Goal
   views_kept (Call id key op) e = node_step Goal w a id (calls_at w id key op) (λ x at e. by_call id x at key op e) e
   views_kept (Take n) e = by_letter n (numbered n w.letters) refl e
   views_kept (Tick actor to) e = actor_step Goal w a actor (ticks_at w to) (manager_ticks_at w to)
-      (λ id x q at e. by_tick to id x at (clock_step (clocks_of w) (ClockTick (Node id) to)) e) (λ m g q at e. by_manager_tick to m g (clock_step (clocks_of w) (ClockTick (Manager m) to)) e) e
-  views_kept (TickAll to) e = by_all to (clock_step (clocks_of w) (ClockTickAll to)) e
+      (λ id x q at e. by_tick to id x at (clock_step (clocks_of w) (ClockEvent.Tick (Node id) to)) e) (λ m g q at e. by_manager_tick to m g (clock_step (clocks_of w) (ClockEvent.Tick (Manager m) to)) e) e
+  views_kept (TickAll to) e = by_all to (clock_step (clocks_of w) (ClockEvent.TickAll to)) e
   views_kept (Crash actor) e = actor_step Goal w a actor (crashes_at w) (manager_crashes_at w)
-      (λ id x q at e. by_aside (record w { processes = put_process id (record { node = x; crashed = true }) w.processes; paces = paces_by w (ClockStop (Node id)) }) nothing (put_views w.views w.processes id (record { node = x; crashed = true }) all (has id x at)) e)
-      (λ m g q at e. by_aside (record w { managers = put_manager m (record { manager = g; crashed = true }) w.managers; paces = paces_by w (ClockStop (Manager m)) }) nothing all e) e
+      (λ id x q at e. by_aside (record w { processes = put_process id (record { node = x; crashed = true }) w.processes; paces = paces_by w (ClockEvent.Stop (Node id)) }) nothing (put_views w.views w.processes id (record { node = x; crashed = true }) all (has id x at)) e)
+      (λ m g q at e. by_aside (record w { managers = put_manager m (record { manager = g; crashed = true }) w.managers; paces = paces_by w (ClockEvent.Stop (Manager m)) }) nothing all e) e
   views_kept (Resend id key) e = node_step Goal w a id (λ node. acts w id node (resent node key)) (λ x at e. by_node id x (resent x key) (as_was id x (resent x key).node at (found_quiet x key resend (find_row key x.rows)).view) e) e
   views_kept (Replay id key) e = node_step Goal w a id (λ node. acts w id node (replayed node key)) (λ x at e. by_node id x (replayed x key) (as_was id x (replayed x key).node at (replayed_quiet x key).view) e) e
   views_kept (Copy id from room) e = node_step Goal w a id (λ node. acts w id node (asks_copy node from room)) (λ x at e. by_node id x (asks_copy x from room) (as_was id x (asks_copy x from room).node at (asks_quiet x from room).view) e) e
@@ -212,5 +212,5 @@ module _ (w : WorldState) (all : AllViews w.views w.processes) (council : IsCoun
   views_kept (Install id epoch) e = not_told Goal w a w.managers (live w id (λ node. installs_at (numbered epoch w.views) w id node)) some e
   views_kept (Lease id end) e = not_told Goal w a w.managers (live w id (leases_at w id end)) some e
   views_kept (AskLease id m) e = node_step Goal w a id (λ node. acts w id node (asks_lease node m)) (λ x at e. by_node id x (asks_lease x m) (as_was id x (asks_lease x m).node at (asks_view x m)) e) e
-  views_kept (Propose m base change) e = manager_step Goal w a m (λ g. manager_acts w m (step_of g (Proposal base change))) (λ g at e. by_manager m (step_of g (Proposal base change)) e) e
-  views_kept (Activate m) e = manager_step Goal w a m (λ g. manager_acts w m (step_of g Activation)) (λ g at e. by_manager m (step_of g Activation) e) e
+  views_kept (Propose m base change) e = manager_step Goal w a m (λ g. manager_acts w m (step_of g (ManagerEvent.Propose base change))) (λ g at e. by_manager m (step_of g (ManagerEvent.Propose base change)) e) e
+  views_kept (Activate m) e = manager_step Goal w a m (λ g. manager_acts w m (step_of g ManagerEvent.Activate)) (λ g at e. by_manager m (step_of g ManagerEvent.Activate) e) e

@@ -18,7 +18,7 @@ use Rattle.hk_manager.specs.declared.instance.TheConstants.{MAX_EPOCH, MAX_ROUND
 use Rattle.hk_manager.specs.Manager.{ManagerState, instance_at, with_instance}
 use Rattle.hk_manager.specs.Changes.{changed, change_fault}
 use Rattle.hk_manager.specs.Sends.{to_all, told_all}
-use Rattle.hk_manager.specs.Steps.{Stepped, sends, idle, learns, begins, counts_promise, counts_acceptance}
+use Rattle.hk_manager.specs.Steps.{ManagerStepped, sends, idle, learns, begins, counts_promise, counts_acceptance}
 use Rattle.hk_manager.specs.Sound.{IsInstance, IsProposal, IsManager}
 use Rattle.hk_manager.specs.Outs.{made}
 use Rattle.hk_manager.proofs.Parts.{instance_found, new_proposal}
@@ -30,7 +30,7 @@ use Rattle.hk_manager.proofs.Posts.{first_of, second_of}
 pub begins_late : (m : ManagerState) (change : Change) → MAX_EPOCH ≤ m.held.epoch → idle m ≡ begins m change
 begins_late m change late = at (nat_lt MAX_EPOCH (m.held.epoch + 1)) (nat_lt MAX_ROUND ((instance_at (m.held.epoch + 1) m.instances).round + 1)) _ (lt-ltb MAX_EPOCH (m.held.epoch + 1) (omega (arith, late)))
   where
-    at : (b d : Bool) (y : Stepped) → b ≡ true → idle m ≡ cond (b || d) (idle m) y
+    at : (b d : Bool) (y : ManagerStepped) → b ≡ true → idle m ≡ cond (b || d) (idle m) y
     at true d y h = refl
     at false d y h = first_of false _ _ h
 
@@ -40,12 +40,12 @@ begins_last m epoch change instance next known late = at (nat_lt MAX_EPOCH (m.he
     rounds : instance.round ≡ (instance_at (m.held.epoch + 1) m.instances).round
     rounds = ap (λ (i : Instance). i.round) known ∙ ap (λ (e : ℕ). (instance_at e m.instances).round) next
 
-    at : (b d : Bool) (y : Stepped) → d ≡ true → idle m ≡ cond (b || d) (idle m) y
+    at : (b d : Bool) (y : ManagerStepped) → d ≡ true → idle m ≡ cond (b || d) (idle m) y
     at true d y h = refl
     at false true y h = refl
     at false false y h = first_of false _ _ h
 
-abbrev begun : ManagerState → Change → ℕ → Instance → Stepped
+abbrev begun : ManagerState → Change → ℕ → Instance → ManagerStepped
 begun m change epoch instance =
     sends (record (with_instance m epoch (record { acceptor = instance.acceptor; round = instance.round + 1 })) { proposal = Some (proposer_new epoch (record { round = instance.round + 1; manager = m.id }) (changed m.held change) m.managers) })
     (to_all m epoch (Prepare (record { round = instance.round + 1; manager = m.id })))
@@ -54,7 +54,7 @@ begins_begun : (m : ManagerState) (change : Change) → m.held.epoch < MAX_EPOCH
 begins_begun m change early round = at (nat_lt MAX_EPOCH (m.held.epoch + 1)) (nat_lt MAX_ROUND ((instance_at (m.held.epoch + 1) m.instances).round + 1)) _
     (le-ltb MAX_EPOCH (m.held.epoch + 1) (omega (arith, early))) (le-ltb MAX_ROUND ((instance_at (m.held.epoch + 1) m.instances).round + 1) (omega (arith, round)))
   where
-    at : (b d : Bool) (y : Stepped) → b ≡ false → d ≡ false → y ≡ cond (b || d) (idle m) y
+    at : (b d : Bool) (y : ManagerStepped) → b ≡ false → d ≡ false → y ≡ cond (b || d) (idle m) y
     at false false y h g = refl
     at true d y h g = second_of true _ _ h
     at false true y h g = second_of true _ _ g
@@ -79,13 +79,13 @@ begun_proposal m change epoch round ballot proposer is possible own proposing =
     rw (proposing, own) (new_proposal m.id m.managers epoch round (changed m.held change) (changed_view m.held change is.held possible))
 
 -- ---- answers
-pub promise_made : (m : ManagerState) (p after : Proposer) (from : ℕ) (promise : Promise) (epoch : ℕ) (ballot : Ballot) (view : Option View) (body : Option Body) (letters : List Letter) (stepped : Stepped) →
+pub promise_made : (m : ManagerState) (p after : Proposer) (from : ℕ) (promise : Promise) (epoch : ℕ) (ballot : Ballot) (view : Option View) (body : Option Body) (letters : List Letter) (stepped : ManagerStepped) →
     epoch ≡ p.epoch → ballot ≡ p.ballot → view ≡ (proposer_on_promise p from promise).answer → after ≡ (proposer_on_promise p from promise).after →
     body ≡ option_map (λ v. Accept ballot v) view → letters ≡ told_all m epoch body → stepped ≡ sends (record m { proposal = Some after }) letters →
     stepped ≡ counts_promise p m from promise
 promise_made m p after from promise epoch ballot view body letters stepped e b v a o l n = rw (n, l, o, v, a, e, b) refl
 
-pub acceptance_made : (m : ManagerState) (p after : Proposer) (from : ℕ) (ballot : Ballot) (letters : List Letter) (stepped : Stepped) → None ≡ (proposer_on_accepted p from ballot).answer →
+pub acceptance_made : (m : ManagerState) (p after : Proposer) (from : ℕ) (ballot : Ballot) (letters : List Letter) (stepped : ManagerStepped) → None ≡ (proposer_on_accepted p from ballot).answer →
     after ≡ (proposer_on_accepted p from ballot).after → letters ≡ [] → stepped ≡ sends (record m { proposal = Some after }) letters → stepped ≡ counts_acceptance p m from ballot
 acceptance_made m p after from ballot letters stepped none a l n = rw (n, l, a, ← none) refl
 

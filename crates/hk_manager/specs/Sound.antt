@@ -55,8 +55,8 @@ manager_new id managers view lease = record {
 }
 
 -- letters are in range, and times are within the limit
-abbrev pub IsEvent : ManagerEvent → Type 0
-IsEvent (Propose base change) = ⊤
-IsEvent (Receive letter) = IsLetter letter
-IsEvent Activate = ⊤
-IsEvent (Tick now) = now ≤ MAX_TIME
+abbrev pub IsManagerEvent : ManagerEvent → Type 0
+IsManagerEvent (Propose base change) = ⊤
+IsManagerEvent (Receive letter) = IsLetter letter
+IsManagerEvent Activate = ⊤
+IsManagerEvent (Tick now) = now ≤ MAX_TIME

@@ -7,7 +7,7 @@ use Rattle.hk_lease.specs.Entries.{entry_rolled_back}
 use Rattle.hk_lease.specs.Grants.{noted_for, until_rolled_back}
 use Rattle.hk_manager.specs.declared.instance.Instance.{Instance}
 use Rattle.hk_manager.specs.declared.out.Replaced.{Replaced}
-use Rattle.hk_manager.specs.declared.out.Replaced.TheVariants.{Nothing, Clock, Until, Instance as OneInstance, Begun, Proposal, Held}
+use Rattle.hk_manager.specs.declared.out.Replaced.TheVariants as Replaced
 use Rattle.hk_manager.specs.declared.out.ManagerOut.{ManagerOut}
 use Rattle.hk_manager.specs.Manager.{ManagerState}
 
@@ -21,23 +21,23 @@ instance_rolled_back epoch instance instances = entry_rolled_back (is_at (nat_cm
 
 -- the manager with a step undone that replaced this
 abbrev pub rolled_back : Replaced → ManagerState → ManagerState
-rolled_back Nothing m = m
-rolled_back (Clock clock) m = record m { clock = clock }
-rolled_back (Until node until) m = record m { untils = until_rolled_back m.untils node until }
-rolled_back (OneInstance epoch instance) m = record m { instances = instance_rolled_back epoch instance m.instances }
-rolled_back (Begun epoch instance proposal) m = record m { instances = instance_rolled_back epoch instance m.instances; proposal = proposal }
-rolled_back (Proposal proposal held) m = record m { proposal = proposal; held = unwrap_or held m.held }
-rolled_back (Held view) m = record m { held = view }
+rolled_back Replaced.Nothing m = m
+rolled_back (Replaced.Clock clock) m = record m { clock = clock }
+rolled_back (Replaced.Until node until) m = record m { untils = until_rolled_back m.untils node until }
+rolled_back (Replaced.Instance epoch instance) m = record m { instances = instance_rolled_back epoch instance m.instances }
+rolled_back (Replaced.Begun epoch instance proposal) m = record m { instances = instance_rolled_back epoch instance m.instances; proposal = proposal }
+rolled_back (Replaced.Proposal proposal held) m = record m { proposal = proposal; held = unwrap_or held m.held }
+rolled_back (Replaced.Held view) m = record m { held = view }
 
 -- what took the place of an until, or of an instance, stands there
 abbrev pub IsThere : Replaced → ManagerState → Type 0
-IsThere Nothing m = ⊤
-IsThere (Clock clock) m = ⊤
-IsThere (Until node until) m = IsSome (noted_for m.untils node)
-IsThere (OneInstance epoch instance) m = IsSome (known_of epoch m.instances)
-IsThere (Begun epoch instance proposal) m = IsSome (known_of epoch m.instances)
-IsThere (Proposal proposal held) m = ⊤
-IsThere (Held view) m = ⊤
+IsThere Replaced.Nothing m = ⊤
+IsThere (Replaced.Clock clock) m = ⊤
+IsThere (Replaced.Until node until) m = IsSome (noted_for m.untils node)
+IsThere (Replaced.Instance epoch instance) m = IsSome (known_of epoch m.instances)
+IsThere (Replaced.Begun epoch instance proposal) m = IsSome (known_of epoch m.instances)
+IsThere (Replaced.Proposal proposal held) m = ⊤
+IsThere (Replaced.Held view) m = ⊤
 
 -- A step that made `new` of `old` replaced this: with that given back the manager is as it was.
 pub record HasReplaced (replaced : Replaced) (old new : ManagerState) : Type 0 where

@@ -5,9 +5,9 @@ use Rattle.std.proofs.lemmas.Cmp.{nat_cmp_total, tied_itself, ranked}
 use Rattle.hk_base.specs.declared.stamp.NodeId.{NodeId}
 use Rattle.hk_base.specs.declared.call.Op.TheVariants.{Read}
 use Rattle.hk_base.specs.declared.letter.Actor.{Actor}
-use Rattle.hk_base.specs.declared.letter.Actor.TheVariants as A
+use Rattle.hk_base.specs.declared.letter.Actor.TheVariants as Actor
 use Rattle.hk_base.specs.declared.letter.Letter.{Letter}
-use Rattle.hk_node.specs.declared.event.NodeEvent.TheVariants as E
+use Rattle.hk_node.specs.declared.event.NodeEvent.TheVariants as NodeEvent
 use Rattle.hk_node.specs.Node.{NodeState}
 use Rattle.hk_node.specs.Calls.{called}
 use Rattle.hk_node.specs.Steps.{receives, resent, replayed}
@@ -15,7 +15,7 @@ use Rattle.hk_world.specs.declared.event.Event.TheVariants.{Call, Take, Resend, 
 use Rattle.hk_world.specs.declared.process.Process.{Process}
 use Rattle.hk_world.specs.declared.refused.Refused.{Refused}
 use Rattle.hk_world.specs.World.{WorldState, Processes, by_number, process_at, put_process, numbered}
-use Rattle.hk_manager.specs.declared.event.ManagerEvent.TheVariants.{Receive as Receipt}
+use Rattle.hk_manager.specs.declared.event.ManagerEvent.TheVariants as ManagerEvent
 use Rattle.hk_manager.specs.Steps.{manager_step}
 use Rattle.hk_world.specs.Steps.{Accepted, acts, manager_acts, running_at, live_at, live, live_actor, takes, calls_at}
 use Rattle.hk_merge.specs.Reads.{IsServing, AsTo, read_answer, ReadsAreOfTheRow, OthersStay}
@@ -67,10 +67,10 @@ module _ (P : Type 0) (w : WorldState) (a : Accepted) where
       by_process (Some p) at e = by_crashed p at p.crashed refl e
 
   -- a letter to a node is taken by it
-  pub takes_step : (l : Letter) (id : NodeId) → l.to ≡ A.Node id → (o : Option Letter) → o ≡ Some l →
+  pub takes_step : (l : Letter) (id : NodeId) → l.to ≡ Actor.Node id → (o : Option Letter) → o ≡ Some l →
       ((x : NodeState) → process_at id w.processes ≡ Some (alive x) → acts w id x (receives x l) ≡ Ok a → P) → takes w o ≡ Ok a → P
   takes_step l id to o is go_on e = live_step id (λ node. acts w id node (receives node l)) go_on
-      (sym (ap (λ (actor : Actor). live_actor w actor (λ at node. acts w at node (receives node l)) (λ m manager. manager_acts w m (manager_step manager (Receipt l)))) to) ∙ (sym (ap (λ (p : Option Letter). takes w p) is) ∙ e))
+      (sym (ap (λ (actor : Actor). live_actor w actor (λ at node. acts w at node (receives node l)) (λ m manager. manager_acts w m (manager_step manager (ManagerEvent.Receive l)))) to) ∙ (sym (ap (λ (p : Option Letter). takes w p) is) ∙ e))
 
 still_serving : (key : List ℕ) (old new : NodeState) → AsTo key old new → IsServing old → IsServing new
 still_serving key old new same serving = record { ready = ap (λ (n : NodeState). n.ready) same.rest ∙ serving.ready; alone = ap (λ (n : NodeState). n.managers) same.rest ∙ serving.alone }
@@ -125,7 +125,7 @@ unfolding processes_in
 events_keep_aside others w (Call at k op) a id key node e aside there serving =
     live_step (Runs a.world id key node) w a at (calls_at w at k op) (λ x found is.
     moved w a id key node there serving at x (called x (record { 0 = w.calls + 1 }) k op).node found (ap processes_in is)
-    (λ same r. others x (E.Call (record { 0 = w.calls + 1 }) k op) key r tt (by_aside aside same))) e
+    (λ same r. others x (NodeEvent.Call (record { 0 = w.calls + 1 }) k op) key r tt (by_aside aside same))) e
   where
     by_aside : (op ≡ Read) ⊎ ((at ≢ id) ⊎ (k ≢ key)) → at ≡ id → (op ≡ Read) ⊎ (Some k ≢ Some key)
     by_aside (inl read) same = inl read
@@ -137,15 +137,15 @@ events_keep_aside others w (Take number) a id key node e aside there serving = b
     by_letter (Some l) numbers (to, is_to, far) e =
         takes_step (Runs a.world id key node) w a l to is_to (Some l) refl (λ x found is.
         moved w a id key node there serving to x (receives x l).node found (ap processes_in is)
-        (λ same r. others x (E.Receive l) key r tt (inr (one_of to id same far)))) e
+        (λ same r. others x (NodeEvent.Receive l) key r tt (inr (one_of to id same far)))) e
 events_keep_aside others w (Resend at k) a id key node e aside there serving =
     live_step (Runs a.world id key node) w a at (λ x. acts w at x (resent x k)) (λ x found is.
     moved w a id key node there serving at x (resent x k).node found (ap processes_in is)
-    (λ same r. others x (E.Resend k) key r tt (inr (some_key k key (one_of at id same aside))))) e
+    (λ same r. others x (NodeEvent.Resend k) key r tt (inr (some_key k key (one_of at id same aside))))) e
 events_keep_aside others w (Replay at k) a id key node e aside there serving =
     live_step (Runs a.world id key node) w a at (λ x. acts w at x (replayed x k)) (λ x found is.
     moved w a id key node there serving at x (replayed x k).node found (ap processes_in is)
-    (λ same r. others x (E.Replay k) key r tt (inr (some_key k key (one_of at id same aside))))) e
+    (λ same r. others x (NodeEvent.Replay k) key r tt (inr (some_key k key (one_of at id same aside))))) e
 events_keep_aside others w event a id key node e aside there serving = absurd aside
 
 pub asides_keep_reads : ReadsAreOfTheRow → EventsKeepAside → AsidesKeepReads

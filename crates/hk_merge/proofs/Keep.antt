@@ -8,7 +8,7 @@ use Rattle.std.proofs.lemmas.Map.Keys.{sorted_head, sorted_tail}
 use Rattle.hk_base.specs.declared.stamp.NodeId.{NodeId}
 use Rattle.hk_base.specs.declared.letter.Letter.{Letter}
 use Rattle.hk_node.specs.declared.event.NodeEvent.{NodeEvent}
-use Rattle.hk_node.specs.declared.event.NodeEvent.TheVariants as N
+use Rattle.hk_node.specs.declared.event.NodeEvent.TheVariants as NodeEvent
 use Rattle.hk_node.specs.Laws.{key_of, key_in}
 use Rattle.hk_world.specs.declared.event.Event.{Event}
 use Rattle.hk_world.specs.declared.shown.Shown.{Shown}
@@ -31,10 +31,10 @@ other_key n id k key (inl ne) = inl ne
 other_key n id k key (inr ne) = inr (λ e. ne (ap (λ (x : List ℕ). Some x) e))
 
 event_is_aside : (w : WorldState) (tickets : List ℕ) (ticket : ℕ) (id : NodeId) (key : List ℕ) (n : NodeId) (made : NodeEvent) (event : Event) → (n ≢ id) ⊎ (key_of made ≢ Some key) → IsEventOf w.letters tickets n ticket made event → IsAside w id key event
-event_is_aside w tickets ticket id key n (N.Call call k op) event far is = subst (λ (e : Event). IsAside w id key e) (sym is) (inr (other_key n id k key far))
-event_is_aside w tickets ticket id key n (N.Receive l) event far (number, is, first, to) = subst (λ (e : Event). IsAside w id key e) (sym is) (subst (λ (o : Option Letter). LetterIsAside o id key) (sym first.there) (n, to, far))
-event_is_aside w tickets ticket id key n (N.Resend k) event far is = subst (λ (e : Event). IsAside w id key e) (sym is) (other_key n id k key far)
-event_is_aside w tickets ticket id key n (N.Replay k) event far is = subst (λ (e : Event). IsAside w id key e) (sym is) (other_key n id k key far)
+event_is_aside w tickets ticket id key n (NodeEvent.Call call k op) event far is = subst (λ (e : Event). IsAside w id key e) (sym is) (inr (other_key n id k key far))
+event_is_aside w tickets ticket id key n (NodeEvent.Receive l) event far (number, is, first, to) = subst (λ (e : Event). IsAside w id key e) (sym is) (subst (λ (o : Option Letter). LetterIsAside o id key) (sym first.there) (n, to, far))
+event_is_aside w tickets ticket id key n (NodeEvent.Resend k) event far is = subst (λ (e : Event). IsAside w id key e) (sym is) (other_key n id k key far)
+event_is_aside w tickets ticket id key n (NodeEvent.Replay k) event far is = subst (λ (e : Event). IsAside w id key e) (sym is) (other_key n id k key far)
 event_is_aside w tickets ticket id key n made event far is = absurd is
 
 item_is_aside : (w : WorldState) (tickets : List ℕ) (id : NodeId) (key : List ℕ) (item : Item) (event : Event) (shown : Shown) → ItemIsAside id key item → IsOf item w.letters tickets event shown → IsAside w id key event

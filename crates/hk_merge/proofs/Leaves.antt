@@ -9,7 +9,7 @@ use Rattle.hk_base.specs.declared.call.Content.{Content}
 use Rattle.hk_base.specs.declared.call.Op.{Op}
 use Rattle.hk_base.specs.declared.call.Op.TheVariants.{Read}
 use Rattle.hk_base.specs.declared.call.State.{State}
-use Rattle.hk_base.specs.declared.call.State.TheVariants.{Valid, Invalid, Write, Replay as ReplayState, Trans}
+use Rattle.hk_base.specs.declared.call.State.TheVariants as State
 use Rattle.hk_base.specs.declared.letter.Actor.{Actor}
 use Rattle.hk_base.specs.declared.letter.Actor.TheVariants.{Node, Manager}
 use Rattle.hk_base.specs.declared.letter.Letter.{Letter}
@@ -44,11 +44,11 @@ reads_are_answered node key call = by_lease (nat_lt (lease_end node) (node.clock
     the_row = row_at key node.rows
 
     by_state : (state : State) → at_state state node call key Read the_row ≡ answers node key call (read_in state the_row)
-    by_state Valid = read_changes_nothing the_row node call key the_row.content refl
-    by_state Invalid = refl
-    by_state Write = refl
-    by_state ReplayState = refl
-    by_state Trans = refl
+    by_state State.Valid = read_changes_nothing the_row node call key the_row.content refl
+    by_state State.Invalid = refl
+    by_state State.Write = refl
+    by_state State.Replay = refl
+    by_state State.Trans = refl
 
     by_lease : (b : Bool) → at_lease b node call key Read ≡ answers node key call (read_at b node the_row)
     by_lease true = refl
@@ -106,11 +106,11 @@ module _ (node : NodeState) (key : List ℕ) where
       by_turn true = by_limit (next_stamp (kind_of op) the_row.stamp node.id)
 
       by_state : (state : State) → As (at_state state node call k op the_row)
-      by_state Valid = by_turn (act op (register_in the_row) 0).changed
-      by_state Invalid = as_to_itself key node
-      by_state Write = as_to_itself key node
-      by_state ReplayState = as_to_itself key node
-      by_state Trans = as_to_itself key node
+      by_state State.Valid = by_turn (act op (register_in the_row) 0).changed
+      by_state State.Invalid = as_to_itself key node
+      by_state State.Write = as_to_itself key node
+      by_state State.Replay = as_to_itself key node
+      by_state State.Trans = as_to_itself key node
 
       by_lease : (b : Bool) → As (at_lease b node call k op)
       by_lease true = as_to_itself key node

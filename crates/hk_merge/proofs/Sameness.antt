@@ -14,7 +14,7 @@ use Rattle.hk_base.specs.declared.call.State.TheVariants as st
 use Rattle.hk_base.specs.declared.call.Why.{Why}
 use Rattle.hk_base.specs.declared.call.Why.TheVariants as why
 use Rattle.hk_base.specs.declared.call.Answer.{Answer}
-use Rattle.hk_base.specs.declared.call.Answer.TheVariants as A
+use Rattle.hk_base.specs.declared.call.Answer.TheVariants as Answer
 use Rattle.hk_base.specs.declared.call.Reply.{Reply}
 use Rattle.hk_base.specs.declared.view.Ballot.{Ballot}
 use Rattle.hk_base.specs.declared.view.View.{View}
@@ -333,33 +333,33 @@ answers : Tells same_answer
 answers = record { is = answer_is; itself = answer_itself }
   where
     answer_is : (a b : Answer) → same_answer a b ≡ true → a ≡ b
-    answer_is (A.Found c t) (A.Found d u) e = (let p = and_parts (same_content c d) (t == u) e in two (λ (x : Content) (y : ℕ). A.Found x y) c d t u (contents.is c d p.0) (numbers.is t u p.1))
-    answer_is A.Missing A.Missing e = refl
-    answer_is A.Stored A.Stored e = refl
-    answer_is (A.Number n) (A.Number m) e = ap (λ (x : ℕ). A.Number x) (numbers.is n m e)
-    answer_is A.Exists A.Exists e = refl
-    answer_is A.NotFound A.NotFound e = refl
-    answer_is A.NotNumber A.NotNumber e = refl
-    answer_is A.NotStored A.NotStored e = refl
-    answer_is A.Deleted A.Deleted e = refl
-    answer_is (A.Busy w) (A.Busy v) e = ap (λ (x : Why). A.Busy x) (whys.is w v e)
-    answer_is (A.Aborted s) (A.Aborted t) e = ap (λ (x : Stamp). A.Aborted x) (stamps.is s t e)
-    answer_is (A.Exhausted s) (A.Exhausted t) e = ap (λ (x : Stamp). A.Exhausted x) (stamps.is s t e)
+    answer_is (Answer.Found c t) (Answer.Found d u) e = (let p = and_parts (same_content c d) (t == u) e in two (λ (x : Content) (y : ℕ). Answer.Found x y) c d t u (contents.is c d p.0) (numbers.is t u p.1))
+    answer_is Answer.Missing Answer.Missing e = refl
+    answer_is Answer.Stored Answer.Stored e = refl
+    answer_is (Answer.Number n) (Answer.Number m) e = ap (λ (x : ℕ). Answer.Number x) (numbers.is n m e)
+    answer_is Answer.Exists Answer.Exists e = refl
+    answer_is Answer.NotFound Answer.NotFound e = refl
+    answer_is Answer.NotNumber Answer.NotNumber e = refl
+    answer_is Answer.NotStored Answer.NotStored e = refl
+    answer_is Answer.Deleted Answer.Deleted e = refl
+    answer_is (Answer.Busy w) (Answer.Busy v) e = ap (λ (x : Why). Answer.Busy x) (whys.is w v e)
+    answer_is (Answer.Aborted s) (Answer.Aborted t) e = ap (λ (x : Stamp). Answer.Aborted x) (stamps.is s t e)
+    answer_is (Answer.Exhausted s) (Answer.Exhausted t) e = ap (λ (x : Stamp). Answer.Exhausted x) (stamps.is s t e)
     answer_is a b e = absurd (false≢true e)
 
     answer_itself : (a : Answer) → same_answer a a ≡ true
-    answer_itself (A.Found c t) = both (same_content c c) (t == t) (contents.itself c) (numbers.itself t)
-    answer_itself A.Missing = refl
-    answer_itself A.Stored = refl
-    answer_itself (A.Number n) = numbers.itself n
-    answer_itself A.Exists = refl
-    answer_itself A.NotFound = refl
-    answer_itself A.NotNumber = refl
-    answer_itself A.NotStored = refl
-    answer_itself A.Deleted = refl
-    answer_itself (A.Busy w) = whys.itself w
-    answer_itself (A.Aborted s) = stamps.itself s
-    answer_itself (A.Exhausted s) = stamps.itself s
+    answer_itself (Answer.Found c t) = both (same_content c c) (t == t) (contents.itself c) (numbers.itself t)
+    answer_itself Answer.Missing = refl
+    answer_itself Answer.Stored = refl
+    answer_itself (Answer.Number n) = numbers.itself n
+    answer_itself Answer.Exists = refl
+    answer_itself Answer.NotFound = refl
+    answer_itself Answer.NotNumber = refl
+    answer_itself Answer.NotStored = refl
+    answer_itself Answer.Deleted = refl
+    answer_itself (Answer.Busy w) = whys.itself w
+    answer_itself (Answer.Aborted s) = stamps.itself s
+    answer_itself (Answer.Exhausted s) = stamps.itself s
 
 pub same_answer_is : (a b : Answer) → same_answer a b ≡ true → a ≡ b
 same_answer_is a b e = answers.is a b e

@@ -7,10 +7,10 @@ use Rattle.hk_base.specs.declared.stamp.NodeId.{NodeId}
 use Rattle.hk_base.specs.declared.letter.Actor.{Actor}
 use Rattle.hk_base.specs.declared.letter.Actor.TheVariants.{Node}
 use Rattle.hk_base.specs.declared.letter.Letter.{Letter}
-use Rattle.hk_manager.specs.declared.event.ManagerEvent.TheVariants.{Receive as Receipt}
+use Rattle.hk_manager.specs.declared.event.ManagerEvent.TheVariants as ManagerEvent
 use Rattle.hk_manager.specs.Steps.{manager_step}
 use Rattle.hk_node.specs.declared.event.NodeEvent.{NodeEvent}
-use Rattle.hk_node.specs.declared.event.NodeEvent.TheVariants as N
+use Rattle.hk_node.specs.declared.event.NodeEvent.TheVariants as NodeEvent
 use Rattle.hk_node.specs.Laws.{key_in}
 use Rattle.hk_node.specs.Made.{founder}
 use Rattle.hk_node.specs.Steps.{receives, resent, replayed}
@@ -50,12 +50,12 @@ AsideOfSome w id event = (key : List ℕ) × IsAside w id key event
 
 event_is_aside : (w : WorldState) (tickets : List ℕ) (id n : NodeId) (ticket : ℕ) (made : NodeEvent) (event : Event) → IsEventOf w.letters tickets n ticket made event → AsideOfSome w id event
 unfolding AsideOfSome
-event_is_aside w tickets id n ticket (N.Call call k op) event is = (0 ∷ k, subst (λ (e : Event). IsAside w id (0 ∷ k) e) (sym is) (inr (inr (is_other_key k))))
-event_is_aside w tickets id n ticket (N.Receive l) event (number, is, first, to) =
+event_is_aside w tickets id n ticket (NodeEvent.Call call k op) event is = (0 ∷ k, subst (λ (e : Event). IsAside w id (0 ∷ k) e) (sym is) (inr (inr (is_other_key k))))
+event_is_aside w tickets id n ticket (NodeEvent.Receive l) event (number, is, first, to) =
     let u = unnamed (key_in l.body) in
     (u.0, subst (λ (e : Event). IsAside w id u.0 e) (sym is) (subst (λ (o : Option Letter). LetterIsAside o id u.0) (sym first.there) (n, to, inr u.1)))
-event_is_aside w tickets id n ticket (N.Resend k) event is = (0 ∷ k, subst (λ (e : Event). IsAside w id (0 ∷ k) e) (sym is) (inr (is_other_key k)))
-event_is_aside w tickets id n ticket (N.Replay k) event is = (0 ∷ k, subst (λ (e : Event). IsAside w id (0 ∷ k) e) (sym is) (inr (is_other_key k)))
+event_is_aside w tickets id n ticket (NodeEvent.Resend k) event is = (0 ∷ k, subst (λ (e : Event). IsAside w id (0 ∷ k) e) (sym is) (inr (is_other_key k)))
+event_is_aside w tickets id n ticket (NodeEvent.Replay k) event is = (0 ∷ k, subst (λ (e : Event). IsAside w id (0 ∷ k) e) (sym is) (inr (is_other_key k)))
 event_is_aside w tickets id n ticket made event is = absurd is
 
 item_is_aside : (w : WorldState) (tickets : List ℕ) (id : NodeId) (item : Item) (event : Event) (shown : Shown) → IsOf item w.letters tickets event shown → AsideOfSome w id event
@@ -85,7 +85,7 @@ module _ (w : WorldState) (id : NodeId) (up : Serves w id) where
   taken None to = absurd to
   taken (Some letter) to = (
     _,
-    ap (λ (actor : Actor). live_actor w actor (λ n node. acts w n node (receives node letter)) (λ m manager. manager_acts w m (manager_step manager (Receipt letter)))) to
+    ap (λ (actor : Actor). live_actor w actor (λ n node. acts w n node (receives node letter)) (λ m manager. manager_acts w m (manager_step manager (ManagerEvent.Receive letter)))) to
         ∙ live_is id refl (λ node. acts w id node (receives node letter)),
   )
 

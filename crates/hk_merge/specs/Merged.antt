@@ -15,7 +15,7 @@ use Rattle.hk_base.specs.declared.letter.Actor.TheVariants.{Node}
 use Rattle.hk_base.specs.declared.letter.Letter.{Letter}
 use Rattle.hk_copy.specs.Batches.{key_cmp}
 use Rattle.hk_node.specs.declared.event.NodeEvent.{NodeEvent}
-use Rattle.hk_node.specs.declared.event.NodeEvent.TheVariants as N
+use Rattle.hk_node.specs.declared.event.NodeEvent.TheVariants as NodeEvent
 use Rattle.hk_node.specs.Node.{NodeState}
 use Rattle.hk_node.specs.Laws.{key_of}
 use Rattle.hk_journal.specs.declared.step_entry.JournalEntry.{JournalEntry}
@@ -120,10 +120,10 @@ pub record IsFirst (letter : Letter) (ticket : ℕ) (letters : List Letter) (tic
 
 -- The event of a world that an entry of the node is. A Receive is the taking of the first equal letter.
 abbrev pub IsEventOf : List Letter → List ℕ → NodeId → ℕ → NodeEvent → Event → Type 0
-IsEventOf letters tickets node ticket (N.Call call key op) event = event ≡ Call node key op
-IsEventOf letters tickets node ticket (N.Receive letter) event = (number : ℕ) × (event ≡ Take number) × IsFirst letter ticket letters tickets number × (letter.to ≡ Node node)
-IsEventOf letters tickets node ticket (N.Resend key) event = event ≡ Resend node key
-IsEventOf letters tickets node ticket (N.Replay key) event = event ≡ Replay node key
+IsEventOf letters tickets node ticket (NodeEvent.Call call key op) event = event ≡ Call node key op
+IsEventOf letters tickets node ticket (NodeEvent.Receive letter) event = (number : ℕ) × (event ≡ Take number) × IsFirst letter ticket letters tickets number × (letter.to ≡ Node node)
+IsEventOf letters tickets node ticket (NodeEvent.Resend key) event = event ≡ Resend node key
+IsEventOf letters tickets node ticket (NodeEvent.Replay key) event = event ≡ Replay node key
 IsEventOf letters tickets node ticket other event = ⊥
 
 abbrev pub answers_of : List Reply → List Answer

@@ -3,10 +3,10 @@ use Rattle.std.specs.Prelude.{◌≡◌, ◌≢◌, ◌⊎◌, ⊤, ℕ, ◌+◌
 use Rattle.hk_base.specs.declared.call.CallNo.{CallNo}
 use Rattle.hk_base.specs.declared.call.Answer.{Answer}
 use Rattle.hk_base.specs.declared.call.Answer.TheVariants.{Busy}
-use Rattle.hk_base.specs.declared.call.Why.TheVariants.{Lease, Row as OfRow}
+use Rattle.hk_base.specs.declared.call.Why.TheVariants as Why
 use Rattle.hk_base.specs.declared.call.Op.TheVariants.{Read}
 use Rattle.hk_base.specs.declared.call.State.{State}
-use Rattle.hk_base.specs.declared.call.State.TheVariants.{Valid, Invalid, Write, Replay as Replaying, Trans}
+use Rattle.hk_base.specs.declared.call.State.TheVariants as State
 use Rattle.hk_base.specs.Register.{act}
 use Rattle.hk_key.specs.declared.row.Row.{Row}
 use Rattle.hk_node.specs.declared.event.NodeEvent.{NodeEvent}
@@ -19,15 +19,15 @@ use Rattle.hk_node.specs.Laws.{key_of}
 
 -- by the row's state: a Valid row is read, any other is Busy
 abbrev pub read_in : State → Row → Answer
-read_in Valid row = (act Read (register_in row) 0).answer
-read_in Invalid row = Busy (OfRow row.state row.stamp)
-read_in Write row = Busy (OfRow row.state row.stamp)
-read_in Replaying row = Busy (OfRow row.state row.stamp)
-read_in Trans row = Busy (OfRow row.state row.stamp)
+read_in State.Valid row = (act Read (register_in row) 0).answer
+read_in State.Invalid row = Busy (Why.Row row.state row.stamp)
+read_in State.Write row = Busy (Why.Row row.state row.stamp)
+read_in State.Replay row = Busy (Why.Row row.state row.stamp)
+read_in State.Trans row = Busy (Why.Row row.state row.stamp)
 
 -- by whether the lease may be over
 abbrev pub read_at : Bool → NodeState → Row → Answer
-read_at true node row = Busy (Lease (lease_end node) node.clock)
+read_at true node row = Busy (Why.Lease (lease_end node) node.clock)
 read_at false node row = read_in row.state row
 
 -- what a Read of the key is answered at the node

@@ -13,7 +13,7 @@ use Rattle.hk_base.specs.declared.call.State.TheVariants as st
 use Rattle.hk_base.specs.declared.call.Why.{Why}
 use Rattle.hk_base.specs.declared.call.Why.TheVariants as why
 use Rattle.hk_base.specs.declared.call.Answer.{Answer}
-use Rattle.hk_base.specs.declared.call.Answer.TheVariants as A
+use Rattle.hk_base.specs.declared.call.Answer.TheVariants as Answer
 use Rattle.hk_base.specs.declared.call.Reply.{Reply}
 use Rattle.hk_base.specs.declared.view.Ballot.{Ballot}
 use Rattle.hk_base.specs.declared.view.View.{View}
@@ -103,18 +103,18 @@ same_why (why.Row state stamp) (why.Row s t) = same_state state s && same_stamp 
 same_why a b = false
 
 abbrev pub same_answer : Answer → Answer → Bool
-same_answer (A.Found c t) (A.Found d u) = same_content c d && t == u
-same_answer A.Missing A.Missing = true
-same_answer A.Stored A.Stored = true
-same_answer (A.Number n) (A.Number m) = n == m
-same_answer A.Exists A.Exists = true
-same_answer A.NotFound A.NotFound = true
-same_answer A.NotNumber A.NotNumber = true
-same_answer A.NotStored A.NotStored = true
-same_answer A.Deleted A.Deleted = true
-same_answer (A.Busy w) (A.Busy v) = same_why w v
-same_answer (A.Aborted s) (A.Aborted t) = same_stamp s t
-same_answer (A.Exhausted s) (A.Exhausted t) = same_stamp s t
+same_answer (Answer.Found c t) (Answer.Found d u) = same_content c d && t == u
+same_answer Answer.Missing Answer.Missing = true
+same_answer Answer.Stored Answer.Stored = true
+same_answer (Answer.Number n) (Answer.Number m) = n == m
+same_answer Answer.Exists Answer.Exists = true
+same_answer Answer.NotFound Answer.NotFound = true
+same_answer Answer.NotNumber Answer.NotNumber = true
+same_answer Answer.NotStored Answer.NotStored = true
+same_answer Answer.Deleted Answer.Deleted = true
+same_answer (Answer.Busy w) (Answer.Busy v) = same_why w v
+same_answer (Answer.Aborted s) (Answer.Aborted t) = same_stamp s t
+same_answer (Answer.Exhausted s) (Answer.Exhausted t) = same_stamp s t
 same_answer a b = false
 
 -- the numbers of the calls are aside

@@ -9,7 +9,7 @@ use Rattle.std.proofs.lemmas.Option.{none-some}
 use Rattle.hk_base.specs.declared.stamp.Stamp.{Stamp}
 use Rattle.hk_base.specs.declared.stamp.NodeId.{NodeId}
 use Rattle.hk_base.specs.declared.stamp.Kind.{Kind}
-use Rattle.hk_base.specs.declared.stamp.Kind.TheVariants.{Write as Plain, Rmw}
+use Rattle.hk_base.specs.declared.stamp.Kind.TheVariants as Kind
 use Rattle.hk_base.specs.declared.call.Content.{Content}
 use Rattle.hk_base.specs.declared.call.Reply.{Reply}
 use Rattle.hk_base.specs.declared.call.State.{State}
@@ -102,8 +102,8 @@ module _ (key : List ℕ) where
       by_order Greater e = by_kind kind
         where
           by_kind : (k : Kind) → SendsWithin key (on_inv_at Greater row from s k content)
-          by_kind Plain = (within, own)
-          by_kind Rmw = (own, left.leaves (grind arith))
+          by_kind Kind.Write = (within, own)
+          by_kind Kind.Rmw = (own, left.leaves (grind arith))
 
   ack_sends : (me : NodeId) (members : List NodeId) (row : Row) (from : NodeId) (s top : Stamp) → IfSome row.pending (λ p. IsWithin p.stamp) → SendsWithin key (on_ack me members row from s top)
   ack_sends me members row from s top within = by_pending row.pending within
@@ -139,8 +139,8 @@ module _ (key : List ℕ) where
   inv_untouched row from s kind content = by_order (nat_cmp (tag_of row.stamp) (tag_of s)) refl
     where
       by_kind : (k : Kind) → (on_inv_at Greater row from s k content).row ≡ row
-      by_kind Plain = refl
-      by_kind Rmw = refl
+      by_kind Kind.Write = refl
+      by_kind Kind.Rmw = refl
 
       by_order : (o : Ordering) → nat_cmp (tag_of row.stamp) (tag_of s) ≡ o → is_touched (on_inv_at o row from s kind content).row ≡ false → (on_inv_at o row from s kind content).row ≡ row
       by_order Less at e = absurd (above_none (tag_of row.stamp) (tag_of s) at e)

@@ -15,7 +15,7 @@ use Rattle.hk_key.proofs.Unchanged.{same_after_view}
 use Rattle.hk_node.specs.declared.report.PriorRow.{PriorRow}
 use Rattle.hk_node.specs.declared.report.Report.{Report}
 use Rattle.hk_node.specs.declared.report.Undo.{Undo}
-use Rattle.hk_node.specs.declared.report.Undo.TheVariants.{View as Viewed}
+use Rattle.hk_node.specs.declared.report.Undo.TheVariants as Undo
 use Rattle.hk_node.specs.declared.out.NodeOut.{NodeOut}
 use Rattle.hk_node.specs.Rows.{Rows, find_row}
 use Rattle.hk_node.specs.Node.{NodeState, epoch_of, is_member}
@@ -40,7 +40,7 @@ same_pieces f g h (x ∷ xs) = flat_map-cons f x xs ∙ ap (λ l. l ++ flat_map 
 pub installs_not : (node : NodeState) (view : View) → (nat_lt (epoch_of node) view.epoch && is_member node.id view.members) ≡ false → installs node view ≡ idle node
 installs_not node view e = ap (λ (b : Bool). if b then installed_in (record node { view = Some view }) view.epoch else idle node) e
 
-pub beside_is : (v w : Option View) (a b : List ℕ) → v ≡ w → a ≡ b → Viewed v a ≡ Viewed w b
+pub beside_is : (v w : Option View) (a b : List ℕ) → v ≡ w → a ≡ b → Undo.View v a ≡ Undo.View w b
 beside_is v w a b same alike = rw (same, alike) refl
 
 module _ (node : NodeState) (view : View) where
@@ -108,11 +108,11 @@ module _ (node : NodeState) (view : View) where
     letters_is = same_pieces (view_letters node.id view) (λ r. sent new r.0 (viewed new r).row (viewed new r).out.send)
         (λ r. sent_alike node.id view new r.0 (viewed new r).row (viewed new r).out.send refl refl) node.rows
 
-    undone_is : (f : List PriorRow) (b : Undo) → b ≡ Viewed node.view node.activated → f ≡ priors step same told changed node.rows → rolled_back f b (installed_in new view.epoch).node ≡ node
+    undone_is : (f : List PriorRow) (b : Undo) → b ≡ Undo.View node.view node.activated → f ≡ priors step same told changed node.rows → rolled_back f b (installed_in new view.epoch).node ≡ node
     undone_is f b is rows = rw (is, rows) (ap (λ (l : Rows). record node { rows = l }) (priors_put step same told changed node.rows ok.ordered))
 
     pub install_out : (out : NodeOut) (prior : List PriorRow) → out.letters ≡ flat_map (view_letters node.id view) node.rows → out.replies ≡ map (λ t. t.1) (flat_map (view_told node.id view) node.rows) →
-        out.installed ≡ Some view.epoch → out.undo ≡ Viewed node.view node.activated → out.report ≡ rows_report node prior → prior ≡ flat_map (view_old node.id view) node.rows →
+        out.installed ≡ Some view.epoch → out.undo ≡ Undo.View node.view node.activated → out.report ≡ rows_report node prior → prior ≡ flat_map (view_old node.id view) node.rows →
         IsOutOf out node (installs noted view)
     install_out out prior letters replies installed undo reports rows =
         let is : out.report ≡ rows_report node (priors step same told changed node.rows) = reports ∙ ap (rows_report node) (rows ∙ prior_is node.rows) in

@@ -5,7 +5,7 @@ use Rattle.std.proofs.lemmas.Bool.Decides.{nat_tests}
 use Rattle.std.proofs.lemmas.List.Elements.{recursion_from_All}
 use Rattle.hk_base.specs.declared.call.Content.{Content}
 use Rattle.hk_base.specs.declared.call.Op.{Op}
-use Rattle.hk_base.specs.declared.call.Op.TheVariants.{Read, Write as WriteOp, Cas, Incr, Decr, Add, Replace, Delete}
+use Rattle.hk_base.specs.declared.call.Op.TheVariants as Op
 use Rattle.hk_base.specs.declared.letter.CopyItem.{CopyItem}
 use Rattle.hk_base.specs.declared.stamp.Kind.TheVariants.{Rmw}
 use Rattle.hk_base.specs.declared.stamp.Stamp.{Stamp}
@@ -21,15 +21,15 @@ rmw_leaves None = refl
 
 -- an operation leaves what an update of its kind may leave
 pub act_leaves : (op : Op) (held : Option Content) (tag newtag : ℕ) → Leaves (kind_of op) (act op (record { content = held; tag = tag }) newtag).register.content
-act_leaves (WriteOp c) None tag newtag = tt
-act_leaves (WriteOp c) (Some held) tag newtag = tt
-act_leaves Read held tag newtag = rmw_leaves _
-act_leaves (Cas t c) held tag newtag = rmw_leaves _
-act_leaves (Incr n) held tag newtag = rmw_leaves _
-act_leaves (Decr n) held tag newtag = rmw_leaves _
-act_leaves (Add c) held tag newtag = rmw_leaves _
-act_leaves (Replace c) held tag newtag = rmw_leaves _
-act_leaves Delete held tag newtag = rmw_leaves _
+act_leaves (Op.Write c) None tag newtag = tt
+act_leaves (Op.Write c) (Some held) tag newtag = tt
+act_leaves Op.Read held tag newtag = rmw_leaves _
+act_leaves (Op.Cas t c) held tag newtag = rmw_leaves _
+act_leaves (Op.Incr n) held tag newtag = rmw_leaves _
+act_leaves (Op.Decr n) held tag newtag = rmw_leaves _
+act_leaves (Op.Add c) held tag newtag = rmw_leaves _
+act_leaves (Op.Replace c) held tag newtag = rmw_leaves _
+act_leaves Op.Delete held tag newtag = rmw_leaves _
 
 -- a stamp of a later version is above `0.0`
 pub later_above : (a s : Stamp) → a.version < s.version → 0 < tag_of s

@@ -11,7 +11,7 @@ use Rattle.std.proofs.lemmas.Option.{none-some}
 use Rattle.hk_base.specs.declared.stamp.Stamp.{Stamp}
 use Rattle.hk_base.specs.declared.stamp.NodeId.{NodeId}
 use Rattle.hk_base.specs.declared.stamp.Kind.{Kind}
-use Rattle.hk_base.specs.declared.stamp.Kind.TheVariants.{Write as Plain, Rmw}
+use Rattle.hk_base.specs.declared.stamp.Kind.TheVariants as Kind
 use Rattle.hk_base.specs.declared.stamp.TheConstants.{MAX_VERSION}
 use Rattle.hk_base.specs.declared.call.State.{State}
 use Rattle.hk_base.specs.declared.call.State.TheVariants.{Valid, Invalid, Write, Replay, Trans}
@@ -49,8 +49,8 @@ after_is_next step s node t some e = by_test (nat_lt MAX_VERSION (s.version + st
         (record { within = fits; above = omega arith; own = refl })
 
 pub next_is_next : (kind : Kind) (s : Stamp) (node : NodeId) (t : Stamp) → next_stamp kind s node ≡ Some t → IsNext s t node
-next_is_next Plain s node t e = after_is_next 2 s node t (omega arith) e
-next_is_next Rmw s node t e = after_is_next 1 s node t (omega arith) e
+next_is_next Kind.Write s node t e = after_is_next 2 s node t (omega arith) e
+next_is_next Kind.Rmw s node t e = after_is_next 1 s node t (omega arith) e
 
 -- ---- the sender of a letter that is admitted
 member_number : (from : NodeId) (members : List NodeId) → list_any (nat_eq from.0) (member_numbers members) ≡ is_member from members
@@ -110,8 +110,8 @@ inv_pends_none row from s kind content e = by_order (nat_cmp (tag_of row.stamp) 
     by_order Greater = by_kind kind
       where
         by_kind : (k : Kind) → (on_inv_at Greater row from s k content).row.pending ≡ None
-        by_kind Plain = e
-        by_kind Rmw = e
+        by_kind Kind.Write = e
+        by_kind Kind.Rmw = e
 
 pub ack_pends_none : (me : NodeId) (members : List NodeId) (row : Row) (from : NodeId) (s top : Stamp) → row.pending ≡ None → (on_ack me members row from s top).row.pending ≡ None
 ack_pends_none me members row from s top e = ap (λ (o : Option Pending). (on_ack_pending o me members row from s top).row.pending) e ∙ e

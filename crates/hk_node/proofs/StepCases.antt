@@ -11,7 +11,7 @@ use Rattle.hk_base.specs.declared.call.CallNo.{CallNo}
 use Rattle.hk_base.specs.declared.call.Answer.{Answer}
 use Rattle.hk_base.specs.declared.call.Op.{Op}
 use Rattle.hk_base.specs.declared.call.State.{State}
-use Rattle.hk_base.specs.declared.call.State.TheVariants.{Valid, Invalid, Write, Replay as ReplayState, Trans}
+use Rattle.hk_base.specs.declared.call.State.TheVariants as State
 use Rattle.hk_base.specs.declared.view.View.{View}
 use Rattle.hk_base.specs.declared.letter.Actor.{Actor}
 use Rattle.hk_base.specs.declared.letter.Actor.TheVariants.{Node, Manager}
@@ -36,7 +36,7 @@ use Rattle.hk_node.specs.Calls.{kind_of, next_stamp, register_in, answers, at_li
 use Rattle.hk_node.specs.Copies.{merged, is_next, batch_behind}
 use Rattle.hk_node.specs.Heard.{raised, is_greatest, has_majority}
 use Rattle.hk_node.specs.Steps.{on_found, viewed, installed_in, installs, installs_by_majority, heard, received, is_addressed, receives_from, receives, node_step}
-use Rattle.hk_node.specs.Sound.{IsNode, IsEvent}
+use Rattle.hk_node.specs.Sound.{IsNode, IsNodeEvent}
 use Rattle.hk_node.specs.Laws.{key_in, key_of, IsNoCall}
 use Rattle.hk_node.proofs.Order.{holds_found}
 use Rattle.hk_node.proofs.Parts.{leased_is_ready}
@@ -47,7 +47,7 @@ use Rattle.hk_node.proofs.Batched.{batch_within}
 -- ---- a call is answered at once, or begins
 pub record CallCases (P : Stepped → Type 0) (node : NodeState) (call : CallNo) (key : List ℕ) (op : Op) : Type 0 where
   pub answered : (answer : Answer) → P (answers node key call answer)
-  pub begins : (s : Stamp) → node.ready ≡ true → (row_at key node.rows).state ≡ Valid → next_stamp (kind_of op) (row_at key node.rows).stamp node.id ≡ Some s →
+  pub begins : (s : Stamp) → node.ready ≡ true → (row_at key node.rows).state ≡ State.Valid → next_stamp (kind_of op) (row_at key node.rows).stamp node.id ≡ Some s →
       P (row_step node key (begun node call op (row_at key node.rows) s))
 
 pub by_call : (P : Stepped → Type 0) (node : NodeState) (call : CallNo) (key : List ℕ) (op : Op) → IsNode node → CallCases P node call key op → P (called node call key op)
@@ -56,20 +56,20 @@ by_call P node call key op ok ways = by_lease (nat_lt (lease_end node) (node.clo
     the_row : Row
     the_row = row_at key node.rows
 
-    by_limit : (o : Option Stamp) → node.ready ≡ true → the_row.state ≡ Valid → next_stamp (kind_of op) the_row.stamp node.id ≡ o → P (at_limit o node call key op the_row)
+    by_limit : (o : Option Stamp) → node.ready ≡ true → the_row.state ≡ State.Valid → next_stamp (kind_of op) the_row.stamp node.id ≡ o → P (at_limit o node call key op the_row)
     by_limit None ready valid e = ways.answered _
     by_limit (Some s) ready valid e = ways.begins s ready valid e
 
-    by_turn : (b : Bool) → node.ready ≡ true → the_row.state ≡ Valid → P (at_turn b node call key op the_row)
+    by_turn : (b : Bool) → node.ready ≡ true → the_row.state ≡ State.Valid → P (at_turn b node call key op the_row)
     by_turn false ready valid = ways.answered _
     by_turn true ready valid = by_limit (next_stamp (kind_of op) the_row.stamp node.id) ready valid refl
 
     by_state : (state : State) → node.ready ≡ true → the_row.state ≡ state → P (at_state state node call key op the_row)
-    by_state Valid ready e = by_turn (act op (register_in the_row) 0).changed ready e
-    by_state Invalid ready e = ways.answered _
-    by_state Write ready e = ways.answered _
-    by_state ReplayState ready e = ways.answered _
-    by_state Trans ready e = ways.answered _
+    by_state State.Valid ready e = by_turn (act op (register_in the_row) 0).changed ready e
+    by_state State.Invalid ready e = ways.answered _
+    by_state State.Write ready e = ways.answered _
+    by_state State.Replay ready e = ways.answered _
+    by_state State.Trans ready e = ways.answered _
 
     by_lease : (b : Bool) → nat_lt (lease_end node) (node.clock + node.skew) ≡ b → P (at_lease b node call key op)
     by_lease true e = ways.answered _
@@ -181,7 +181,7 @@ module _ (P : Stepped → Type 0) (node : NodeState) (ok : IsNode node) where
       by_sender (Node from) = by_if P (is_addressed node letter.to && ((letter.epoch == epoch_of node) && is_other node from)) node (received letter.body node from)
           (ways.quiet node.clock node.granted node.ends node.activated) (λ t. by_body letter.body from within.body ways)
 
-  pub by_event : (event : NodeEvent) → IsEvent event → IsNoCall event → StepCases P node (key_of event) → P (node_step node event)
+  pub by_event : (event : NodeEvent) → IsNodeEvent event → IsNoCall event → StepCases P node (key_of event) → P (node_step node event)
   by_event (Call call key op) within other ways = absurd other
   by_event (Receive letter) within other ways = by_letter letter within ways
   by_event (Resend key) within other ways = by_found (Some key) key resend ways refl (λ row sound. resend_acts key node.id (members_of node) row sound)

@@ -4,15 +4,15 @@ use Rattle.std.specs.Prelude.{ℕ, ◌+◌, List, [], ◌∷◌, Bool, true, fal
 use Rattle.hk_base.specs.declared.stamp.Stamp.{Stamp}
 use Rattle.hk_base.specs.declared.stamp.NodeId.{NodeId}
 use Rattle.hk_base.specs.declared.stamp.Kind.{Kind}
-use Rattle.hk_base.specs.declared.stamp.Kind.TheVariants.{Write as Plain, Rmw}
+use Rattle.hk_base.specs.declared.stamp.Kind.TheVariants as Kind
 use Rattle.hk_base.specs.declared.call.CallNo.{CallNo}
 use Rattle.hk_base.specs.declared.call.State.{State}
 use Rattle.hk_base.specs.declared.call.State.TheVariants.{Valid, Invalid, Write, Replay, Trans}
 use Rattle.hk_base.specs.declared.call.Op.{Op}
-use Rattle.hk_base.specs.declared.call.Op.TheVariants.{Read, Write as WriteOp, Cas, Incr, Decr, Add, Replace, Delete}
+use Rattle.hk_base.specs.declared.call.Op.TheVariants as Op
 use Rattle.hk_base.specs.declared.call.Answer.{Answer}
 use Rattle.hk_base.specs.declared.call.Answer.TheVariants.{Busy, Exhausted}
-use Rattle.hk_base.specs.declared.call.Why.TheVariants.{Lease, Row as OfRow}
+use Rattle.hk_base.specs.declared.call.Why.TheVariants as Why
 use Rattle.hk_base.specs.Register.{Register, act}
 use Rattle.hk_base.specs.Stamp.{stamp_after, tag_of}
 use Rattle.hk_key.specs.declared.row.Row.{Row}
@@ -23,19 +23,19 @@ use Rattle.hk_node.specs.Stepped.{Stepped, row_step}
 
 -- Only a write is begun whatever the key holds. Every other update rests on what it found, a cas too whose tag was right.
 abbrev pub kind_of : Op → Kind
-kind_of Read = Rmw
-kind_of (WriteOp content) = Plain
-kind_of (Cas tag content) = Rmw
-kind_of (Incr by) = Rmw
-kind_of (Decr by) = Rmw
-kind_of (Add content) = Rmw
-kind_of (Replace content) = Rmw
-kind_of Delete = Rmw
+kind_of Op.Read = Kind.Rmw
+kind_of (Op.Write content) = Kind.Write
+kind_of (Op.Cas tag content) = Kind.Rmw
+kind_of (Op.Incr by) = Kind.Rmw
+kind_of (Op.Decr by) = Kind.Rmw
+kind_of (Op.Add content) = Kind.Rmw
+kind_of (Op.Replace content) = Kind.Rmw
+kind_of Op.Delete = Kind.Rmw
 
 -- the next stamp of an update of the kind, at the node: a write steps the version by two, a read-modify-write by one
 abbrev pub next_stamp : Kind → Stamp → NodeId → Option Stamp
-next_stamp Plain s node = stamp_after 2 s node.0
-next_stamp Rmw s node = stamp_after 1 s node.0
+next_stamp Kind.Write s node = stamp_after 2 s node.0
+next_stamp Kind.Rmw s node = stamp_after 1 s node.0
 
 -- the register that a row is
 abbrev pub register_in : Row → Register
@@ -64,17 +64,17 @@ at_turn true node call key op row = at_limit (next_stamp (kind_of op) row.stamp 
 abbrev pub at_state : State → NodeState → CallNo → List ℕ → Op → Row → Stepped
 at_state Valid node call key op row = at_turn (act op (register_in row) 0).changed node call key op row
 -- not Valid: Busy
-at_state Invalid node call key op row = answers node key call (Busy (OfRow row.state row.stamp))
-at_state Write node call key op row = answers node key call (Busy (OfRow row.state row.stamp))
-at_state Replay node call key op row = answers node key call (Busy (OfRow row.state row.stamp))
-at_state Trans node call key op row = answers node key call (Busy (OfRow row.state row.stamp))
+at_state Invalid node call key op row = answers node key call (Busy (Why.Row row.state row.stamp))
+at_state Write node call key op row = answers node key call (Busy (Why.Row row.state row.stamp))
+at_state Replay node call key op row = answers node key call (Busy (Why.Row row.state row.stamp))
+at_state Trans node call key op row = answers node key call (Busy (Why.Row row.state row.stamp))
 
 abbrev pub lease_end : NodeState → ℕ
 lease_end node = if node.ready then node.granted else 0
 
 -- by whether the lease may be over: by its own clock the end may be past on another one
 abbrev pub at_lease : Bool → NodeState → CallNo → List ℕ → Op → Stepped
-at_lease true node call key op = answers node key call (Busy (Lease (lease_end node) node.clock))
+at_lease true node call key op = answers node key call (Busy (Why.Lease (lease_end node) node.clock))
 at_lease false node call key op = at_state (row_at key node.rows).state node call key op (row_at key node.rows)
 
 abbrev pub called : NodeState → CallNo → List ℕ → Op → Stepped

@@ -25,19 +25,19 @@ use Rattle.hk_node.specs.Report.{AreChanged, changed_rows}
 use Rattle.hk_node.specs.Node.{NodeState}
 use Rattle.hk_node.specs.Stepped.{Stepped}
 use Rattle.hk_node.specs.Steps.{node_step}
-use Rattle.hk_node.specs.Sound.{IsNode, IsEvent}
+use Rattle.hk_node.specs.Sound.{IsNode, IsNodeEvent}
 
 -- a step keeps what every node keeps
 abbrev pub StepKeepsNode : Type 0
-StepKeepsNode = (node : NodeState) (event : NodeEvent) → IsNode node → IsEvent event → IsNode (node_step node event).node
+StepKeepsNode = (node : NodeState) (event : NodeEvent) → IsNode node → IsNodeEvent event → IsNode (node_step node event).node
 
 -- a node sends only letters that are in range
 abbrev pub LettersInRange : Type 0
-LettersInRange = (node : NodeState) (event : NodeEvent) → IsNode node → IsEvent event → AllByRecursion IsLetter (node_step node event).letters
+LettersInRange = (node : NodeState) (event : NodeEvent) → IsNode node → IsNodeEvent event → AllByRecursion IsLetter (node_step node event).letters
 
 -- the report of a step has just the rows that it changed
 abbrev pub ReportsAreExact : Type 0
-ReportsAreExact = (node : NodeState) (event : NodeEvent) → IsNode node → IsEvent event →
+ReportsAreExact = (node : NodeState) (event : NodeEvent) → IsNode node → IsNodeEvent event →
     AreChanged (changed_rows node.rows (node_step node event).node.rows) node.rows (node_step node event).node.rows
 
 -- a row that stands there already may be left alone
@@ -66,7 +66,7 @@ ChangesOneRow = (node : NodeState) (event : NodeEvent) (key other : List ℕ) �
 -- The stamp of a row never falls. A node's number is below 65,536, as its type has it: one call at a key relies on it, that its
 -- next stamp is above the row's.
 abbrev pub StampsNeverFall : Type 0
-StampsNeverFall = (node : NodeState) (event : NodeEvent) (key : List ℕ) → IsNode node → IsEvent event → (row_at key node.rows).stamp.node < 65536 →
+StampsNeverFall = (node : NodeState) (event : NodeEvent) (key : List ℕ) → IsNode node → IsNodeEvent event → (row_at key node.rows).stamp.node < 65536 →
     tag_of (row_at key node.rows).stamp ≤ tag_of (row_at key (node_step node event).node.rows).stamp
 
 -- a call that changes its row raises the row's stamp
@@ -93,7 +93,7 @@ pub record IsToldAt (stepped : Stepped) (key : List ℕ) (reply : Reply) : Type 
 
 -- a call that waits waits on, or is told
 abbrev pub CallsWaitOrAreAnswered : Type 0
-CallsWaitOrAreAnswered = (node : NodeState) (event : NodeEvent) (key : List ℕ) (p : Pending) (reply : Reply) → IsNode node → IsEvent event →
+CallsWaitOrAreAnswered = (node : NodeState) (event : NodeEvent) (key : List ℕ) (p : Pending) (reply : Reply) → IsNode node → IsNodeEvent event →
     (row_at key node.rows).pending ≡ Some p → p.reply ≡ Some reply →
     IsWaiting (row_at key (node_step node event).node.rows) p.stamp reply ⊎ IsToldAt (node_step node event) key reply
 
@@ -103,7 +103,7 @@ IsNoCall event = ⊤
 
 -- an event other than a call tells nothing at the key of a call that waits on: so no call is told before its update's end
 abbrev pub WaitingIsUntold : Type 0
-WaitingIsUntold = (node : NodeState) (event : NodeEvent) (key : List ℕ) (p : Pending) (reply : Reply) → IsNode node → IsEvent event → IsNoCall event →
+WaitingIsUntold = (node : NodeState) (event : NodeEvent) (key : List ℕ) (p : Pending) (reply : Reply) → IsNode node → IsNodeEvent event → IsNoCall event →
     (row_at key node.rows).pending ≡ Some p → p.reply ≡ Some reply →
     (IsWaiting (row_at key (node_step node event).node.rows) p.stamp reply × AllByRecursion (λ t. t.0 ≢ key) (node_step node event).told)
     ⊎ IsToldAt (node_step node event) key reply
@@ -124,9 +124,9 @@ CallsAreTaken = (node : NodeState) (call : CallNo) (key : List ℕ) (op : Op) �
 
 -- whatever another event tells was the call of its key's pending update
 abbrev pub ToldWereWaiting : Type 0
-ToldWereWaiting = (node : NodeState) (event : NodeEvent) → IsNode node → IsEvent event → IsNoCall event →
+ToldWereWaiting = (node : NodeState) (event : NodeEvent) → IsNode node → IsNodeEvent event → IsNoCall event →
     AllByRecursion (λ t. HadWaiting (row_at t.0 node.rows) t.1) (node_step node event).told
 
 -- what a step tells stands in key order, one reply at most for a key
 abbrev pub ToldInOrder : Type 0
-ToldInOrder = (node : NodeState) (event : NodeEvent) → IsNode node → IsEvent event → IsStrictlySortedBy key_cmp (keys_of (node_step node event).told)
+ToldInOrder = (node : NodeState) (event : NodeEvent) → IsNode node → IsNodeEvent event → IsStrictlySortedBy key_cmp (keys_of (node_step node event).told)

@@ -5,7 +5,7 @@ use Rattle.hk_base.specs.declared.stamp.NodeId.{NodeId}
 use Rattle.hk_base.specs.declared.view.View.{View}
 use Rattle.hk_base.specs.declared.letter.Actor.TheVariants.{Node}
 use Rattle.hk_base.specs.declared.letter.Body.{Body}
-use Rattle.hk_base.specs.declared.letter.Body.TheVariants.{Inv, Ack as AckBody, Val as ValBody}
+use Rattle.hk_base.specs.declared.letter.Body.TheVariants as Body
 use Rattle.hk_base.specs.declared.letter.Letter.{Letter}
 use Rattle.hk_key.specs.declared.acks.Ack.{Ack}
 use Rattle.hk_key.specs.declared.row.Pending.{Pending}
@@ -13,7 +13,7 @@ use Rattle.hk_key.specs.declared.row.Row.{Row}
 use Rattle.hk_key.specs.declared.out.Aim.{Aim}
 use Rattle.hk_key.specs.declared.out.Aim.TheVariants.{One, Others, NotAcked}
 use Rattle.hk_key.specs.declared.out.What.{What}
-use Rattle.hk_key.specs.declared.out.What.TheVariants.{InvRow, InvPending, Ack as AckOf, Val as ValOf}
+use Rattle.hk_key.specs.declared.out.What.TheVariants as What
 use Rattle.hk_key.specs.declared.out.Sending.{Sending}
 use Rattle.hk_key.specs.Notes.{is_noted}
 use Rattle.hk_node.specs.Node.{NodeState, epoch_of, members_of, others}
@@ -24,14 +24,14 @@ letters_to node body to = map (λ n. record { epoch = epoch_of node; from = Node
 
 -- INV of the pending update. A row that sends it has one; of a row without one it would be the row's own.
 abbrev pub pending_body : List ℕ → Row → Option Pending → Body
-pending_body key row None = Inv key row.stamp row.kind row.content
-pending_body key row (Some p) = Inv key p.stamp p.kind p.content
+pending_body key row None = Body.Inv key row.stamp row.kind row.content
+pending_body key row (Some p) = Body.Inv key p.stamp p.kind p.content
 
 abbrev pub body_of : List ℕ → Row → What → Body
-body_of key row InvRow = Inv key row.stamp row.kind row.content
-body_of key row InvPending = pending_body key row row.pending
-body_of key row (AckOf s top) = AckBody key s top
-body_of key row (ValOf s) = ValBody key s
+body_of key row What.InvRow = Body.Inv key row.stamp row.kind row.content
+body_of key row What.InvPending = pending_body key row row.pending
+body_of key row (What.Ack s top) = Body.Ack key s top
+body_of key row (What.Val s) = Body.Val key s
 
 abbrev pub notes_in : Option Pending → List Ack
 notes_in None = []

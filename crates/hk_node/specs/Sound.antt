@@ -39,16 +39,16 @@ pub record IsNode (node : NodeState) : Type 0 where
   pub heard : AreHeard node.managers node.ends node.activated
 
 -- letters are in range, a batch has 1 to 64 items, times are within the limit, and a view is one
-abbrev pub IsEvent : NodeEvent → Type 0
-IsEvent (Call call key op) = ⊤
-IsEvent (Receive letter) = IsLetter letter
-IsEvent (Resend key) = ⊤
-IsEvent (Replay key) = ⊤
-IsEvent (AskLease manager) = ⊤
-IsEvent (AskCopy from room) = IsRoom room
-IsEvent (Tick now) = now ≤ MAX_TIME
-IsEvent (Grant end) = end ≤ MAX_TIME
-IsEvent (Install view) = IsView view
+abbrev pub IsNodeEvent : NodeEvent → Type 0
+IsNodeEvent (Call call key op) = ⊤
+IsNodeEvent (Receive letter) = IsLetter letter
+IsNodeEvent (Resend key) = ⊤
+IsNodeEvent (Replay key) = ⊤
+IsNodeEvent (AskLease manager) = ⊤
+IsNodeEvent (AskCopy from room) = IsRoom room
+IsNodeEvent (Tick now) = now ≤ MAX_TIME
+IsNodeEvent (Grant end) = end ≤ MAX_TIME
+IsNodeEvent (Install view) = IsView view
 
 -- the step of a clock and that of a lease take no memory
 abbrev pub takes_memory : NodeEvent → Bool

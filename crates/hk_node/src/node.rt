@@ -83,7 +83,7 @@ impl Node {
     ghost use Rattle.hk_node.specs.Calls.{called};
     ghost use Rattle.hk_node.specs.Copies.{asks_copy};
     ghost use Rattle.hk_node.specs.Steps.{node_step, receives, resent, replayed, installs, ticks, grants, asks_lease};
-    ghost use Rattle.hk_node.specs.Sound.{IsNode, IsEvent};
+    ghost use Rattle.hk_node.specs.Sound.{IsNode, IsNodeEvent};
     ghost use Rattle.hk_node.specs.Report.{rolled_back};
     ghost use Rattle.hk_node.specs.Outs.{IsOutOf};
 

@@ -9,7 +9,7 @@ use Rattle.hk_base.specs.Range.{IsLetter}
 use Rattle.hk_manager.specs.declared.event.ManagerEvent.TheVariants.{Tick}
 use Rattle.hk_manager.specs.declared.out.ManagerOut.{ManagerOut}
 use Rattle.hk_manager.specs.Manager.{ManagerState}
-use Rattle.hk_manager.specs.Steps.{Stepped}
+use Rattle.hk_manager.specs.Steps.{ManagerStepped}
 use Rattle.std.proofs.lemmas.List.Elements.{All-from_recursion}
 use Rattle.hk_manager.specs.Sound.{IsInstance, IsManager, manager_new}
 use Rattle.hk_manager.specs.Outs.{IsMadeOf}
@@ -47,10 +47,10 @@ sound_ticked law now within [] all = tt
 sound_ticked law now within (m ∷ ms) all = (law m (Tick now) all.0 within, sound_ticked law now within ms all.1)
 
 -- what a step made is sound, and so are its letters
-pub made_sound : (r : Result ManagerOut Memory) (old new : ManagerState) (s : Stepped) → IsManager old → IsManager s.manager → IsMadeOf r old new s → IsManager new
-made_sound (Ok out) old new s was is made = subst IsManager (ap (λ (t : Stepped). t.manager) (sym made)) is
+pub made_sound : (r : Result ManagerOut Memory) (old new : ManagerState) (s : ManagerStepped) → IsManager old → IsManager s.manager → IsMadeOf r old new s → IsManager new
+made_sound (Ok out) old new s was is made = subst IsManager (ap (λ (t : ManagerStepped). t.manager) (sym made)) is
 made_sound (Err e) old new s was is made = subst IsManager (sym made) was
 
-pub made_in_range : (r : Result ManagerOut Memory) (old new : ManagerState) (s : Stepped) → AllByRecursion IsLetter s.letters → IsMadeOf r old new s → IfOk r (λ out. AllByRecursion IsLetter out.letters)
-made_in_range (Ok out) old new s all made = subst (AllByRecursion IsLetter) (ap (λ (t : Stepped). t.letters) (sym made)) all
+pub made_in_range : (r : Result ManagerOut Memory) (old new : ManagerState) (s : ManagerStepped) → AllByRecursion IsLetter s.letters → IsMadeOf r old new s → IfOk r (λ out. AllByRecursion IsLetter out.letters)
+made_in_range (Ok out) old new s all made = subst (AllByRecursion IsLetter) (ap (λ (t : ManagerStepped). t.letters) (sym made)) all
 made_in_range (Err e) old new s all made = tt

@@ -6,13 +6,13 @@ use Rattle.hk_base.specs.declared.time.TheConstants.{MAX_TIME}
 use Rattle.hk_link.specs.declared.parcel.Parcel.{Parcel}
 use Rattle.hk_link.specs.Ends.{End, IsTaken, WasEmpty, IsSameLink}
 use Rattle.hk_manager.specs.Manager.{ManagerState}
-use Rattle.hk_manager.specs.Steps.{receives, ticks}
+use Rattle.hk_manager.specs.Steps.{receives, manager_ticks}
 use Rattle.hk_overseer.specs.Overseer.{Overseer}
 use Rattle.hk_overseer.specs.Sends.{AreSent}
 
 -- all clocks rise to this reading
 abbrev pub ticked : ℕ → List ManagerState → List ManagerState
-ticked now managers = map (λ m. (ticks m now).manager) managers
+ticked now managers = map (λ m. (manager_ticks m now).manager) managers
 
 -- the managers' clocks have risen, and nothing else has changed
 abbrev pub with_clocks : ℕ → Overseer → Overseer

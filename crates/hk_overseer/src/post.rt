@@ -6,7 +6,7 @@ ghost use Rattle.hk_base.specs.declared.time.TheConstants.{MAX_TIME};
 ghost use Rattle.hk_base.specs.Range.{IsLetter};
 ghost use Rattle.hk_base.specs.View.{IsView};
 ghost use Rattle.hk_manager.specs.Sound.{IsManager, manager_new};
-ghost use Rattle.hk_manager.specs.Steps.{receives, ticks};
+ghost use Rattle.hk_manager.specs.Steps.{receives, manager_ticks};
 ghost use Rattle.hk_manager.specs.Outs.{IsMadeOf};
 ghost use Rattle.hk_overseer.specs.Overseer.{founding};
 ghost use Rattle.hk_overseer.specs.Turns.{ticked, IsSteppedAt};
@@ -86,7 +86,7 @@ fn founding(
 // The clock of a manager rises to `now`.
 fn tick(manager: &mut Manager, alloc: Global, now: u64)
     requires { now ≤ MAX_TIME }
-    ensures { manager.new ≡ (ticks manager.old now).manager }
+    ensures { manager.new ≡ (manager_ticks manager.old now).manager }
 {
     manager.tick(alloc, now);
 }

@@ -1,11 +1,11 @@
 -- What an ACK tells of its sender's row, in every run.
 use Rattle.std.proofs.Common.{◌≡◌, ◌⊎◌, ℕ, Bool, true, List, [], ◌∷◌, ◌∙◌, sym, refl, inl, inr, ⊎_elim, Option}
 use Rattle.hk_base.specs.declared.stamp.Kind.{Kind}
-use Rattle.hk_base.specs.declared.stamp.Kind.TheVariants.{Write as Plain}
+use Rattle.hk_base.specs.declared.stamp.Kind.TheVariants as Kind
 use Rattle.hk_base.specs.declared.call.Answer.{Answer}
 use Rattle.hk_base.specs.declared.call.Content.{Content}
-use Rattle.hk_register.specs.Machine.{In, Marked, Mark, Update, State}
-use Rattle.hk_register.specs.Machine.Letter.{Inv, Ack, Val, Give}
+use Rattle.hk_register.specs.Machine.{In, Marked, Mark, Update, RegisterState}
+use Rattle.hk_register.specs.Machine.Message.{Inv, Ack, Val, Give}
 use Rattle.hk_register.specs.Facts.{Exact}
 use Rattle.hk_register.specs.Effects.{Effect, Happens, done, row_mark}
 use Rattle.hk_register.specs.Effects.Effect.{Begin, TakeInv, AckInv, CounterInv, NoteAck, Settle, FinishValid, FinishInvalid, TakeVal, KeepVal, StartReplay, Resend, Install, InstallPending, GiveRow, CopyRow, PassRow, CopyValid, GetReady, Serve, Refuse, Quiet}
@@ -15,17 +15,17 @@ use Rattle.hk_register.proofs.Runs.{effect_kept}
 use Rattle.hk_effects.specs.Laws.{Effects}
 
 -- Its sender's row had the top. What was acknowledged is an update, and a plain write, or the top is its stamp.
-pub record AckTold (st : State) (m e s top : ℕ) : Type 0 where
+pub record AckTold (st : RegisterState) (m e s top : ℕ) : Type 0 where
   pub exact : Exact st m e top
   pub update : Update
   pub begun : In st.begun update
   pub stamp : update.stamp ≡ s
-  pub tops : (update.kind ≡ Plain) ⊎ (top ≡ s)
+  pub tops : (update.kind ≡ Kind.Write) ⊎ (top ≡ s)
 
-abbrev pub AcksTold : State → Type 0
+abbrev pub AcksTold : RegisterState → Type 0
 AcksTold st = (m e s top : ℕ) → In st.letters (Ack m e s top) → AckTold st m e s top
 
-pub told_grows : (old new : State) → ((k : Mark) → Marked old k → Marked new k) → ((u : Update) → In old.begun u → In new.begun u) → (m e s top : ℕ) → AckTold old m e s top → AckTold new m e s top
+pub told_grows : (old new : RegisterState) → ((k : Mark) → Marked old k → Marked new k) → ((u : Update) → In old.begun u → In new.begun u) → (m e s top : ℕ) → AckTold old m e s top → AckTold new m e s top
 told_grows old new marks begun m e s top o = record {
   exact = record { mark = o.exact.mark; marked = marks o.exact.mark o.exact.marked; who = o.exact.who; epoch = o.exact.epoch; stamp = o.exact.stamp; exact = o.exact.exact };
   update = o.update;
@@ -46,7 +46,7 @@ no_give : (m e s top n f c : ℕ) (kind : Kind) (content : Option Content) (vali
 no_give m e s top n f c kind content valid (inl is) = cc
 no_give m e s top n f c kind content valid (inr none) = none
 
-same_ack : (st : State) (m e s top n f c d : ℕ) → In (Ack n f c d ∷ []) (Ack m e s top) → AckTold st n f c d → AckTold st m e s top
+same_ack : (st : RegisterState) (m e s top n f c d : ℕ) → In (Ack n f c d ∷ []) (Ack m e s top) → AckTold st n f c d → AckTold st m e s top
 same_ack st m e s top n f c d (inr none) o = absurd none
 same_ack st m e s top n f c d (inl is) o =
     let one : m ≡ n = cc in
@@ -55,7 +55,7 @@ same_ack st m e s top n f c d (inl is) o =
     let four : top ≡ d = cc in
     rw (one, two, three, four) o
 
-module _ (V : ℕ → List ℕ) (old new : State) (parts : Parts V old) where
+module _ (V : ℕ → List ℕ) (old new : RegisterState) (parts : Parts V old) where
   abbrev New : Effect → Type 0
   New x = Happens V old x new → (m e s top : ℕ) → In (done old x).letters (Ack m e s top) → AckTold new m e s top
 
@@ -80,7 +80,7 @@ module _ (V : ℕ → List ℕ) (old new : State) (parts : Parts V old) where
         update = w.update;
         begun = rw h.change.begun w.begun;
         stamp = w.stamp;
-        tops = ⊎_elim (λ (p : kind ≡ Plain). inl (w.same_kind ∙ p)) (λ (same : c ≡ (old.node n).stamp). inr (sym same)) h.allowed.3;
+        tops = ⊎_elim (λ (p : kind ≡ Kind.Write). inl (w.same_kind ∙ p)) (λ (same : c ≡ (old.node n).stamp). inr (sym same)) h.allowed.3;
       })
 
   new_ack : (x : Effect) → New x
@@ -113,6 +113,6 @@ module _ (V : ℕ → List ℕ) (old new : State) (parts : Parts V old) where
       (λ (was : In old.letters (Ack m e s top)).
       told_grows old new h.change.marks_kept (λ u b. rw h.change.begun (in_right (done old x).updates old.begun u b)) m e s top (told m e s top was)) (h.change.letters (Ack m e s top) i)
 
-pub effects_acks : (V : ℕ → List ℕ) (old new : State) → Parts V old → Effects V old new → AcksTold old → AcksTold new
+pub effects_acks : (V : ℕ → List ℕ) (old new : RegisterState) → Parts V old → Effects V old new → AcksTold old → AcksTold new
 effects_acks V old new parts (inl e) told = effect_acks V old new parts e.0 e.1 told
 effects_acks V old new parts (inr m) told = effect_acks V m.0 new (effect_kept V old m.0 parts m.1.0 m.1.1) m.2.0 m.2.1 (effect_acks V old m.0 parts m.1.0 m.1.1 told)

@@ -5,8 +5,8 @@ use Rattle.hk_base.specs.declared.stamp.NodeId.{NodeId}
 use Rattle.hk_base.specs.declared.call.CallNo.{CallNo}
 use Rattle.hk_base.specs.declared.call.Op.{Op}
 use Rattle.hk_base.specs.declared.call.Reply.{Reply}
-use Rattle.hk_base.specs.declared.call.State.{State as RowState}
-use Rattle.hk_base.specs.declared.call.State.TheVariants as R
+use Rattle.hk_base.specs.declared.call.State.{State}
+use Rattle.hk_base.specs.declared.call.State.TheVariants as State
 use Rattle.hk_register.specs.Machine.{In, Node, Update}
 use Rattle.hk_register.specs.Machine.Phase.{Valid}
 use Rattle.hk_register.specs.Machine.Item.{Called}
@@ -35,17 +35,17 @@ use Rattle.hk_parts.proofs.Cases.{Steps, Stepping, Beside, event_case}
 use Rattle.hk_parts.proofs.Sending.{event_later}
 
 -- a call at a row that is not Valid changes nothing
-valid_or_same : (x : NodeState) (call : CallNo) (key : List ℕ) (op : Op) → ((row_at key x.rows).state ≡ R.Valid) ⊎ ((called x call key op).node ≡ x)
+valid_or_same : (x : NodeState) (call : CallNo) (key : List ℕ) (op : Op) → ((row_at key x.rows).state ≡ State.Valid) ⊎ ((called x call key op).node ≡ x)
 valid_or_same x call key op = by_lease (ltb (lease_end x) (x.clock + x.skew))
   where
-    by_state : (s : RowState) → (row_at key x.rows).state ≡ s → ((row_at key x.rows).state ≡ R.Valid) ⊎ ((at_state s x call key op (row_at key x.rows)).node ≡ x)
-    by_state R.Valid e = inl e
-    by_state R.Invalid e = inr refl
-    by_state R.Write e = inr refl
-    by_state R.Replay e = inr refl
-    by_state R.Trans e = inr refl
+    by_state : (s : State) → (row_at key x.rows).state ≡ s → ((row_at key x.rows).state ≡ State.Valid) ⊎ ((at_state s x call key op (row_at key x.rows)).node ≡ x)
+    by_state State.Valid e = inl e
+    by_state State.Invalid e = inr refl
+    by_state State.Write e = inr refl
+    by_state State.Replay e = inr refl
+    by_state State.Trans e = inr refl
 
-    by_lease : (b : Bool) → ((row_at key x.rows).state ≡ R.Valid) ⊎ ((at_lease b x call key op).node ≡ x)
+    by_lease : (b : Bool) → ((row_at key x.rows).state ≡ State.Valid) ⊎ ((at_lease b x call key op).node ≡ x)
     by_lease true = inr refl
     by_lease false = by_state (row_at key x.rows).state refl
 
@@ -90,10 +90,10 @@ module _ (key : List ℕ) (w : WorldState) (x : NodeState) where
     of_call i k op y now same true e h = not_in (Call i k op) y (updates_of id Was (map (read_only_item n op Was) rs)) (looks_begin_none id Was n op Was rs) h
     of_call i k op y now same false e h =
         ⊎_elim
-        (λ (is : (row_at k x.rows).state ≡ R.Valid).
+        (λ (is : (row_at k x.rows).state ≡ State.Valid).
         let h' = subst (λ (us : List Update). In us u) (replies_begin_none id Was (key_node key (Some y)).stamp rs (Called n (key_node key (Some y)).stamp op ∷ [])) h in
-        let state : (row_at key x.rows).state ≡ R.Valid = ap (λ (j : List ℕ). (row_at j x.rows).state) same ∙ is in
-        let valid : Was.phase ≡ Valid = ap (λ (s : RowState). phase_of s (row_at key x.rows).pending) state in
+        let state : (row_at key x.rows).state ≡ State.Valid = ap (λ (j : List ℕ). (row_at j x.rows).state) same ∙ is in
+        let valid : Was.phase ≡ Valid = ap (λ (s : State). phase_of s (row_at key x.rows).pending) state in
         let made : Call i k op ≡ Call i key op = ap (λ (j : List ℕ). Call i j op) (sym same) in
         the_one _ h' (record { node = i; made = made; call = refl; who = refl; base = refl; valid = valid; stamp = refl }))
         (λ (still : (called x (record { 0 = w.calls + 1 }) k op).node ≡ x).

@@ -5,14 +5,14 @@ use Rattle.hk_base.specs.declared.stamp.NodeId.{NodeId}
 use Rattle.hk_base.specs.declared.call.CallNo.{CallNo}
 use Rattle.hk_base.specs.declared.call.Op.{Op}
 use Rattle.hk_base.specs.declared.letter.Body.{Body}
-use Rattle.hk_base.specs.declared.letter.Body.TheVariants.{Inv, Ack, Val, CopyAsk, CopyGive, LeaseAsk, LeaseGive, Prepare, Promise, Accept, Accepted as AcceptedBody, Chosen, Activate as ActivateBody}
-use Rattle.hk_base.specs.declared.letter.Letter.{Letter as Wire}
+use Rattle.hk_base.specs.declared.letter.Body.TheVariants as Body
+use Rattle.hk_base.specs.declared.letter.Letter.{Letter}
 use Rattle.hk_base.specs.declared.view.View.{View}
 use Rattle.hk_clocks.specs.Clocks.{Paces}
 use Rattle.hk_manager.specs.declared.event.ManagerEvent.{ManagerEvent}
-use Rattle.hk_manager.specs.declared.event.ManagerEvent.TheVariants.{Propose as Proposal, Receive as Receipt, Activate as Activation}
+use Rattle.hk_manager.specs.declared.event.ManagerEvent.TheVariants as ManagerEvent
 use Rattle.hk_manager.specs.Manager.{ManagerState}
-use Rattle.hk_manager.specs.Steps.{Stepped as ManagerStepped, manager_step}
+use Rattle.hk_manager.specs.Steps.{ManagerStepped, manager_step}
 use Rattle.hk_register.specs.Machine.{In}
 use Rattle.hk_node.specs.Node.{NodeState}
 use Rattle.hk_node.specs.Stepped.{Stepped}
@@ -37,7 +37,7 @@ use Rattle.hk_parts.specs.ViewPart.{IsOfReplicas}
 -- the step that a node makes at an event
 abbrev pub Steps : WorldState → NodeState → Event → Stepped → Type 0
 Steps w x (Call id key op) s = s ≡ called x (record { 0 = w.calls + 1 }) key op
-Steps w x (Take n) s = (l : Wire) × (numbered n w.letters ≡ Some l) × (s ≡ receives x l)
+Steps w x (Take n) s = (l : Letter) × (numbered n w.letters ≡ Some l) × (s ≡ receives x l)
 Steps w x (Tick actor to) s = s ≡ ticks x to
 Steps w x (Resend id key) s = s ≡ resent x key
 Steps w x (Replay id key) s = s ≡ replayed x key
@@ -74,9 +74,9 @@ SeenSame w ps = (key : List ℕ) (n : ℕ) → key_node key (node_at n ps) ≡ k
 -- no node acts, and what is sent is between managers, or from managers to nodes
 pub record Beside (w : WorldState) (a : Accepted) : Type 0 where
   pub acting : acting_of a ≡ None
-  pub letters : List Wire
+  pub letters : List Letter
   pub sent : a.world.letters ≡ w.letters ++ letters
-  pub silent : (l : Wire) → In letters l → IsOfReplicas l.body → ⊥
+  pub silent : (l : Letter) → In letters l → IsOfReplicas l.body → ⊥
   pub views : (a.world.views ≡ w.views) ⊎ OneMore w a
   pub nodes : RowsFrom w a.world.processes
   pub seen : SeenSame w a.world.processes
@@ -86,19 +86,19 @@ EventCase w event a = Stepping w event a ⊎ Beside w a
 
 -- what a manager says is nothing of replicas
 not_of_replicas : (held : View) (body : Body) → ManagerSays held body → IsOfReplicas body → ⊥
-not_of_replicas held (Inv k s kind content) says of = says
-not_of_replicas held (Ack k s top) says of = says
-not_of_replicas held (Val k s) says of = says
-not_of_replicas held (CopyAsk after room) says of = says
-not_of_replicas held (CopyGive after done items) says of = says
-not_of_replicas held (LeaseAsk asked) says of = of
-not_of_replicas held (LeaseGive end) says of = of
-not_of_replicas held (Prepare ballot) says of = of
-not_of_replicas held (Promise ballot vote) says of = of
-not_of_replicas held (Accept ballot view) says of = of
-not_of_replicas held (AcceptedBody ballot) says of = of
-not_of_replicas held (Chosen view) says of = of
-not_of_replicas held (ActivateBody view) says of = of
+not_of_replicas held (Body.Inv k s kind content) says of = says
+not_of_replicas held (Body.Ack k s top) says of = says
+not_of_replicas held (Body.Val k s) says of = says
+not_of_replicas held (Body.CopyAsk after room) says of = says
+not_of_replicas held (Body.CopyGive after done items) says of = says
+not_of_replicas held (Body.LeaseAsk asked) says of = of
+not_of_replicas held (Body.LeaseGive end) says of = of
+not_of_replicas held (Body.Prepare ballot) says of = of
+not_of_replicas held (Body.Promise ballot vote) says of = of
+not_of_replicas held (Body.Accept ballot view) says of = of
+not_of_replicas held (Body.Accepted ballot) says of = of
+not_of_replicas held (Body.Chosen view) says of = of
+not_of_replicas held (Body.Activate view) says of = of
 
 module _ (w : WorldState) where
   makes_case : (event : Event) (id : NodeId) (x : NodeState) → process_at id w.processes ≡ Some (alive x) → (s : Stepped) → Steps w x event s → (paces : Paces) (a : Accepted) → makes w id x s paces ≡ Ok a → EventCase w event a
@@ -197,7 +197,7 @@ module _ (w : WorldState) where
   case_at (Call id key op) a e = live_step (EventCase w (Call id key op) a) w a id (calls_at w id key op) (λ x at e. call_case id key op x at a e) e
   case_at (Take n) a e = any_takes_step (EventCase w (Take n) a) w a n
       (λ l found id x at e. acts_case (Take n) id x at (receives x l) (l, found, refl) a e)
-      (λ l found m e. manager_case (Take n) m (Receipt l) a e) e
+      (λ l found m e. manager_case (Take n) m (ManagerEvent.Receive l) a e) e
   case_at (Tick actor to) a e = any_actor_step (EventCase w (Tick actor to) a) w a actor (ticks_at w to) (manager_ticks_at w to)
       (λ id x at e. ticks_step (EventCase w (Tick actor to) a) w a to id x (λ paces e. makes_case (Tick actor to) id x at (ticks x to) refl paces a e) e)
       (λ m e. live_manager_step (EventCase w (Tick actor to) a) w a m (manager_ticks_at w to m) (λ x at e.
@@ -225,8 +225,8 @@ module _ (w : WorldState) where
   case_at (Lease id end) a e = unmanaged_step (EventCase w (Lease id end) a) w a (live w id (leases_at w id end))
       (λ e. live_step (EventCase w (Lease id end) a) w a id (leases_at w id end) (λ x at e. leases_step (EventCase w (Lease id end) a) w a id end x (λ inside e. acts_case (Lease id end) id x at (grants x end) refl a e) e) e) e
   case_at (AskLease id manager) a e = live_step (EventCase w (AskLease id manager) a) w a id (λ node. acts w id node (asks_lease node manager)) (λ x at e. acts_case (AskLease id manager) id x at (asks_lease x manager) refl a e) e
-  case_at (Propose manager base change) a e = manager_case (Propose manager base change) manager (Proposal base change) a e
-  case_at (Activate manager) a e = manager_case (Activate manager) manager Activation a e
+  case_at (Propose manager base change) a e = manager_case (Propose manager base change) manager (ManagerEvent.Propose base change) a e
+  case_at (Activate manager) a e = manager_case (Activate manager) manager ManagerEvent.Activate a e
 
 pub event_case : (w : WorldState) (event : Event) (a : Accepted) → world_step w event ≡ Ok a → EventCase w event a
 event_case w event a e = case_at w event a e

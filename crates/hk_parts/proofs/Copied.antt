@@ -7,10 +7,10 @@ use Rattle.hk_base.specs.declared.stamp.Stamp.{Stamp}
 use Rattle.hk_base.specs.declared.stamp.NodeId.{NodeId}
 use Rattle.hk_base.specs.declared.call.CallNo.{CallNo}
 use Rattle.hk_base.specs.declared.call.Op.{Op}
-use Rattle.hk_base.specs.declared.call.State.{State as RowState}
-use Rattle.hk_base.specs.declared.call.State.TheVariants as R
+use Rattle.hk_base.specs.declared.call.State.{State}
+use Rattle.hk_base.specs.declared.call.State.TheVariants as State
 use Rattle.hk_base.specs.declared.letter.Actor.{Actor}
-use Rattle.hk_base.specs.declared.letter.Actor.TheVariants as A
+use Rattle.hk_base.specs.declared.letter.Actor.TheVariants as Actor
 use Rattle.hk_base.specs.declared.letter.Body.{Body}
 use Rattle.hk_base.specs.declared.letter.Body.TheVariants.{Inv, Ack, Val, CopyAsk, CopyGive, LeaseAsk, LeaseGive, Prepare, Promise, Accept, Accepted, Chosen, Activate}
 use Rattle.hk_base.specs.declared.letter.CopyItem.{CopyItem}
@@ -30,7 +30,7 @@ use Rattle.hk_node.specs.Stepped.{Stepped, idle}
 use Rattle.hk_node.specs.Heard.{raised, is_greatest, has_majority}
 use Rattle.hk_node.specs.Steps.{on_found, installed_in, received, is_addressed, receives_from, receives, installs, installs_by_majority, heard}
 use Rattle.hk_world.specs.declared.event.Event.{Event}
-use Rattle.hk_world.specs.declared.event.Event.TheVariants.{Call, Take, Tick, TickAll, Crash, Resend, Replay, Copy, Start, Agree, Install, Lease, AskLease, Propose, Activate as ActivateEvent}
+use Rattle.hk_world.specs.declared.event.Event.TheVariants as Event
 use Rattle.hk_world.specs.World.{WorldState, numbered}
 use Rattle.hk_effects.specs.Projection.{is_behind, has_copied, item_at, first_item, covers}
 use Rattle.hk_effects.specs.Own.{IsTold}
@@ -44,12 +44,12 @@ use Rattle.hk_parts.proofs.Cases.{Steps}
 -- the batch by which a key was copied
 pub record Took (key : List ℕ) (w : WorldState) (event : Event) (x : NodeState) (s : Stepped) : Type 0 where
   pub number : ℕ
-  pub is : event ≡ Take number
+  pub is : event ≡ Event.Take number
   pub letter : Letter
   pub taken : numbered number w.letters ≡ Some letter
   pub from : NodeId
-  pub sender : letter.from ≡ A.Node from
-  pub to : letter.to ≡ A.Node x.id
+  pub sender : letter.from ≡ Actor.Node from
+  pub to : letter.to ≡ Actor.Node x.id
   pub epoch : letter.epoch ≡ epoch_of x
   pub done : Bool
   pub items : List CopyItem
@@ -62,12 +62,12 @@ pub record Took (key : List ℕ) (w : WorldState) (event : Event) (x : NodeState
 copy_above : (row : Row) (i : CopyItem) → tag_of i.stamp ≤ tag_of (on_copy row i).stamp
 copy_above row i = by_order (nat_cmp (tag_of row.stamp) (tag_of i.stamp)) refl
   where
-    by_same : (b : Bool) (state : RowState) → (copied_same b state row).stamp ≡ row.stamp
-    by_same true R.Invalid = refl
-    by_same true R.Valid = refl
-    by_same true R.Write = refl
-    by_same true R.Replay = refl
-    by_same true R.Trans = refl
+    by_same : (b : Bool) (state : State) → (copied_same b state row).stamp ≡ row.stamp
+    by_same true State.Invalid = refl
+    by_same true State.Valid = refl
+    by_same true State.Write = refl
+    by_same true State.Replay = refl
+    by_same true State.Trans = refl
     by_same false state = refl
 
     by_order : (o : Ordering) → nat_cmp (tag_of row.stamp) (tag_of i.stamp) ≡ o → tag_of i.stamp ≤ tag_of (on_copy_at o row i).stamp
@@ -83,9 +83,9 @@ next_is None (Some c) e = absurd (false≢true e)
 next_is (Some a) None e = absurd (false≢true e)
 next_is (Some a) (Some c) e = ap Some (same_true a c e)
 
-addressed : (x : NodeState) (to : Actor) → is_addressed x to ≡ true → to ≡ A.Node x.id
-addressed x (A.Node n) e = ap (λ (k : ℕ). A.Node (record { 0 = k })) (eqb-true n.0 x.id.0 e)
-addressed x (A.Manager m) e = absurd (false≢true e)
+addressed : (x : NodeState) (to : Actor) → is_addressed x to ≡ true → to ≡ Actor.Node x.id
+addressed x (Actor.Node n) e = ap (λ (k : ℕ). Actor.Node (record { 0 = k })) (eqb-true n.0 x.id.0 e)
+addressed x (Actor.Manager m) e = absurd (false≢true e)
 
 module _ (key : List ℕ) (w : WorldState) (x : NodeState) (told : (l : Letter) → In w.letters l → IsTold l.body) (touched : AreTouched x.rows) (event : Event) where
   -- copied afterwards only where it was before, or by this batch
@@ -111,18 +111,18 @@ module _ (key : List ℕ) (w : WorldState) (x : NodeState) (told : (l : Letter) 
       by_turn true = by_limit (next_stamp (kind_of op) (row_at k x.rows).stamp x.id)
       by_turn false = inl
 
-      by_state : (s : RowState) → Copies (at_state s x call k op (row_at k x.rows))
-      by_state R.Valid = by_turn (act op (register_in (row_at k x.rows)) 0).changed
-      by_state R.Invalid = inl
-      by_state R.Write = inl
-      by_state R.Replay = inl
-      by_state R.Trans = inl
+      by_state : (s : State) → Copies (at_state s x call k op (row_at k x.rows))
+      by_state State.Valid = by_turn (act op (register_in (row_at k x.rows)) 0).changed
+      by_state State.Invalid = inl
+      by_state State.Write = inl
+      by_state State.Replay = inl
+      by_state State.Trans = inl
 
       by_lease : (b : Bool) → Copies (at_lease b x call k op)
       by_lease true = inl
       by_lease false = by_state (row_at k x.rows).state
 
-  module _ (n : ℕ) (take : event ≡ Take n) (l : Letter) (got : numbered n w.letters ≡ Some l) (from : NodeId) (sender : l.from ≡ A.Node from) (to : l.to ≡ A.Node x.id) (epoch : l.epoch ≡ epoch_of x) where
+  module _ (n : ℕ) (take : event ≡ Event.Take n) (l : Letter) (got : numbered n w.letters ≡ Some l) (from : NodeId) (sender : l.from ≡ Actor.Node from) (to : l.to ≡ Actor.Node x.id) (epoch : l.epoch ≡ epoch_of x) where
     abbrev after_batch : Bool → List CopyItem → Stepped
     after_batch done items = record { node = record x { ready = done; cursor = option_or (last_key items) x.cursor; rows = merged items x.rows }; letters = []; told = []; installed = None }
 
@@ -214,32 +214,32 @@ module _ (key : List ℕ) (w : WorldState) (x : NodeState) (told : (l : Letter) 
   heard_copies (Accepted ballot) manager = inl
   heard_copies (Chosen view) manager = inl
 
-  receives_copies : (n : ℕ) → event ≡ Take n → (l : Letter) → numbered n w.letters ≡ Some l → Copies (receives x l)
+  receives_copies : (n : ℕ) → event ≡ Event.Take n → (l : Letter) → numbered n w.letters ≡ Some l → Copies (receives x l)
   receives_copies n take l got = by_from l.from refl
     where
       by_from : (a : Actor) → l.from ≡ a → Copies (receives_from a x l)
-      by_from (A.Manager m) sender = either (is_addressed x l.to && ltb m x.managers) (heard l.body x m) (λ e. heard_copies l.body m)
-      by_from (A.Node from) sender = either (is_addressed x l.to && (eqb l.epoch (epoch_of x) && is_other x from)) (received l.body x from) (λ e.
+      by_from (Actor.Manager m) sender = either (is_addressed x l.to && ltb m x.managers) (heard l.body x m) (λ e. heard_copies l.body m)
+      by_from (Actor.Node from) sender = either (is_addressed x l.to && (eqb l.epoch (epoch_of x) && is_other x from)) (received l.body x from) (λ e.
           let p = and_parts (is_addressed x l.to) (eqb l.epoch (epoch_of x) && is_other x from) e in
           let q = and_parts (eqb l.epoch (epoch_of x)) (is_other x from) p.1 in
           received_copies n take l got from sender (addressed x l.to p.0) (eqb-true l.epoch (epoch_of x) q.0) l.body refl)
 
   copies_at : (e : Event) → event ≡ e → (s : Stepped) → Steps w x e s → Copies s
-  copies_at (Call id k op) same s is = rw is (called_copies (record { 0 = w.calls + 1 }) k op)
-  copies_at (Take n) same s is = rw is.2 (receives_copies n same is.0 is.1)
-  copies_at (Tick actor to) same s is = rw is inl
-  copies_at (Resend id k) same s is = rw is (found k _ (find_row k x.rows))
-  copies_at (Replay id k) same s is = rw is (either x.ready (on_found (find_row k x.rows) x k (replay x.id (members_of x))) (λ e. found k (replay x.id (members_of x)) (find_row k x.rows)))
-  copies_at (Copy id from room) same s is = rw is (either (not x.ready && is_other x from) (record { node = x; letters = letters_to x (CopyAsk x.cursor room) (from ∷ []); told = []; installed = None }) (λ e. inl))
-  copies_at (Install id epoch) same s is = rw is.2 (either (ltb (epoch_of x) is.0.epoch && is_member x.id is.0.members) (installed_in (record x { view = Some is.0 }) is.0.epoch) (λ e. inl))
-  copies_at (Lease id end) same s is = rw is inl
-  copies_at (AskLease id manager) same s is = rw is (either (ltb manager x.managers) (record { node = x; letters = record { epoch = epoch_of x; from = A.Node x.id; to = A.Manager manager; body = LeaseAsk x.clock } ∷ []; told = []; installed = None }) (λ e. inl))
-  copies_at (TickAll to) same s is = absurd is
-  copies_at (Crash actor) same s is = absurd is
-  copies_at (Start id) same s is = absurd is
-  copies_at (Agree change) same s is = absurd is
-  copies_at (Propose manager base change) same s is = absurd is
-  copies_at (ActivateEvent manager) same s is = absurd is
+  copies_at (Event.Call id k op) same s is = rw is (called_copies (record { 0 = w.calls + 1 }) k op)
+  copies_at (Event.Take n) same s is = rw is.2 (receives_copies n same is.0 is.1)
+  copies_at (Event.Tick actor to) same s is = rw is inl
+  copies_at (Event.Resend id k) same s is = rw is (found k _ (find_row k x.rows))
+  copies_at (Event.Replay id k) same s is = rw is (either x.ready (on_found (find_row k x.rows) x k (replay x.id (members_of x))) (λ e. found k (replay x.id (members_of x)) (find_row k x.rows)))
+  copies_at (Event.Copy id from room) same s is = rw is (either (not x.ready && is_other x from) (record { node = x; letters = letters_to x (CopyAsk x.cursor room) (from ∷ []); told = []; installed = None }) (λ e. inl))
+  copies_at (Event.Install id epoch) same s is = rw is.2 (either (ltb (epoch_of x) is.0.epoch && is_member x.id is.0.members) (installed_in (record x { view = Some is.0 }) is.0.epoch) (λ e. inl))
+  copies_at (Event.Lease id end) same s is = rw is inl
+  copies_at (Event.AskLease id manager) same s is = rw is (either (ltb manager x.managers) (record { node = x; letters = record { epoch = epoch_of x; from = Actor.Node x.id; to = Actor.Manager manager; body = LeaseAsk x.clock } ∷ []; told = []; installed = None }) (λ e. inl))
+  copies_at (Event.TickAll to) same s is = absurd is
+  copies_at (Event.Crash actor) same s is = absurd is
+  copies_at (Event.Start id) same s is = absurd is
+  copies_at (Event.Agree change) same s is = absurd is
+  copies_at (Event.Propose manager base change) same s is = absurd is
+  copies_at (Event.Activate manager) same s is = absurd is
 
   pub step_copies : (s : Stepped) → Steps w x event s → Copies s
   step_copies = copies_at event refl

@@ -4,14 +4,14 @@ use Rattle.std.proofs.lemmas.Bool.{false≢true, cases_eq, cases_lt, cases_Bool}
 use Rattle.hk_base.specs.declared.call.Content.{Content}
 use Rattle.hk_base.specs.declared.stamp.Kind.{Kind}
 use Rattle.hk_base.specs.declared.stamp.NodeId.{NodeId}
-use Rattle.hk_base.specs.declared.letter.Actor.TheVariants as A
+use Rattle.hk_base.specs.declared.letter.Actor.TheVariants as Actor
 use Rattle.hk_base.specs.declared.letter.Body.{Body}
 use Rattle.hk_base.specs.declared.letter.Body.TheVariants.{CopyGive}
-use Rattle.hk_base.specs.declared.letter.Letter.{Letter as Wire}
+use Rattle.hk_base.specs.declared.letter.Letter.{Letter}
 use Rattle.hk_base.specs.Stamp.{tag_of}
 use Rattle.hk_base.specs.View.{member_numbers}
 use Rattle.hk_register.specs.Machine.{In, Node}
-use Rattle.hk_register.specs.Machine.Letter.{Give}
+use Rattle.hk_register.specs.Machine.Message.{Give}
 use Rattle.hk_register.specs.Parts.{Parts}
 use Rattle.hk_node.specs.Node.{NodeState, epoch_of}
 use Rattle.hk_node.specs.Rows.{row_at}
@@ -145,7 +145,7 @@ module _ (runs : RunsKeepParts) (key : List ℕ) (h : Header) (header : IsHeader
               letter = k.letter;
               taken = k.taken;
               from = k.sender;
-              to = k.to ∙ ap (λ (j : NodeId). A.Node j) number;
+              to = k.to ∙ ap (λ (j : NodeId). Actor.Node j) number;
               node = c.x;
               there = ap node_of c.there;
               epoch = k.epoch;
@@ -220,7 +220,7 @@ module _ (runs : RunsKeepParts) (key : List ℕ) (h : Header) (header : IsHeader
             (in_letters_append key t.world.letters c.s.letters (Give m g s kind content valid) (subst (λ (b : Accepted). In (letters_of key b.world.letters) (Give m g s kind content valid)) c.is there'))
         by_case (inr b) there' = ⊎_elim old
             (λ (new : In (letters_of key b.letters) (Give m g s kind content valid)). let w = wire_of key b.letters (Give m g s kind content valid) new in absurd (b.silent w.0 w.1 (of_replicas key w.0 w.0.body (Give m g s kind content valid) w.2)))
-            (in_letters_append key t.world.letters b.letters (Give m g s kind content valid) (subst (λ (ls : List Wire). In (letters_of key ls) (Give m g s kind content valid)) b.sent there'))
+            (in_letters_append key t.world.letters b.letters (Give m g s kind content valid) (subst (λ (ls : List Letter). In (letters_of key ls) (Give m g s kind content valid)) b.sent there'))
 
     all_rest : AllBelow key Longer V (traced key t event a)
     all_rest = record { node = node_rests; letter = letter_rests }

@@ -9,11 +9,11 @@ use Rattle.std.proofs.lemmas.Map.Keys.{sorted_head, sorted_tail}
 use Rattle.hk_base.specs.declared.stamp.Stamp.{Stamp}
 use Rattle.hk_base.specs.declared.stamp.NodeId.{NodeId}
 use Rattle.hk_base.specs.declared.stamp.Kind.{Kind}
-use Rattle.hk_base.specs.declared.stamp.Kind.TheVariants.{Write as Plain, Rmw}
+use Rattle.hk_base.specs.declared.stamp.Kind.TheVariants as Kind
 use Rattle.hk_base.specs.declared.call.Content.{Content}
-use Rattle.hk_base.specs.declared.call.State.{State as RowState}
-use Rattle.hk_base.specs.declared.call.State.TheVariants as R
-use Rattle.hk_base.specs.declared.letter.Actor.TheVariants as A
+use Rattle.hk_base.specs.declared.call.State.{State}
+use Rattle.hk_base.specs.declared.call.State.TheVariants as State
+use Rattle.hk_base.specs.declared.letter.Actor.TheVariants as Actor
 use Rattle.hk_base.specs.declared.letter.Body.{Body}
 use Rattle.hk_base.specs.declared.letter.Body.TheVariants.{Inv, Ack, Val, CopyAsk, CopyGive, LeaseAsk, LeaseGive, Prepare, Promise, Accept, Accepted, Chosen, Activate}
 use Rattle.hk_base.specs.declared.letter.Letter.{Letter}
@@ -27,7 +27,7 @@ use Rattle.hk_key.specs.declared.row.Row.{Row}
 use Rattle.hk_key.specs.declared.out.Aim.{Aim}
 use Rattle.hk_key.specs.declared.out.Aim.TheVariants.{One, Others, NotAcked}
 use Rattle.hk_key.specs.declared.out.What.{What}
-use Rattle.hk_key.specs.declared.out.What.TheVariants.{InvRow, InvPending, Ack as AckOf, Val as ValOf}
+use Rattle.hk_key.specs.declared.out.What.TheVariants as What
 use Rattle.hk_key.specs.declared.out.Sending.{Sending}
 use Rattle.hk_key.specs.Notes.{all_noted, all_exact, note_in, is_noted}
 use Rattle.hk_key.specs.Table.{Done, started_at, completed_at, on_inv_at, on_ack_at, on_ack_pending, on_ack, noted_at, resend_at, resend, replay_at, replay, on_view_at, on_view, with_acks, unnoted}
@@ -60,7 +60,7 @@ BodyTells y (Chosen view) = ⊤
 BodyTells y (Activate view) = ⊤
 
 pub record Says (y : NodeState) (l : Letter) : Type 0 where
-  pub from : l.from ≡ A.Node y.id
+  pub from : l.from ≡ Actor.Node y.id
   pub epoch : l.epoch ≡ epoch_of y
   pub to : NodeId
   pub inside : In (member_numbers (members_of y)) to.0
@@ -91,10 +91,10 @@ letters_said y b (n ∷ ns) inside tells l (inr h) = letters_said y b ns (λ m k
 
 -- what goes to all others is no ACK
 abbrev IsNoAck : What → Type 0
-IsNoAck (AckOf s top) = ⊥
-IsNoAck InvRow = ⊤
-IsNoAck InvPending = ⊤
-IsNoAck (ValOf s) = ⊤
+IsNoAck (What.Ack s top) = ⊥
+IsNoAck What.InvRow = ⊤
+IsNoAck What.InvPending = ⊤
+IsNoAck (What.Val s) = ⊤
 
 abbrev IsWide : Aim → What → Type 0
 IsWide (One to) what = ⊥
@@ -106,14 +106,14 @@ MayGo None = ⊤
 MayGo (Some s) = IsWide s.aim s.what
 
 body_tells : (y : NodeState) (k : List ℕ) (row : Row) (what : What) → IsNoAck what → BodyTells y (body_of k row what)
-body_tells y k row InvRow ok = tt
-body_tells y k row InvPending ok = by_pending row.pending
+body_tells y k row What.InvRow ok = tt
+body_tells y k row What.InvPending ok = by_pending row.pending
   where
     by_pending : (p : Option Pending) → BodyTells y (pending_body k row p)
     by_pending None = tt
     by_pending (Some p) = tt
-body_tells y k row (AckOf s top) ok = absurd ok
-body_tells y k row (ValOf s) ok = tt
+body_tells y k row (What.Ack s top) ok = absurd ok
+body_tells y k row (What.Val s) ok = tt
 
 wide_said : (y : NodeState) (k : List ℕ) (row : Row) (aim : Aim) (what : What) → IsWide aim what → (l : Letter) → In (letters_to y (body_of k row what) (addressees y row aim)) l → Says y l
 wide_said y k row (One to) what ok = absurd ok
@@ -169,12 +169,12 @@ resend_aims row = by_pending row.pending
 pub replay_aims : (me : NodeId) (ms : List NodeId) (row : Row) → Aims (replay me ms row)
 replay_aims me ms row = by_state row.state
   where
-    by_state : (s : RowState) → Aims (replay_at s me ms row)
-    by_state R.Invalid = started_aims (all_noted me ms []) (record row { state = R.Replay }) (unnoted None row.stamp row.kind row.content)
-    by_state R.Valid = tt
-    by_state R.Write = tt
-    by_state R.Replay = tt
-    by_state R.Trans = tt
+    by_state : (s : State) → Aims (replay_at s me ms row)
+    by_state State.Invalid = started_aims (all_noted me ms []) (record row { state = State.Replay }) (unnoted None row.stamp row.kind row.content)
+    by_state State.Valid = tt
+    by_state State.Write = tt
+    by_state State.Replay = tt
+    by_state State.Trans = tt
 
 pub view_aims : (me : NodeId) (ms : List NodeId) (row : Row) → Aims (on_view me ms row)
 view_aims me ms row = by_pending row.pending
@@ -193,10 +193,10 @@ inv_said x k from s kind content inside Less e same =
 inv_said x k from s kind content inside Equal e same =
     let row = row_at k x.rows in
     letters_said (record x { rows = with_row k row x.rows }) (Ack k s s) (from ∷ []) (λ n. to_one x from n inside) (sym (ap (λ (r : Row). tag_of r.stamp) (row-with_same k row x.rows same) ∙ ranked (tag_of row.stamp) (tag_of s) Equal (sym e)))
-inv_said x k from s Plain content inside Greater e same =
+inv_said x k from s Kind.Write content inside Greater e same =
     let row = row_at k x.rows in
     letters_said (record x { rows = with_row k row x.rows }) (Ack k s row.stamp) (from ∷ []) (λ n. to_one x from n inside) (sym (ap (λ (r : Row). tag_of r.stamp) (row-with_same k row x.rows same)))
-inv_said x k from s Rmw content inside Greater e same =
+inv_said x k from s Kind.Rmw content inside Greater e same =
     let row = row_at k x.rows in
     letters_said (record x { rows = with_row k row x.rows }) (Inv k row.stamp row.kind row.content) (from ∷ []) (λ n. to_one x from n inside) tt
 

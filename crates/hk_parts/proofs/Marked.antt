@@ -3,7 +3,7 @@ use Rattle.std.proofs.Common.{◌≡◌, ℕ, List, [], ◌∷◌, map, ◌≤�
 use Rattle.hk_base.specs.declared.stamp.NodeId.{NodeId}
 use Rattle.hk_register.specs.Machine.{In, Marked, Mark}
 use Rattle.hk_register.specs.Effects.{row_mark, cover_mark}
-use Rattle.hk_register.specs.Machine.Letter.{Ack}
+use Rattle.hk_register.specs.Machine.Message.{Ack}
 use Rattle.hk_register.specs.Runs.{founder}
 use Rattle.hk_register.proofs.Grow.{in_left}
 use Rattle.hk_register.proofs.Helps.{pending_of}

@@ -3,11 +3,11 @@ use Rattle.std.proofs.Common.{◌≡◌, ◌⊎◌, ℕ, Bool, true, false, cond
 use Rattle.std.proofs.lemmas.Bool.{false≢true}
 use Rattle.hk_base.specs.declared.stamp.NodeId.{NodeId}
 use Rattle.hk_base.specs.declared.letter.Body.{Body}
-use Rattle.hk_base.specs.declared.letter.Body.TheVariants.{Inv as InvBody, Ack as AckBody, Val as ValBody, CopyAsk, CopyGive, LeaseAsk, LeaseGive, Prepare, Promise, Accept, Accepted as AcceptedBody, Chosen, Activate}
-use Rattle.hk_base.specs.declared.letter.Letter.{Letter as Wire}
+use Rattle.hk_base.specs.declared.letter.Body.TheVariants as Body
+use Rattle.hk_base.specs.declared.letter.Letter.{Letter}
 use Rattle.hk_base.specs.Stamp.{tag_of}
-use Rattle.hk_register.specs.Machine.{In, Mark, Node, Letter}
-use Rattle.hk_register.specs.Machine.Letter.{Inv, Ack, Val, Give}
+use Rattle.hk_register.specs.Machine.{In, Mark, Node, Message}
+use Rattle.hk_register.specs.Machine.Message.{Inv, Ack, Val, Give}
 use Rattle.hk_register.proofs.Grow.{in_right, in_either}
 use Rattle.hk_world.specs.declared.event.Event.{Event}
 use Rattle.hk_world.specs.declared.event.Header.{Header}
@@ -33,7 +33,7 @@ use Rattle.hk_parts.proofs.Sources.{Source, source_of}
 use Rattle.hk_parts.proofs.Steps.{step_said, of_replicas}
 
 -- ---- an ACK tells its sender and epoch
-module _ (key : List ℕ) (l : Wire) (m f s top : ℕ) where
+module _ (key : List ℕ) (l : Letter) (m f s top : ℕ) where
   abbrev FromIt : Type 0
   FromIt = (m ≡ number_of l.from) × (f ≡ l.epoch)
 
@@ -43,7 +43,7 @@ module _ (key : List ℕ) (l : Wire) (m f s top : ℕ) where
       let two : f ≡ e = cc in
       (one, two)
 
-  no_other : (b : Bool) (x : Letter) → (Ack m f s top ≡ x → ⊥) → In (cond b (x ∷ []) []) (Ack m f s top) → FromIt
+  no_other : (b : Bool) (x : Message) → (Ack m f s top ≡ x → ⊥) → In (cond b (x ∷ []) []) (Ack m f s top) → FromIt
   no_other true x no_ack (inl e) = absurd (no_ack e)
   no_other true x no_ack (inr none) = absurd none
   no_other false x no_ack none = absurd none
@@ -54,20 +54,20 @@ module _ (key : List ℕ) (l : Wire) (m f s top : ℕ) where
   the_ack false c d none = absurd none
 
   ack_from : (b : Body) → In (letter_of key l b) (Ack m f s top) → FromIt
-  ack_from (InvBody k c kd ct) h = no_other (is_same_key key k) (Inv (number_of l.from) l.epoch (tag_of c) kd ct) (λ e. cc) h
-  ack_from (AckBody k c d) h = the_ack (is_same_key key k) (tag_of c) (tag_of d) h
-  ack_from (ValBody k c) h = no_other (is_same_key key k) (Val (number_of l.from) l.epoch (tag_of c)) (λ e. cc) h
-  ack_from (CopyGive after done items) h = no_other (covers key after done items)
+  ack_from (Body.Inv k c kd ct) h = no_other (is_same_key key k) (Inv (number_of l.from) l.epoch (tag_of c) kd ct) (λ e. cc) h
+  ack_from (Body.Ack k c d) h = the_ack (is_same_key key k) (tag_of c) (tag_of d) h
+  ack_from (Body.Val k c) h = no_other (is_same_key key k) (Val (number_of l.from) l.epoch (tag_of c)) (λ e. cc) h
+  ack_from (Body.CopyGive after done items) h = no_other (covers key after done items)
       (Give (number_of l.from) l.epoch (tag_of (item_at key items).stamp) (item_at key items).kind (item_at key items).content (item_at key items).valid) (λ e. cc) h
-  ack_from (CopyAsk after room) h = absurd h
-  ack_from (LeaseAsk asked) h = absurd h
-  ack_from (LeaseGive end) h = absurd h
-  ack_from (Prepare ballot) h = absurd h
-  ack_from (Promise ballot vote) h = absurd h
-  ack_from (Accept ballot v) h = absurd h
-  ack_from (AcceptedBody ballot) h = absurd h
-  ack_from (Chosen v) h = absurd h
-  ack_from (Activate v) h = absurd h
+  ack_from (Body.CopyAsk after room) h = absurd h
+  ack_from (Body.LeaseAsk asked) h = absurd h
+  ack_from (Body.LeaseGive end) h = absurd h
+  ack_from (Body.Prepare ballot) h = absurd h
+  ack_from (Body.Promise ballot vote) h = absurd h
+  ack_from (Body.Accept ballot v) h = absurd h
+  ack_from (Body.Accepted ballot) h = absurd h
+  ack_from (Body.Chosen v) h = absurd h
+  ack_from (Body.Activate v) h = absurd h
 
 -- ---- what was so in a run was so in a longer one
 module _ (key : List ℕ) (h : Header) (past : List Event) (event : Event) where

@@ -2,15 +2,15 @@
 use Rattle.std.proofs.Common.{◌≡◌, ◌≢◌, ℕ, List, [], ◌∷◌, map, ◌<◌, ◌≤◌, ◌∙◌, sym, refl, ap, subst, inl, inr, ⊎_elim, arith, Option, Some, None, IfSome, eq-zero-or-pos}
 use Rattle.std.specs.List.{AllByRecursion}
 use Rattle.hk_base.specs.declared.call.Content.{Content}
-use Rattle.hk_base.specs.declared.call.State.{State as RowState}
-use Rattle.hk_base.specs.declared.call.State.TheVariants as R
+use Rattle.hk_base.specs.declared.call.State.{State}
+use Rattle.hk_base.specs.declared.call.State.TheVariants as State
 use Rattle.hk_base.specs.declared.stamp.NodeId.{NodeId}
 use Rattle.hk_base.specs.declared.stamp.Kind.{Kind}
 use Rattle.hk_base.specs.declared.stamp.Stamp.{Stamp}
 use Rattle.hk_key.specs.declared.acks.Ack.{Ack}
-use Rattle.hk_key.specs.declared.row.Pending.{Pending as Waits}
+use Rattle.hk_key.specs.declared.row.Pending.{Pending}
 use Rattle.hk_key.specs.Sound.{IsOther, IsUpdate, Holds as HoldsRow, Waits as WaitsFor}
-use Rattle.hk_register.specs.Machine.{In, Marked, Mark, Note, Pending, Update}
+use Rattle.hk_register.specs.Machine.{In, Marked, Mark, Note, WaitingUpdate, Update}
 use Rattle.hk_register.specs.Facts.{Exact}
 use Rattle.hk_register.specs.Effects.{Has, row_mark}
 use Rattle.hk_register.specs.Parts.{Known, Holds, MarkBegun, Parts}
@@ -26,26 +26,26 @@ use Rattle.hk_parts.specs.Facts.{members_at, HasCovered, IsSettled}
 use Rattle.hk_parts.specs.UpdatePart.{HasShape, IsBegun, IsBegunAs, FromUpdate, FromUpdateAs}
 
 -- ---- shapes
-shape_of : (state : RowState) (p : Option Waits) (s : Stamp) → HoldsRow state p s → WaitsFor state p → HasShape state p s
-shape_of R.Valid p s h w = h
-shape_of R.Invalid p s h w = h
-shape_of R.Write None s h w = h
-shape_of R.Write (Some p) s h w = (h, w)
-shape_of R.Replay None s h w = h
-shape_of R.Replay (Some p) s h w = (h, w)
-shape_of R.Trans None s h w = h
-shape_of R.Trans (Some p) s h w = (h, w.1, w.0)
+shape_of : (state : State) (p : Option Pending) (s : Stamp) → HoldsRow state p s → WaitsFor state p → HasShape state p s
+shape_of State.Valid p s h w = h
+shape_of State.Invalid p s h w = h
+shape_of State.Write None s h w = h
+shape_of State.Write (Some p) s h w = (h, w)
+shape_of State.Replay None s h w = h
+shape_of State.Replay (Some p) s h w = (h, w)
+shape_of State.Trans None s h w = h
+shape_of State.Trans (Some p) s h w = (h, w.1, w.0)
 
 -- what is pending for the register is pending in the row
-pub pending_from : (state : RowState) (o : Option Waits) (p : Pending) → Has (phase_of state o) p → (w : Waits) × (o ≡ Some w) × (pending_of w ≡ p)
-pending_from R.Valid o p h = absurd h
-pending_from R.Invalid o p h = absurd h
-pending_from R.Write None p h = absurd h
-pending_from R.Write (Some w) p h = (w, refl, h)
-pending_from R.Replay None p h = absurd h
-pending_from R.Replay (Some w) p h = (w, refl, h)
-pending_from R.Trans None p h = absurd h
-pending_from R.Trans (Some w) p h = (w, refl, h)
+pub pending_from : (state : State) (o : Option Pending) (p : WaitingUpdate) → Has (phase_of state o) p → (w : Pending) × (o ≡ Some w) × (pending_of w ≡ p)
+pending_from State.Valid o p h = absurd h
+pending_from State.Invalid o p h = absurd h
+pending_from State.Write None p h = absurd h
+pending_from State.Write (Some w) p h = (w, refl, h)
+pending_from State.Replay None p h = absurd h
+pending_from State.Replay (Some w) p h = (w, refl, h)
+pending_from State.Trans None p h = absurd h
+pending_from State.Trans (Some w) p h = (w, refl, h)
 
 pub note_from : (P : Ack → Type 0) (ks : List Ack) (k : Note) → AllByRecursion P ks → In (map note_of ks) k → (a : Ack) × P a × (k ≡ note_of a)
 note_from P [] k all h = absurd h
@@ -103,10 +103,10 @@ module _ (key : List ℕ) (t : Trace) (ok : IsKept key t) where
       shape_of row.state row.pending row.stamp s.holds s.waits
 
   -- of another node than this one
-  pub other_noted : (n : ℕ) (p : Pending) → Has ((project key t).node n).phase p → (k : Note) → In p.notes k → k.who ≢ n
+  pub other_noted : (n : ℕ) (p : WaitingUpdate) → Has ((project key t).node n).phase p → (k : Note) → In p.notes k → k.who ≢ n
   other_noted n p has k h = by_node (node_at n t.world.processes) refl has
     where
-      waiting : (x : NodeState) (o : Option Waits) → IfSome o (λ w. IsUpdate x.id (members_of x) w) → (w : Waits) → o ≡ Some w → IsUpdate x.id (members_of x) w
+      waiting : (x : NodeState) (o : Option Pending) → IfSome o (λ w. IsUpdate x.id (members_of x) w) → (w : Pending) → o ≡ Some w → IsUpdate x.id (members_of x) w
       waiting x o u w e = rw e at u
 
       by_node : (o : Option NodeState) → node_at n t.world.processes ≡ o → Has (key_node key o).phase p → k.who ≢ n
@@ -117,7 +117,7 @@ module _ (key : List ℕ) (t : Trace) (ok : IsKept key t) where
           let s = row_sound x holds.1 key in
           let w = pending_from row.state row.pending p has' in
           let u = waiting x row.pending s.update w.0 w.1 in
-          let inside : In (map note_of w.0.acks) k = subst (λ (q : Pending). In q.notes k) (sym w.2) h in
+          let inside : In (map note_of w.0.acks) k = subst (λ (q : WaitingUpdate). In q.notes k) (sym w.2) h in
           let a = note_from (λ (a : Ack). IsOther x.id (members_of x) a.node) w.0.acks k u.notes.others inside in
           λ is. a.1.other (sym (ap (λ (z : Note). z.who) a.2) ∙ (is ∙ sym (ap (λ (z : NodeId). z.0) holds.0)))
 

@@ -1,8 +1,8 @@
 -- On whose covers a copied row rests, in every run.
 use Rattle.std.proofs.Common.{◌≡◌, ℕ, Bool, true, false, cond, List, [], ◌∷◌, ◌++◌, ◌<◌, ◌≤◌, refl, subst, ⊎_elim, arith, le_trans, Option, Some, None, leb, ltb}
 use Rattle.hk_base.specs.declared.stamp.NodeId.{NodeId}
-use Rattle.hk_register.specs.Machine.{In, Mark, Node, Phase, Letter}
-use Rattle.hk_register.specs.Machine.Letter.{Inv, Ack, Val, Give}
+use Rattle.hk_register.specs.Machine.{In, Mark, Node, Phase, Message}
+use Rattle.hk_register.specs.Machine.Message.{Inv, Ack, Val, Give}
 use Rattle.hk_register.specs.Effects.{row_mark, cover_mark}
 use Rattle.hk_register.proofs.Grow.{in_either}
 use Rattle.hk_world.specs.declared.event.Event.{Event}
@@ -26,14 +26,14 @@ pending_who id z (Phase.Write p) k h = ⊎_elim (λ (e : k ≡ cover_mark id z p
 pending_who id z (Phase.Replay p) k h = ⊎_elim (λ (e : k ≡ cover_mark id z p.stamp). rw e refl) (λ (none : ⊥). absurd none) h
 pending_who id z (Phase.Trans p) k h = ⊎_elim (λ (e : k ≡ cover_mark id z p.stamp). rw e refl) (λ (none : ⊥). absurd none) h
 
-ack_who : (id : ℕ) (z : Node) (ls : List Letter) (k : Mark) → In (ack_marks id z ls) k → k.who ≡ id
+ack_who : (id : ℕ) (z : Node) (ls : List Message) (k : Mark) → In (ack_marks id z ls) k → k.who ≡ id
 ack_who id z [] k h = absurd h
 ack_who id z (Ack from epoch s top ∷ ls) k h = ⊎_elim (λ (e : k ≡ cover_mark id z s). rw e refl) (ack_who id z ls k) h
 ack_who id z (Inv from epoch s kind content ∷ ls) k h = ack_who id z ls k h
 ack_who id z (Val from epoch s ∷ ls) k h = ack_who id z ls k h
 ack_who id z (Give from epoch s kind content valid ∷ ls) k h = ack_who id z ls k h
 
-step_who : (id : ℕ) (was z : Node) (ls : List Letter) (k : Mark) → In (step_marks id was z ls) k → k.who ≡ id
+step_who : (id : ℕ) (was z : Node) (ls : List Message) (k : Mark) → In (step_marks id was z ls) k → k.who ≡ id
 step_who id was z ls k h =
     ⊎_elim
     (λ (a : In (moment_marks id z) k). moment (leb 1 z.epoch) a)

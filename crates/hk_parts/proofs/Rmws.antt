@@ -1,6 +1,6 @@
 -- The part on read-modify-writes holds after every run.
 use Rattle.std.proofs.Common.{ℕ, List, le_refl}
-use Rattle.hk_register.specs.Machine.{State}
+use Rattle.hk_register.specs.Machine.{RegisterState}
 use Rattle.hk_register.proofs.Orders.{one_complete, none_between}
 use Rattle.hk_effects.specs.Projection.{Trace, project}
 use Rattle.hk_world.specs.Sound.{IsHeader}
@@ -19,7 +19,7 @@ module _ (runs : RunsKeepParts) (key : List ℕ) (run : Run) (header : IsHeader 
   rmw_part =
       let ok = kept_here runs key run header t ends in
       let V : ℕ → List ℕ = members_at t in
-      let st : State = project key t in
+      let st : RegisterState = project key t in
       let parts = parts_at key t ok in
       record {
         acks_exact = λ u begun rmw m e top h. top_is V st parts u begun rmw m e top (acks_told runs key run.header header run.events t ends m e u.stamp top h);

@@ -5,10 +5,10 @@ use Rattle.std.proofs.lemmas.Bool.{eq-eqb, eqb-true}
 use Rattle.hk_base.specs.declared.stamp.Stamp.{Stamp}
 use Rattle.hk_base.specs.declared.stamp.NodeId.{NodeId}
 use Rattle.hk_base.specs.declared.stamp.Kind.{Kind}
-use Rattle.hk_base.specs.declared.stamp.Kind.TheVariants.{Write as Plain, Rmw}
+use Rattle.hk_base.specs.declared.stamp.Kind.TheVariants as Kind
 use Rattle.hk_base.specs.declared.call.Content.{Content}
-use Rattle.hk_base.specs.declared.call.State.{State as RowState}
-use Rattle.hk_base.specs.declared.call.State.TheVariants as R
+use Rattle.hk_base.specs.declared.call.State.{State}
+use Rattle.hk_base.specs.declared.call.State.TheVariants as State
 use Rattle.hk_base.specs.declared.letter.CopyItem.{CopyItem}
 use Rattle.hk_base.specs.Stamp.{tag_of}
 use Rattle.hk_key.specs.declared.acks.Ack.{Ack}
@@ -24,7 +24,7 @@ AreExact ks = AllByRecursion (λ (a : Ack). a.exact ≡ true) ks
 
 -- a pending read-modify-write has exact notes
 abbrev pub IsNoted : Option Pending → Type 0
-IsNoted o = IfSome o (λ p. p.kind ≡ Rmw → AreExact p.acks)
+IsNoted o = IfSome o (λ p. p.kind ≡ Kind.Rmw → AreExact p.acks)
 
 note_exact : (from : NodeId) (ks : List Ack) → AreExact ks → AreExact (note_in from true ks)
 note_exact from [] all = (refl, tt)
@@ -43,40 +43,40 @@ completed_noted true true row p = tt
 completed_noted true false row p = tt
 completed_noted false exact row p = tt
 
-pub started_noted : (b : Bool) (row : Row) (p : Pending) → (p.kind ≡ Rmw → AreExact p.acks) → IsNoted (started_at b row p).row.pending
+pub started_noted : (b : Bool) (row : Row) (p : Pending) → (p.kind ≡ Kind.Rmw → AreExact p.acks) → IsNoted (started_at b row p).row.pending
 started_noted true row p ok = completed_noted (eqb (tag_of row.stamp) (tag_of p.stamp)) (all_exact p.acks) row p
 started_noted false row p ok = ok
 
-displaced_noted : (state : RowState) (p : Option Pending) → IsNoted p → IsNoted (displaced state p).1
-displaced_noted R.Valid p ok = tt
-displaced_noted R.Invalid p ok = tt
-displaced_noted R.Replay p ok = tt
-displaced_noted R.Trans p ok = ok
-displaced_noted R.Write None ok = tt
-displaced_noted R.Write (Some p) ok = by_kind p.kind
+displaced_noted : (state : State) (p : Option Pending) → IsNoted p → IsNoted (displaced state p).1
+displaced_noted State.Valid p ok = tt
+displaced_noted State.Invalid p ok = tt
+displaced_noted State.Replay p ok = tt
+displaced_noted State.Trans p ok = ok
+displaced_noted State.Write None ok = tt
+displaced_noted State.Write (Some p) ok = by_kind p.kind
   where
     by_kind : (k : Kind) → IsNoted (displaced_write k p).1
-    by_kind Plain = ok
-    by_kind Rmw = tt
+    by_kind Kind.Write = ok
+    by_kind Kind.Rmw = tt
 
 pub inv_noted : (o : Ordering) (row : Row) (from : NodeId) (s : Stamp) (kind : Kind) (content : Option Content) → IsNoted row.pending → IsNoted (on_inv_at o row from s kind content).row.pending
 inv_noted Less row from s kind content ok = displaced_noted row.state row.pending ok
 inv_noted Equal row from s kind content ok = ok
-inv_noted Greater row from s Plain content ok = ok
-inv_noted Greater row from s Rmw content ok = ok
+inv_noted Greater row from s Kind.Write content ok = ok
+inv_noted Greater row from s Kind.Rmw content ok = ok
 
 -- an ACK of a pending read-modify-write has its stamp as top
 abbrev pub TopIs : Option Pending → Stamp → Stamp → Type 0
-TopIs o s top = IfSome o (λ p. p.kind ≡ Rmw → tag_of s ≡ tag_of p.stamp → tag_of top ≡ tag_of s)
+TopIs o s top = IfSome o (λ p. p.kind ≡ Kind.Rmw → tag_of s ≡ tag_of p.stamp → tag_of top ≡ tag_of s)
 
 pub ack_noted : (me : NodeId) (ms : List NodeId) (row : Row) (from : NodeId) (s top : Stamp) → IsNoted row.pending → TopIs row.pending s top → IsNoted (on_ack me ms row from s top).row.pending
 ack_noted me ms row from s top = by_pending row.pending refl
   where
-    by_noted : (b : Bool) (p : Pending) → (p.kind ≡ Rmw → AreExact p.acks) → IsNoted (noted_at b row p).row.pending
+    by_noted : (b : Bool) (p : Pending) → (p.kind ≡ Kind.Rmw → AreExact p.acks) → IsNoted (noted_at b row p).row.pending
     by_noted true p ok = completed_noted (eqb (tag_of row.stamp) (tag_of p.stamp)) (all_exact p.acks) row p
     by_noted false p ok = ok
 
-    by_stamp : (b exact : Bool) (p : Pending) → row.pending ≡ Some p → eqb (tag_of s) (tag_of p.stamp) ≡ b → eqb (tag_of top) (tag_of s) ≡ exact → (p.kind ≡ Rmw → AreExact p.acks) → (p.kind ≡ Rmw → tag_of s ≡ tag_of p.stamp → tag_of top ≡ tag_of s) → IsNoted (on_ack_at b exact me ms row p from).row.pending
+    by_stamp : (b exact : Bool) (p : Pending) → row.pending ≡ Some p → eqb (tag_of s) (tag_of p.stamp) ≡ b → eqb (tag_of top) (tag_of s) ≡ exact → (p.kind ≡ Kind.Rmw → AreExact p.acks) → (p.kind ≡ Kind.Rmw → tag_of s ≡ tag_of p.stamp → tag_of top ≡ tag_of s) → IsNoted (on_ack_at b exact me ms row p from).row.pending
     by_stamp true exact p is e x ok tops = by_noted (all_noted me ms (note_in from exact p.acks)) (with_acks p (note_in from exact p.acks)) (λ rmw.
         let same : exact ≡ true = sym x ∙ eq-eqb (tag_of top) (tag_of s) (tops rmw (eqb-true (tag_of s) (tag_of p.stamp) e)) in
         subst (λ (b : Bool). AreExact (note_in from b p.acks)) (sym same) (note_exact from p.acks (ok rmw)))
@@ -89,12 +89,12 @@ ack_noted me ms row from s top = by_pending row.pending refl
 pub val_noted : (row : Row) (s : Stamp) → IsNoted row.pending → IsNoted (on_val row s).pending
 val_noted row s ok = by_stamp (eqb (tag_of row.stamp) (tag_of s))
   where
-    by_state : (state : RowState) → IsNoted (validated state row).pending
-    by_state R.Valid = ok
-    by_state R.Invalid = ok
-    by_state R.Write = ok
-    by_state R.Replay = ok
-    by_state R.Trans = ok
+    by_state : (state : State) → IsNoted (validated state row).pending
+    by_state State.Valid = ok
+    by_state State.Invalid = ok
+    by_state State.Write = ok
+    by_state State.Replay = ok
+    by_state State.Trans = ok
 
     by_stamp : (b : Bool) → IsNoted (on_val_at b row).pending
     by_stamp true = by_state row.state
@@ -110,12 +110,12 @@ resend_noted row ok = by_pending row.pending
 pub replay_noted : (me : NodeId) (ms : List NodeId) (row : Row) → IsNoted row.pending → IsNoted (replay me ms row).row.pending
 replay_noted me ms row ok = by_state row.state
   where
-    by_state : (state : RowState) → IsNoted (replay_at state me ms row).row.pending
-    by_state R.Invalid = started_noted (all_noted me ms []) (record row { state = R.Replay }) (unnoted None row.stamp row.kind row.content) (λ rmw. tt)
-    by_state R.Valid = ok
-    by_state R.Write = ok
-    by_state R.Replay = ok
-    by_state R.Trans = ok
+    by_state : (state : State) → IsNoted (replay_at state me ms row).row.pending
+    by_state State.Invalid = started_noted (all_noted me ms []) (record row { state = State.Replay }) (unnoted None row.stamp row.kind row.content) (λ rmw. tt)
+    by_state State.Valid = ok
+    by_state State.Write = ok
+    by_state State.Replay = ok
+    by_state State.Trans = ok
 
 pub view_noted : (me : NodeId) (ms : List NodeId) (row : Row) → IsNoted (on_view me ms row).row.pending
 view_noted me ms row = by_pending row.pending refl
@@ -127,12 +127,12 @@ view_noted me ms row = by_pending row.pending refl
 pub copy_noted : (row : Row) (item : CopyItem) → IsNoted row.pending → IsNoted (on_copy row item).pending
 copy_noted row item ok = by_order (nat_cmp (tag_of row.stamp) (tag_of item.stamp))
   where
-    by_same : (b : Bool) (state : RowState) → IsNoted (copied_same b state row).pending
-    by_same true R.Invalid = ok
-    by_same true R.Valid = ok
-    by_same true R.Write = ok
-    by_same true R.Replay = ok
-    by_same true R.Trans = ok
+    by_same : (b : Bool) (state : State) → IsNoted (copied_same b state row).pending
+    by_same true State.Invalid = ok
+    by_same true State.Valid = ok
+    by_same true State.Write = ok
+    by_same true State.Replay = ok
+    by_same true State.Trans = ok
     by_same false state = ok
 
     by_order : (o : Ordering) → IsNoted (on_copy_at o row item).pending

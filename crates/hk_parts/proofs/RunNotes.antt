@@ -7,9 +7,9 @@ use Rattle.hk_base.specs.declared.stamp.NodeId.{NodeId}
 use Rattle.hk_base.specs.declared.stamp.Stamp.{Stamp}
 use Rattle.hk_base.specs.Stamp.{tag_of}
 use Rattle.hk_key.specs.declared.acks.Ack.{Ack}
-use Rattle.hk_key.specs.declared.row.Pending.{Pending as Waits}
-use Rattle.hk_register.specs.Machine.{In, Note, Pending}
-use Rattle.hk_register.specs.Machine.Letter.{Ack as AckL}
+use Rattle.hk_key.specs.declared.row.Pending.{Pending}
+use Rattle.hk_register.specs.Machine.{In, Note, WaitingUpdate}
+use Rattle.hk_register.specs.Machine.{Message}
 use Rattle.hk_register.specs.Effects.{Has}
 use Rattle.hk_register.proofs.Helps.{pending_of}
 use Rattle.hk_node.specs.Node.{NodeState}
@@ -46,13 +46,13 @@ AreNoted key w = (n : ℕ) (y : NodeState) → node_at n w.processes ≡ Some y 
 module _ (runs : RunsKeepParts) (key : List ℕ) (h : Header) (header : IsHeader h) where
   -- a node's pending update is one that was begun, so an ACK of it tells its top
   tops : (past : List Event) (t : Trace) → Follows key (start_trace h) past t → (n : ℕ) (x : NodeState) → node_at n t.world.processes ≡ Some x →
-      (m e : ℕ) (s top : Stamp) → In (letters_of key t.world.letters) (AckL m e (tag_of s) (tag_of top)) → TopIs (row_at key x.rows).pending s top
+      (m e : ℕ) (s top : Stamp) → In (letters_of key t.world.letters) (Message.Ack m e (tag_of s) (tag_of top)) → TopIs (row_at key x.rows).pending s top
   tops past t f n x at m e s top letter = by_pending (row_at key x.rows).pending refl
     where
       ok : IsKept key t
       ok = runs h header key past t f
 
-      by_pending : (o : Option Waits) → (row_at key x.rows).pending ≡ o → TopIs o s top
+      by_pending : (o : Option Pending) → (row_at key x.rows).pending ≡ o → TopIs o s top
       by_pending None is = tt
       by_pending (Some p) is = λ rmw same.
           let row = row_at key x.rows in
@@ -97,7 +97,7 @@ module _ (runs : RunsKeepParts) (key : List ℕ) (h : Header) (header : IsHeader
   notes_exact events last f = always key h (λ (past : List Event) (t : Trace). AreNoted key t.world) goes_on
       (λ n y at. subst (λ (rs : Rows). IsNoted (row_at key rs).pending) (sym (founders (counted 0 h.nodes) n y at)) tt) events last f
 
-  pub pending_noted : (events : List Event) (last : Trace) → Follows key (start_trace h) events last → (n : ℕ) (p : Pending) → Has ((project key last).node n).phase p → p.kind ≡ Rmw → (k : Note) → In p.notes k → k.exact ≡ true
+  pub pending_noted : (events : List Event) (last : Trace) → Follows key (start_trace h) events last → (n : ℕ) (p : WaitingUpdate) → Has ((project key last).node n).phase p → p.kind ≡ Rmw → (k : Note) → In p.notes k → k.exact ≡ true
   pending_noted events last f n p has rmw k i = by_node (node_at n last.world.processes) refl has
     where
       by_node : (o : Option NodeState) → node_at n last.world.processes ≡ o → Has (key_node key o).phase p → k.exact ≡ true
@@ -106,9 +106,9 @@ module _ (runs : RunsKeepParts) (key : List ℕ) (h : Header) (header : IsHeader
           let row = row_at key x.rows in
           let w = pending_from row.state row.pending p has' in
           let noted = of_pending row.pending (notes_exact events last f n x at) w.0 w.1 in
-          let inside : In (map note_of w.0.acks) k = subst (λ (q : Pending). In q.notes k) (sym w.2) i in
-          let a = note_from (λ (a : Ack). a.exact ≡ true) w.0.acks k (noted (ap (λ (q : Pending). q.kind) w.2 ∙ rmw)) inside in
+          let inside : In (map note_of w.0.acks) k = subst (λ (q : WaitingUpdate). In q.notes k) (sym w.2) i in
+          let a = note_from (λ (a : Ack). a.exact ≡ true) w.0.acks k (noted (ap (λ (q : WaitingUpdate). q.kind) w.2 ∙ rmw)) inside in
           ap (λ (z : Note). z.exact) a.2 ∙ a.1
         where
-          of_pending : (o : Option Waits) → IsNoted o → (q : Waits) → o ≡ Some q → IsNoted (Some q)
+          of_pending : (o : Option Pending) → IsNoted o → (q : Pending) → o ≡ Some q → IsNoted (Some q)
           of_pending o ok q e = rw e at ok

@@ -1,7 +1,7 @@
 -- In every run each letter was sent by an event of the run, and says what was so.
 use Rattle.std.proofs.Common.{◌≡◌, ◌⊎◌, ℕ, List, [], ◌∷◌, ◌++◌, ◌∙◌, sym, refl, ap, subst, inl, inr, ⊎_elim, Some, Ok}
 use Rattle.hk_base.specs.declared.stamp.NodeId.{NodeId}
-use Rattle.hk_base.specs.declared.letter.Actor.TheVariants as A
+use Rattle.hk_base.specs.declared.letter.Actor.TheVariants as Actor
 use Rattle.hk_base.specs.declared.letter.Letter.{Letter}
 use Rattle.hk_register.specs.Machine.{In}
 use Rattle.hk_register.proofs.Grow.{in_either}
@@ -82,7 +82,7 @@ module _ (runs : RunsKeepParts) (key : List ℕ) (h : Header) (header : IsHeader
             at = record { past = past; event = event; later = []; split = refl; was = t; follows = f; accepted = a; accepts = e };
             among = subst (λ (b : Accepted). In b.shown.letters l) (sym c.is) among;
             id = c.id;
-            from = says.from ∙ ap (λ (i : NodeId). A.Node i) own;
+            from = says.from ∙ ap (λ (i : NodeId). Actor.Node i) own;
             node = c.s.node;
             there = there;
             epoch = says.epoch;

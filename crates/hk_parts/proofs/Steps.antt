@@ -8,10 +8,10 @@ use Rattle.hk_base.specs.declared.stamp.NodeId.{NodeId}
 use Rattle.hk_base.specs.declared.call.CallNo.{CallNo}
 use Rattle.hk_base.specs.declared.call.Op.{Op}
 use Rattle.hk_base.specs.declared.call.Reply.{Reply}
-use Rattle.hk_base.specs.declared.call.State.{State as RowState}
-use Rattle.hk_base.specs.declared.call.State.TheVariants as R
+use Rattle.hk_base.specs.declared.call.State.{State}
+use Rattle.hk_base.specs.declared.call.State.TheVariants as State
 use Rattle.hk_base.specs.declared.letter.Actor.{Actor}
-use Rattle.hk_base.specs.declared.letter.Actor.TheVariants as A
+use Rattle.hk_base.specs.declared.letter.Actor.TheVariants as Actor
 use Rattle.hk_base.specs.declared.letter.Body.{Body}
 use Rattle.hk_base.specs.declared.letter.Body.TheVariants.{Inv, Ack, Val, CopyAsk, CopyGive, LeaseAsk, LeaseGive, Prepare, Promise, Accept, Accepted, Chosen, Activate}
 use Rattle.hk_base.specs.declared.letter.Letter.{Letter}
@@ -26,7 +26,7 @@ use Rattle.hk_key.specs.Notes.{all_noted}
 use Rattle.hk_key.specs.Table.{Done, begin, on_ack, on_val, resend, replay, still, unnoted, on_inv}
 use Rattle.hk_key.proofs.Rising.{inv_never_lowers}
 use Rattle.hk_node.proofs.Acts.{inv_untouched, untouched_stays}
-use Rattle.hk_register.specs.Machine.{In, Letter as KeyLetter}
+use Rattle.hk_register.specs.Machine.{In, Message}
 use Rattle.hk_register.proofs.Grow.{in_either}
 use Rattle.hk_node.specs.Calls.{kind_of, next_stamp, register_in, at_limit, at_turn, at_state, lease_end, at_lease, called}
 use Rattle.hk_node.specs.Copies.{batch_behind, asks_copy, gives_copy, merged, is_next}
@@ -48,7 +48,7 @@ use Rattle.hk_parts.proofs.Cases.{Steps}
 use Rattle.hk_parts.proofs.LettersTell.{Says, AreSaid, Aims, letters_said, sent_said, to_one, started_aims, inv_said, ack_aims, resend_aims, replay_aims, view_aims, batch_is}
 
 -- what tells of a key is a letter of replicas
-pub of_replicas : (key : List ℕ) (l : Letter) (body : Body) (x : KeyLetter) → In (letter_of key l body) x → IsOfReplicas body
+pub of_replicas : (key : List ℕ) (l : Letter) (body : Body) (x : Message) → In (letter_of key l body) x → IsOfReplicas body
 of_replicas key l (Inv k s kind content) x h = tt
 of_replicas key l (Ack k s top) x h = tt
 of_replicas key l (Val k s) x h = tt
@@ -89,18 +89,18 @@ module _ (x : NodeState) (ok : IsNode x) where
           let a = act op (register_in (row_at k x.rows)) (tag_of s) in
           let reply : Reply = record { call = call; answer = a.answer } in
           row_said k (begin x.id (members_of x) reply s (kind_of op) a.register.content)
-          (started_aims (all_noted x.id (members_of x) []) (record { state = R.Write; stamp = s; kind = kind_of op; content = a.register.content; kept_val = false; pending = None }) (unnoted (Some reply) s (kind_of op) a.register.content))
+          (started_aims (all_noted x.id (members_of x) []) (record { state = State.Write; stamp = s; kind = kind_of op; content = a.register.content; kept_val = false; pending = None }) (unnoted (Some reply) s (kind_of op) a.register.content))
 
       by_turn : (b : Bool) → AreSaid (at_turn b x call k op (row_at k x.rows))
       by_turn true = by_limit (next_stamp (kind_of op) (row_at k x.rows).stamp x.id)
       by_turn false = λ l h. absurd h
 
-      by_state : (s : RowState) → AreSaid (at_state s x call k op (row_at k x.rows))
-      by_state R.Valid = by_turn (act op (register_in (row_at k x.rows)) 0).changed
-      by_state R.Invalid = λ l h. absurd h
-      by_state R.Write = λ l h. absurd h
-      by_state R.Replay = λ l h. absurd h
-      by_state R.Trans = λ l h. absurd h
+      by_state : (s : State) → AreSaid (at_state s x call k op (row_at k x.rows))
+      by_state State.Valid = by_turn (act op (register_in (row_at k x.rows)) 0).changed
+      by_state State.Invalid = λ l h. absurd h
+      by_state State.Write = λ l h. absurd h
+      by_state State.Replay = λ l h. absurd h
+      by_state State.Trans = λ l h. absurd h
 
       by_lease : (b : Bool) → AreSaid (at_lease b x call k op)
       by_lease true = λ l h. absurd h
@@ -216,15 +216,15 @@ module _ (x : NodeState) (ok : IsNode x) where
       by_heard m false = idle_said
 
       by_from : (a : Actor) → AreSaid (receives_from a x l)
-      by_from (A.Manager m) = by_heard m (is_addressed x l.to && ltb m x.managers)
-      by_from (A.Node from) = by_test from (is_addressed x l.to && (eqb l.epoch (epoch_of x) && is_other x from)) refl
+      by_from (Actor.Manager m) = by_heard m (is_addressed x l.to && ltb m x.managers)
+      by_from (Actor.Node from) = by_test from (is_addressed x l.to && (eqb l.epoch (epoch_of x) && is_other x from)) refl
 
   -- what is asked of a manager is nothing of replicas
   asks_lease_said : (manager : ℕ) (l : Letter) → In (asks_lease x manager).letters l → IsOfReplicas l.body → Says (asks_lease x manager).node l
   asks_lease_said manager = by_there (ltb manager x.managers)
     where
       ask : Letter
-      ask = record { epoch = epoch_of x; from = A.Node x.id; to = A.Manager manager; body = LeaseAsk x.clock }
+      ask = record { epoch = epoch_of x; from = Actor.Node x.id; to = Actor.Manager manager; body = LeaseAsk x.clock }
 
       asking : Bool → Stepped
       asking b = cond b (record { node = x; letters = ask ∷ []; told = []; installed = None }) (idle x)

@@ -2,10 +2,10 @@
 use Rattle.std.proofs.Common.{◌≡◌, ℕ, List, sym, subst, inl, inr, ⊎_elim, None}
 use Rattle.hk_base.specs.declared.stamp.Stamp.{Stamp}
 use Rattle.hk_base.specs.declared.letter.Body.{Body}
-use Rattle.hk_base.specs.declared.letter.Body.TheVariants.{Ack as AckBody}
-use Rattle.hk_base.specs.declared.letter.Letter.{Letter as Wire}
-use Rattle.hk_register.specs.Machine.{In, Letter}
-use Rattle.hk_register.specs.Machine.Letter.{Inv, Ack, Val, Give}
+use Rattle.hk_base.specs.declared.letter.Body.TheVariants as Body
+use Rattle.hk_base.specs.declared.letter.Letter.{Letter}
+use Rattle.hk_register.specs.Machine.{In, Message}
+use Rattle.hk_register.specs.Machine.Message.{Inv, Ack, Val, Give}
 use Rattle.hk_register.specs.Facts.{Covers}
 use Rattle.hk_register.specs.Parts.{Known, LetterOk}
 use Rattle.hk_register.proofs.Helps.{pending_of}
@@ -35,19 +35,19 @@ module _ (runs : RunsKeepParts) (key : List ℕ) (run : Run) (header : IsHeader 
   acks : AcksTold (project key t)
   acks = acks_told runs key run.header header run.events t ends
 
-  letter_begun : (l : Letter) → In (project key t).letters l → LetterOk (members_at t) (project key t) l → LetterBegun key t l
+  letter_begun : (l : Message) → In (project key t).letters l → LetterOk (members_at t) (project key t) l → LetterBegun key t l
   letter_begun (Inv m e s kind content) h o = inr (known_begun key t kept_here s kind content o.1)
   letter_begun (Ack m e s top) h o = (covers_begun key t kept_here m e s o.0, exact_begun key t kept_here m e top (acks m e s top h).exact)
   letter_begun (Val m e s) h o = settled_begun key t kept_here s o
   letter_begun (Give m e s kind content valid) h o = ⊎_elim (λ (z : (s ≡ 0) × (content ≡ None)). inl z.0) (λ (c : Covers (project key t) m e s × Known (project key t) s kind content). inr (known_begun key t kept_here s kind content c.1)) o.0
 
-  letter_tells : (l : Letter) → In (project key t).letters l → LetterOk (members_at t) (project key t) l → LetterTells key t l
+  letter_tells : (l : Message) → In (project key t).letters l → LetterOk (members_at t) (project key t) l → LetterTells key t l
   letter_tells (Inv m e s kind content) h o = o.0
   letter_tells (Ack m e s top) h o = (o.0, (acks m e s top h).exact)
   letter_tells (Val m e s) h o = o
   letter_tells (Give m e s kind content valid) h o = tt
 
-  ack_sent : (l : Wire) (s top : Stamp) → l.body ≡ AckBody key s top → Told key run l → AckSent key run l top
+  ack_sent : (l : Letter) (s top : Stamp) → l.body ≡ Body.Ack key s top → Told key run l → AckSent key run l top
   ack_sent l s top is o = record { sent = o.sent; row = subst (λ (b : Body). BodyTells o.sent.node b) is o.says.tells }
 
   pub update_part : UpdatePart key run t

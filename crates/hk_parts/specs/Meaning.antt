@@ -1,7 +1,7 @@
 -- What it means to cover a stamp in an epoch and to be exact for it, in moments of the run: the marks of a trace say just that.
 use Rattle.std.specs.Prelude.{◌≡◌, ◌⊎◌, ◌↔◌, ℕ, List, ◌<◌, ◌≤◌, Some}
-use Rattle.hk_register.specs.Machine.{In, Pending}
-use Rattle.hk_register.specs.Machine.Letter.{Ack}
+use Rattle.hk_register.specs.Machine.{In, WaitingUpdate}
+use Rattle.hk_register.specs.Machine.Message.{Ack}
 use Rattle.hk_register.specs.Effects.{Has}
 use Rattle.hk_world.specs.Steps.{acting_of}
 use Rattle.hk_effects.specs.Projection.{Trace, project, traced}
@@ -23,7 +23,7 @@ module _ (key : List ℕ) (run : Run) (n e s : ℕ) where
     pub when : Trace
     pub moment : Moment key run when
     pub epoch : ((project key when).node n).epoch ≡ e
-    pub pending : Pending
+    pub pending : WaitingUpdate
     pub has : Has ((project key when).node n).phase pending
     pub stamp : pending.stamp ≡ s
 
@@ -31,7 +31,7 @@ module _ (key : List ℕ) (run : Run) (n e s : ℕ) where
   pub record InstalledWith : Type 0 where
     pub at : EventOf key run
     pub acts : acting_of at.accepted ≡ Some (record { 0 = n })
-    pub pending : Pending
+    pub pending : WaitingUpdate
     pub has : Has ((project key at.was).node n).phase pending
     pub stamp : pending.stamp ≡ s
     pub before : ((project key at.was).node n).epoch < e

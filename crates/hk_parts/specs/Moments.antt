@@ -1,7 +1,7 @@
 -- Runs of a world, and their moments, seen from a key.
 use Rattle.std.specs.Prelude.{◌≡◌, ℕ, List, [], ◌∷◌, ◌++◌, Ok, Some}
 use Rattle.hk_base.specs.declared.stamp.NodeId.{NodeId}
-use Rattle.hk_base.specs.declared.letter.Actor.TheVariants as A
+use Rattle.hk_base.specs.declared.letter.Actor.TheVariants as Actor
 use Rattle.hk_base.specs.declared.letter.Letter.{Letter}
 use Rattle.hk_register.specs.Machine.{In, Update}
 use Rattle.hk_register.specs.Machine.Phase.{Valid}
@@ -49,7 +49,7 @@ pub record Sent (key : List ℕ) (run : Run) (l : Letter) : Type 0 where
   pub at : EventOf key run
   pub among : In at.accepted.shown.letters l
   pub id : NodeId
-  pub from : l.from ≡ A.Node id
+  pub from : l.from ≡ Actor.Node id
   pub node : NodeState
   pub there : node_at id.0 at.accepted.world.processes ≡ Some node
   pub epoch : l.epoch ≡ epoch_of node

@@ -2,19 +2,19 @@
 use Rattle.std.specs.Prelude.{◌≡◌, ◌⊎◌, ◌≢◌, ℕ, true, List, ◌<◌, ◌≤◌, Option, Some, None, ⊤}
 use Rattle.std.specs.Option.{IsSome}
 use Rattle.hk_base.specs.declared.stamp.Kind.{Kind}
-use Rattle.hk_base.specs.declared.stamp.Kind.TheVariants.{Write as Plain}
+use Rattle.hk_base.specs.declared.stamp.Kind.TheVariants as Kind
 use Rattle.hk_base.specs.declared.stamp.Stamp.{Stamp}
 use Rattle.hk_base.specs.declared.call.Answer.{Answer}
 use Rattle.hk_base.specs.declared.call.Content.{Content}
-use Rattle.hk_base.specs.declared.call.State.{State as RowState}
-use Rattle.hk_base.specs.declared.call.State.TheVariants as R
-use Rattle.hk_base.specs.declared.letter.Body.TheVariants.{Ack as AckBody}
-use Rattle.hk_base.specs.declared.letter.Letter.{Letter as Wire}
+use Rattle.hk_base.specs.declared.call.State.{State}
+use Rattle.hk_base.specs.declared.call.State.TheVariants as State
+use Rattle.hk_base.specs.declared.letter.Body.TheVariants as Body
+use Rattle.hk_base.specs.declared.letter.Letter.{Letter}
 use Rattle.hk_base.specs.Stamp.{tag_of}
-use Rattle.hk_key.specs.declared.row.Pending.{Pending as Waits}
-use Rattle.hk_register.specs.Machine.{In, Note, Pending, Letter, Update}
+use Rattle.hk_key.specs.declared.row.Pending.{Pending}
+use Rattle.hk_register.specs.Machine.{In, Note, WaitingUpdate, Message, Update}
 use Rattle.hk_register.specs.Machine.Phase.{Valid}
-use Rattle.hk_register.specs.Machine.Letter.{Inv, Ack, Val, Give}
+use Rattle.hk_register.specs.Machine.Message.{Inv, Ack, Val, Give}
 use Rattle.hk_register.specs.Machine.Item.{Answered}
 use Rattle.hk_register.specs.Effects.{Has, next_stamp}
 use Rattle.hk_node.specs.Node.{NodeState}
@@ -24,15 +24,15 @@ use Rattle.hk_parts.specs.Moments.{Run, Moment, Sent, BegunAt}
 use Rattle.hk_parts.specs.Facts.{members_at, HasCovered, WasExact, IsComplete, IsSettled, IsSettledThrough}
 
 -- The states with a pending update, how its stamp stands to the row's, and whether it is that of a call.
-abbrev pub HasShape : RowState → Option Waits → Stamp → Type 0
-HasShape R.Valid p s = p ≡ None
-HasShape R.Invalid p s = p ≡ None
-HasShape R.Write None s = ⊥
-HasShape R.Write (Some p) s = (tag_of p.stamp ≡ tag_of s) × IsSome p.reply
-HasShape R.Replay None s = ⊥
-HasShape R.Replay (Some p) s = (tag_of p.stamp ≡ tag_of s) × (p.reply ≡ None)
-HasShape R.Trans None s = ⊥
-HasShape R.Trans (Some p) s = (tag_of p.stamp < tag_of s) × (p.kind ≡ Plain) × IsSome p.reply
+abbrev pub HasShape : State → Option Pending → Stamp → Type 0
+HasShape State.Valid p s = p ≡ None
+HasShape State.Invalid p s = p ≡ None
+HasShape State.Write None s = ⊥
+HasShape State.Write (Some p) s = (tag_of p.stamp ≡ tag_of s) × IsSome p.reply
+HasShape State.Replay None s = ⊥
+HasShape State.Replay (Some p) s = (tag_of p.stamp ≡ tag_of s) × (p.reply ≡ None)
+HasShape State.Trans None s = ⊥
+HasShape State.Trans (Some p) s = (tag_of p.stamp < tag_of s) × (p.kind ≡ Kind.Write) × IsSome p.reply
 
 module _ (key : List ℕ) (t : Trace) where
   -- Just one update that was begun has the stamp. It is above its base by the version step of its kind, and carries its
@@ -61,7 +61,7 @@ module _ (key : List ℕ) (t : Trace) where
   FromUpdateAs s kind content = (s ≡ 0) ⊎ IsBegunAs s kind content
 
   -- the stamps of a letter, or of a copied row
-  abbrev pub LetterBegun : Letter → Type 0
+  abbrev pub LetterBegun : Message → Type 0
   LetterBegun (Inv m e s kind content) = FromUpdateAs s kind content
   LetterBegun (Ack m e s top) = FromUpdate s × FromUpdate top
   LetterBegun (Val m e s) = FromUpdate s
@@ -69,12 +69,12 @@ module _ (key : List ℕ) (t : Trace) where
 
   pub record StampsBegun : Type 0 where
     pub row : (n : ℕ) → FromUpdateAs ((project key t).node n).stamp ((project key t).node n).kind ((project key t).node n).content
-    pub pending : (n : ℕ) (p : Pending) → Has ((project key t).node n).phase p → FromUpdateAs p.stamp p.kind p.content
-    pub letter : (l : Letter) → In (project key t).letters l → LetterBegun l
+    pub pending : (n : ℕ) (p : WaitingUpdate) → Has ((project key t).node n).phase p → FromUpdateAs p.stamp p.kind p.content
+    pub letter : (l : Message) → In (project key t).letters l → LetterBegun l
 
   -- An INV of epoch e from m tells a stamp that m covered in e. An ACK of s with top t tells that m covered s in e, and that
   -- its row had t: so with t equal to s it was exact for s. A VAL tells a settled stamp.
-  abbrev pub LetterTells : Letter → Type 0
+  abbrev pub LetterTells : Message → Type 0
   LetterTells (Inv m e s kind content) = HasCovered key t m e s
   LetterTells (Ack m e s top) = HasCovered key t m e s × WasExact key t m e top
   LetterTells (Val m e s) = IsSettled key t s
@@ -89,7 +89,7 @@ module _ (key : List ℕ) (t : Trace) where
     pub exact : k.exact ≡ true → WasExact key t k.who e s
 
 -- the ACK was sent when its sender's row had the top
-pub record AckSent (key : List ℕ) (run : Run) (l : Wire) (top : Stamp) : Type 0 where
+pub record AckSent (key : List ℕ) (run : Run) (l : Letter) (top : Stamp) : Type 0 where
   pub sent : Sent key run l
   pub row : tag_of top ≡ tag_of (row_at key sent.node.rows).stamp
 
@@ -106,10 +106,10 @@ pub record UpdatePart (key : List ℕ) (run : Run) (t : Trace) : Type 0 where
   -- row. It is of a call in Write and Trans, and of none in Replay.
   pub shape : (n : ℕ) (x : NodeState) → node_at n t.world.processes ≡ Some x → HasShape (row_at key x.rows).state (row_at key x.rows).pending (row_at key x.rows).stamp
   -- 4. Letters tell what was so. An ACK's top was the row's stamp when it was sent.
-  pub letters_tell : (l : Letter) → In (project key t).letters l → LetterTells key t l
-  pub acks_tell : (l : Wire) → In t.world.letters l → (s top : Stamp) → l.body ≡ AckBody key s top → AckSent key run l top
+  pub letters_tell : (l : Message) → In (project key t).letters l → LetterTells key t l
+  pub acks_tell : (l : Letter) → In t.world.letters l → (s top : Stamp) → l.body ≡ Body.Ack key s top → AckSent key run l top
   -- 5. Notes tell what was so.
-  pub notes_tell : (n : ℕ) (p : Pending) → Has ((project key t).node n).phase p → (k : Note) → In p.notes k → NoteTells key t n ((project key t).node n).epoch p.stamp k
+  pub notes_tell : (n : ℕ) (p : WaitingUpdate) → Has ((project key t).node n).phase p → (k : Note) → In p.notes k → NoteTells key t n ((project key t).node n).epoch p.stamp k
   -- 6. A Valid row's stamp is 0.0 or settled. Where a VAL was kept, the row's stamp is settled.
   pub valid_is_settled : (n : ℕ) → ((project key t).node n).phase ≡ Valid → (((project key t).node n).stamp ≡ 0) ⊎ IsSettled key t ((project key t).node n).stamp
   pub kept_is_settled : (n : ℕ) → ((project key t).node n).kept_val ≡ true → IsSettled key t ((project key t).node n).stamp

@@ -1,16 +1,16 @@
 -- The invariant's part on epochs, leases and copies.
 use Rattle.std.specs.Prelude.{◌≡◌, ◌⊎◌, ℕ, Bool, true, false, List, [], ◌∷◌, ◌+◌, ◌<◌, ◌≤◌, Option, Some, ⊤}
 use Rattle.hk_base.specs.declared.call.Content.{Content}
-use Rattle.hk_base.specs.declared.letter.Actor.TheVariants as A
+use Rattle.hk_base.specs.declared.letter.Actor.TheVariants as Actor
 use Rattle.hk_base.specs.declared.letter.Body.{Body}
 use Rattle.hk_base.specs.declared.letter.Body.TheVariants.{Inv, Ack, Val, CopyAsk, CopyGive}
 use Rattle.hk_base.specs.declared.letter.CopyItem.{CopyItem}
-use Rattle.hk_base.specs.declared.letter.Letter.{Letter as Wire}
+use Rattle.hk_base.specs.declared.letter.Letter.{Letter}
 use Rattle.hk_base.specs.declared.stamp.Kind.{Kind}
 use Rattle.hk_base.specs.declared.view.View.{View}
 use Rattle.hk_base.specs.View.{member_numbers}
 use Rattle.hk_register.specs.Machine.{In}
-use Rattle.hk_register.specs.Machine.Letter.{Give}
+use Rattle.hk_register.specs.Machine.Message.{Give}
 use Rattle.hk_node.specs.Node.{NodeState, epoch_of}
 use Rattle.hk_node.specs.Rows.{row_at}
 use Rattle.hk_node.specs.Copies.{copy_of}
@@ -37,12 +37,12 @@ IsOfReplicas (CopyGive after done items) = ⊤
 IsOfReplicas body = ⊥
 
 -- the letter's sender was a member of the view of its epoch, and in that epoch when it sent it
-pub record SentInEpoch (key : List ℕ) (run : Run) (t : Trace) (l : Wire) : Type 0 where
+pub record SentInEpoch (key : List ℕ) (run : Run) (t : Trace) (l : Letter) : Type 0 where
   pub sent : Sent key run l
   pub member : In (members_at t l.epoch) sent.id.0
 
 -- The batch's giver was ready when it sent it, and each item was its row, that is Valid where the item says so.
-pub record BatchTells (key : List ℕ) (run : Run) (l : Wire) (items : List CopyItem) : Type 0 where
+pub record BatchTells (key : List ℕ) (run : Run) (l : Letter) (items : List CopyItem) : Type 0 where
   pub sent : Sent key run l
   pub ready : sent.node.ready ≡ true
   pub row : (i : CopyItem) → In items i → i ≡ copy_of (i.key, row_at i.key sent.node.rows)
@@ -53,10 +53,10 @@ pub record TookFrom (key : List ℕ) (run : Run) (n g : ℕ) : Type 0 where
   pub at : EventOf key run
   pub number : ℕ
   pub event : at.event ≡ Take number
-  pub letter : Wire
+  pub letter : Letter
   pub taken : numbered number at.was.world.letters ≡ Some letter
-  pub from : letter.from ≡ A.Node (record { 0 = g })
-  pub to : letter.to ≡ A.Node (record { 0 = n })
+  pub from : letter.from ≡ Actor.Node (record { 0 = g })
+  pub to : letter.to ≡ Actor.Node (record { 0 = n })
   pub node : NodeState
   pub there : node_at n at.was.world.processes ≡ Some node
   pub epoch : letter.epoch ≡ epoch_of node
@@ -93,7 +93,7 @@ pub record ViewPart (key : List ℕ) (run : Run) (t : Trace) : Type 0 where
   pub own_view : (n : ℕ) (x : NodeState) → node_at n t.world.processes ≡ Some x → (v : View) → x.view ≡ Some v → HasView t n x v
   pub epochs_rise : (past : Trace) → Moment key run past → (n : ℕ) → ((project key past).node n).epoch ≤ ((project key t).node n).epoch
   -- 2. Each INV, ACK, VAL, CopyAsk and CopyGive was sent by a member of the view of its epoch while it was in that epoch.
-  pub senders : (l : Wire) → In t.world.letters l → IsOfReplicas l.body → SentInEpoch key run t l
+  pub senders : (l : Letter) → In t.world.letters l → IsOfReplicas l.body → SentInEpoch key run t l
   -- 3. For each view of an epoch e and each ready node in a later epoch: the node's row is not below what some member of view e, which
   -- has gone on, covered up to e. This is said of every ready node, whether it joined after e or before.
   pub ready_not_below : (n : ℕ) → ((project key t).node n).ready ≡ true → (e : ℕ) → 1 ≤ e → e < ((project key t).node n).epoch → IsNotBelow key run t e n ((project key t).node n).stamp
@@ -101,6 +101,6 @@ pub record ViewPart (key : List ℕ) (run : Run) (t : Trace) : Type 0 where
   pub copied_not_below : (n : ℕ) → ((project key t).node n).copied ≡ true → (e : ℕ) → 1 ≤ e → e < ((project key t).node n).epoch → IsNotBelow key run t e n ((project key t).node n).stamp
   pub given_not_below : (m f s : ℕ) (kind : Kind) (content : Option Content) (valid : Bool) → In (project key t).letters (Give m f s kind content valid) → (e : ℕ) → 1 ≤ e → e < f → IsNotBelow key run t e m s
   -- 5. Each item of a batch was its giver's row in that epoch, the giver being ready; an item marked valid was Valid there.
-  pub batches_tell : (l : Wire) (after : Option (List ℕ)) (done : Bool) (items : List CopyItem) → In t.world.letters l → l.body ≡ CopyGive after done items → BatchTells key run l items
+  pub batches_tell : (l : Letter) (after : Option (List ℕ)) (done : Bool) (items : List CopyItem) → In t.world.letters l → l.body ≡ CopyGive after done items → BatchTells key run l items
   -- 6. Of each view that any node has installed so far: a live node that it leaves out, and that was a member before, has no lease.
   pub guarded : (past : Trace) → Moment key run past → (n : ℕ) → 1 ≤ ((project key past).node n).epoch → Ended t.world ((project key past).node n).epoch

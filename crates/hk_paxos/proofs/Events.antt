@@ -9,9 +9,9 @@ use Rattle.hk_paxos.specs.declared.acceptor.Promise.{Promise}
 use Rattle.hk_paxos.specs.declared.acceptor.Acceptor.{Acceptor}
 use Rattle.hk_paxos.specs.declared.proposer.Proposer.{Proposer}
 use Rattle.hk_paxos.specs.Paxos.{stays, is_refused, is_higher, is_noted, acceptor_on_prepare, acceptor_on_accept, proposer_new, proposer_on_promise, proposer_on_accepted, has_promises, has_acceptances, value_of, counts_promise, counts_acceptance, with_promise, with_acceptance}
-use Rattle.hk_paxos.specs.Run.{Letter, State, Event, In, put, with_acceptor, with_proposer, on_promise, on_accepted, next, MayHappen, IsRun, last_state, IsQuorum, start, Agrees}
-use Rattle.hk_paxos.specs.Run.Letter.{PrepareLetter, PromiseLetter, AcceptLetter, AcceptedLetter, ChosenLetter}
-use Rattle.hk_paxos.specs.Run.Event.{Propose, Deliver, Stop}
+use Rattle.hk_paxos.specs.Run.{PaxosLetter, PaxosState, PaxosEvent, In, put, with_acceptor, with_proposer, on_promise, on_accepted, next, MayHappen, IsPaxosRun, last_state, IsQuorum, paxos_start, Agrees}
+use Rattle.hk_paxos.specs.Run.PaxosLetter.{PrepareLetter, PromiseLetter, AcceptLetter, AcceptedLetter, ChosenLetter}
+use Rattle.hk_paxos.specs.Run.PaxosEvent.{Propose, Deliver, Stop}
 use Rattle.hk_paxos.proofs.Order.{level, Le, Lt, le_same, le_then, same_ballot, not_refused, higher_told, higher_known}
 use Rattle.hk_paxos.proofs.Quorums.{in_right, in_either, none_twice, distinct_with}
 use Rattle.hk_paxos.proofs.Parts.{Safe, PromiseOk, AcceptOk, AcceptedOk, LetterOk, AcceptorOk, ProposerOk, promise_of, voted_of, Parts, Growth, keep, acceptor_grows, proposer_grows, safe_grows, offer_safe, agree}
@@ -27,14 +27,14 @@ same_some : {X : Type 0} (x y : X) → Some x ≡ Some y → x ≡ y
 same_some x y e = cc
 
 module _ (managers : ℕ) where
-  abbrev acceptor_at : State → ℕ → Acceptor → List Letter → State
+  abbrev acceptor_at : PaxosState → ℕ → Acceptor → List PaxosLetter → PaxosState
   acceptor_at st m x ls = record st { acceptor = put m x st.acceptor; sent = ls ++ st.sent }
 
-  acceptor_step : (st : State) → Parts managers st → (m : ℕ) (x : Acceptor) (ls : List Letter) →
+  acceptor_step : (st : PaxosState) → Parts managers st → (m : ℕ) (x : Acceptor) (ls : List PaxosLetter) →
       Le (st.acceptor m).promised x.promised → Le (level (st.acceptor m).accepted) (level x.accepted) →
       ((a : ℕ) (v : Voted) → In ls (AcceptedLetter a v) → (a ≡ m) × Le (st.acceptor m).promised (Some v.ballot)) →
       ((b : Ballot) (v : View) → In ls (AcceptLetter b v) → ⊥) →
-      (Growth managers st (acceptor_at st m x ls) → (l : Letter) → In ls l → LetterOk managers (acceptor_at st m x ls) l) →
+      (Growth managers st (acceptor_at st m x ls) → (l : PaxosLetter) → In ls l → LetterOk managers (acceptor_at st m x ls) l) →
       (Growth managers st (acceptor_at st m x ls) → AcceptorOk managers (acceptor_at st m x ls) x) → Parts managers (acceptor_at st m x ls)
   acceptor_step st parts m x ls up up_accepted fresh none news ok =
       keep managers st new growth parts
@@ -42,7 +42,7 @@ module _ (managers : ℕ) where
       (λ n. ⊎_elim (λ (e : (n ≡ m) × (put m x st.acceptor n ≡ x)). inr (subst (λ (y : Acceptor). AcceptorOk managers new y) (sym e.1) (ok growth))) (λ (d : (n ≢ m) × (put m x st.acceptor n ≡ st.acceptor n)). inl d.1) (put_cases m x st.acceptor n))
       (λ j p is. inl (is, λ w h. old_accept p.ballot w h))
     where
-      new : State
+      new : PaxosState
       new = acceptor_at st m x ls
 
       old_accept : (b : Ballot) (w : View) → In (ls ++ st.sent) (AcceptLetter b w) → In st.sent (AcceptLetter b w)
@@ -57,13 +57,13 @@ module _ (managers : ℕ) where
         accepts = λ b v h. inl (old_accept b v h);
       }
 
-  abbrev proposer_at : State → ℕ → Proposer → List Letter → State
+  abbrev proposer_at : PaxosState → ℕ → Proposer → List PaxosLetter → PaxosState
   proposer_at st m p ls = record st { proposer = put m (Some p) st.proposer; sent = ls ++ st.sent }
 
-  proposer_step : (st : State) → Parts managers st → (m : ℕ) (p : Proposer) (ls : List Letter) →
+  proposer_step : (st : PaxosState) → Parts managers st → (m : ℕ) (p : Proposer) (ls : List PaxosLetter) →
       ((a : ℕ) (v : Voted) → In ls (AcceptedLetter a v) → ⊥) →
       ((b : Ballot) (v : View) → In ls (AcceptLetter b v) → (b.manager ≡ m) × ((w : View) → In st.sent (AcceptLetter b w) → ⊥)) →
-      (Growth managers st (proposer_at st m p ls) → (l : Letter) → In ls l → LetterOk managers (proposer_at st m p ls) l) →
+      (Growth managers st (proposer_at st m p ls) → (l : PaxosLetter) → In ls l → LetterOk managers (proposer_at st m p ls) l) →
       (Growth managers st (proposer_at st m p ls) → ProposerOk managers (proposer_at st m p ls) m p) → Parts managers (proposer_at st m p ls)
   proposer_step st parts m p ls none fresh news ok =
       keep managers st new growth parts
@@ -81,7 +81,7 @@ module _ (managers : ℕ) where
       ))
       (put_cases m (Some p) st.proposer j))
     where
-      new : State
+      new : PaxosState
       new = proposer_at st m p ls
 
       growth : Growth managers st (proposer_at st m p ls)
@@ -93,12 +93,12 @@ module _ (managers : ℕ) where
         accepts = λ b v h. ⊎_elim (λ (f : In ls (AcceptLetter b v)). inr (fresh b v f).1) inl (in_either ls st.sent (AcceptLetter b v) h);
       }
 
-  alone : (l k : Letter) → In (l ∷ []) k → k ≡ l
+  alone : (l k : PaxosLetter) → In (l ∷ []) k → k ≡ l
   alone l k (inl e) = e
   alone l k (inr h) = absurd h
 
   -- a manager's acceptor is delivered a Prepare
-  prepare_kept : (st : State) → Parts managers st → (m : ℕ) (b : Ballot) → m < managers →
+  prepare_kept : (st : PaxosState) → Parts managers st → (m : ℕ) (b : Ballot) → m < managers →
       Parts managers (with_acceptor st m (acceptor_on_prepare (st.acceptor m) b) (λ promise. PromiseLetter m promise))
   prepare_kept st parts m b known = at (is_refused was.promised b) refl
     where
@@ -129,7 +129,7 @@ module _ (managers : ℕ) where
           promised_now x = ⊎_elim (λ (s : (m ≡ m) × (put m x st.acceptor m ≡ x)). rw s.1 (le_same x.promised)) (λ (d : (m ≢ m) × (put m x st.acceptor m ≡ st.acceptor m)). absurd (d.0 refl)) (put_cases m x st.acceptor m)
 
   -- a manager's acceptor is delivered an Accept
-  accept_kept : (st : State) → Parts managers st → (m : ℕ) (b : Ballot) (view : View) → m < managers → In st.sent (AcceptLetter b view) →
+  accept_kept : (st : PaxosState) → Parts managers st → (m : ℕ) (b : Ballot) (view : View) → m < managers → In st.sent (AcceptLetter b view) →
       Parts managers (with_acceptor st m (acceptor_on_accept (st.acceptor m) b view) (λ at. AcceptedLetter m (record { ballot = at; view = view })))
   accept_kept st parts m b view known sent = at (is_refused (st.acceptor m).promised b) refl
     where
@@ -151,7 +151,7 @@ module _ (managers : ℕ) where
           accepted_now x = ⊎_elim (λ (s : (m ≡ m) × (put m x st.acceptor m ≡ x)). rw s.1 (le_same (level x.accepted))) (λ (d : (m ≢ m) × (put m x st.acceptor m ≡ st.acceptor m)). absurd (d.0 refl)) (put_cases m x st.acceptor m)
 
   -- a new proposal
-  propose_kept : (epoch : ℕ) (st : State) → Parts managers st → (m round : ℕ) (view : View) → (In st.sent (PrepareLetter (record { round = round; manager = m })) → ⊥) →
+  propose_kept : (epoch : ℕ) (st : PaxosState) → Parts managers st → (m round : ℕ) (view : View) → (In st.sent (PrepareLetter (record { round = round; manager = m })) → ⊥) →
       Parts managers (next epoch managers st (Propose m round view))
   propose_kept epoch st parts m round view unused =
       proposer_step st parts m (proposer_new epoch b view managers) (l0 ∷ [])
@@ -176,14 +176,14 @@ module _ (managers : ℕ) where
       b : Ballot
       b = record { round = round; manager = m }
 
-      l0 : Letter
+      l0 : PaxosLetter
       l0 = PrepareLetter (record { round = round; manager = m })
 
       not_given : has_promises (proposer_new epoch b view managers) ≡ true → ⊥
       not_given h = absurd (omega (arith, ltb-true managers (2 * 0) h))
 
   -- a manager stops
-  stop_kept : (epoch : ℕ) (st : State) → Parts managers st → (m : ℕ) → Parts managers (next epoch managers st (Stop m))
+  stop_kept : (epoch : ℕ) (st : PaxosState) → Parts managers st → (m : ℕ) → Parts managers (next epoch managers st (Stop m))
   stop_kept epoch st parts m =
       keep managers st (next epoch managers st (Stop m)) (record {
         rises = λ n. le_same (st.acceptor n).promised;
@@ -221,7 +221,7 @@ module _ (managers : ℕ) where
   value_at : (p : Proposer) (v : Voted) → p.highest ≡ Some v → v.view ≡ value_of p
   value_at p v is = sym (ap (λ (h : Option Voted). value_of (record p { highest = h })) is)
 
-  module _ (st : State) (parts : Parts managers st) (m : ℕ) (p : Proposer) (is : st.proposer m ≡ Some p) where
+  module _ (st : PaxosState) (parts : Parts managers st) (m : ℕ) (p : Proposer) (is : st.proposer m ≡ Some p) where
     known_ok : ProposerOk managers st m p
     known_ok = parts.proposers m p is
 
@@ -257,7 +257,7 @@ module _ (managers : ℕ) where
       offered : has_promises after ≡ true → (c : Ballot) → Lt (Some c) (Some p.ballot) → Safe managers st (value_of after) c
       offered given = offer_safe managers st parts p.ballot after.promised after.highest (value_of after) (quorum_after given) promised_after highest_after (value_at after)
 
-      after_ok : (ls : List Letter) → Growth managers st (proposer_at st m after ls) →
+      after_ok : (ls : List PaxosLetter) → Growth managers st (proposer_at st m after ls) →
           (has_promises after ≡ false → (w : View) → In (ls ++ st.sent) (AcceptLetter p.ballot w) → ⊥) → (has_promises after ≡ true → (w : View) → In (ls ++ st.sent) (AcceptLetter p.ballot w) → w ≡ value_of after) →
           ProposerOk managers (proposer_at st m after ls) m after
       after_ok ls g early late = record {
@@ -325,7 +325,7 @@ module _ (managers : ℕ) where
           (λ (none : ⊥). absurd none) one)
           (in_either p.accepted (from ∷ []) a h)
 
-      noted_ok : (ls : List Letter) → Growth managers st (proposer_at st m noted ls) → ((w : View) → In (ls ++ st.sent) (AcceptLetter p.ballot w) → In st.sent (AcceptLetter p.ballot w)) → ProposerOk managers (proposer_at st m noted ls) m noted
+      noted_ok : (ls : List PaxosLetter) → Growth managers st (proposer_at st m noted ls) → ((w : View) → In (ls ++ st.sent) (AcceptLetter p.ballot w) → In st.sent (AcceptLetter p.ballot w)) → ProposerOk managers (proposer_at st m noted ls) m noted
       noted_ok ls g none = record {
         its = known_ok.its;
         all = known_ok.all;
@@ -373,7 +373,7 @@ module _ (managers : ℕ) where
             let z = and_parts _ _ y.0 in
             told from voted sent (same_ballot _ _ z.0) z.1 (not-true _ x.1) (has_acceptances (with_acceptance p from)) refl
 
-  event_kept : (epoch : ℕ) (st : State) → Parts managers st → (event : Event) → MayHappen epoch managers st event → Parts managers (next epoch managers st event)
+  event_kept : (epoch : ℕ) (st : PaxosState) → Parts managers st → (event : PaxosEvent) → MayHappen epoch managers st event → Parts managers (next epoch managers st event)
   event_kept epoch st parts (Propose m round view) may = propose_kept epoch st parts m round view may.1
   event_kept epoch st parts (Stop m) may = stop_kept epoch st parts m
   event_kept epoch st parts (Deliver m (PrepareLetter b)) may = prepare_kept st parts m b may.0.known
@@ -390,18 +390,18 @@ module _ (managers : ℕ) where
       at None e = parts
       at (Some p) e = accepted_kept st parts m p e from voted may.1
 
-  run_kept : (epoch : ℕ) (st : State) → Parts managers st → (events : List Event) → IsRun epoch managers st events → Parts managers (last_state epoch managers st events)
+  run_kept : (epoch : ℕ) (st : PaxosState) → Parts managers st → (events : List PaxosEvent) → IsPaxosRun epoch managers st events → Parts managers (last_state epoch managers st events)
   run_kept epoch st parts [] run = parts
   run_kept epoch st parts (event ∷ events) run = run_kept epoch (next epoch managers st event) (event_kept epoch st parts event run.0) events run.1
 
-  start_parts : Parts managers start
+  start_parts : Parts managers paxos_start
   start_parts = record {
     letters = λ l h. absurd h;
     acceptors = λ n. record { sent = λ v is. let e : None ≡ Some v = is in absurd cc; below = le_same None };
     proposers = λ m p is. let e : None ≡ Some p = is in absurd cc;
   }
 
-  pub agreement : (epoch : ℕ) (events : List Event) → IsRun epoch managers start events → Agrees managers (last_state epoch managers start events)
+  pub agreement : (epoch : ℕ) (events : List PaxosEvent) → IsPaxosRun epoch managers paxos_start events → Agrees managers (last_state epoch managers paxos_start events)
   agreement epoch events run =
-      let parts = run_kept epoch start start_parts events run in
-      record { one = agree managers (last_state epoch managers start events) parts; reported = λ v h. parts.letters (ChosenLetter v) h }
+      let parts = run_kept epoch paxos_start start_parts events run in
+      record { one = agree managers (last_state epoch managers paxos_start events) parts; reported = λ v h. parts.letters (ChosenLetter v) h }

@@ -9,8 +9,8 @@ use Rattle.hk_paxos.specs.declared.acceptor.Promise.{Promise}
 use Rattle.hk_paxos.specs.declared.acceptor.Acceptor.{Acceptor}
 use Rattle.hk_paxos.specs.declared.proposer.Proposer.{Proposer}
 use Rattle.hk_paxos.specs.Paxos.{has_promises, value_of}
-use Rattle.hk_paxos.specs.Run.{Letter, State, In, IsQuorum, IsChosen}
-use Rattle.hk_paxos.specs.Run.Letter.{PrepareLetter, PromiseLetter, AcceptLetter, AcceptedLetter, ChosenLetter}
+use Rattle.hk_paxos.specs.Run.{PaxosLetter, PaxosState, In, IsQuorum, IsChosen}
+use Rattle.hk_paxos.specs.Run.PaxosLetter.{PrepareLetter, PromiseLetter, AcceptLetter, AcceptedLetter, ChosenLetter}
 use Rattle.hk_paxos.proofs.Order.{level, Le, Lt, le_then, lt_then, lt_not_le, order}
 use Rattle.hk_paxos.proofs.Quorums.{meet}
 
@@ -22,40 +22,40 @@ voted_of b v = record { ballot = b; view = v }
 
 module _ (managers : ℕ) where
   -- at this ballot no other view will have a majority
-  pub record Safe (st : State) (v : View) (c : Ballot) : Type 0 where
+  pub record Safe (st : PaxosState) (v : View) (c : Ballot) : Type 0 where
     pub quorum : List ℕ
     pub majority : IsQuorum managers quorum
     pub past : (a : ℕ) → In quorum a → Lt (Some c) (st.acceptor a).promised
     pub same : (a : ℕ) → In quorum a → (w : Voted) → In st.sent (AcceptedLetter a w) → w.ballot ≡ c → w.view ≡ v
 
-  pub record PromiseOk (st : State) (a : ℕ) (p : Promise) : Type 0 where
+  pub record PromiseOk (st : PaxosState) (a : ℕ) (p : Promise) : Type 0 where
     pub known : a < managers
     pub kept : Le (Some p.ballot) (st.acceptor a).promised
     pub sent : (v : Voted) → p.accepted ≡ Some v → In st.sent (AcceptLetter v.ballot v.view)
     pub told : (v : Voted) → In st.sent (AcceptedLetter a v) → Lt (Some v.ballot) (Some p.ballot) → Le (Some v.ballot) (level p.accepted)
 
-  pub record AcceptOk (st : State) (b : Ballot) (v : View) : Type 0 where
+  pub record AcceptOk (st : PaxosState) (b : Ballot) (v : View) : Type 0 where
     pub begun : In st.sent (PrepareLetter b)
     pub safe : (c : Ballot) → Lt (Some c) (Some b) → Safe st v c
     pub one : (w : View) → In st.sent (AcceptLetter b w) → w ≡ v
 
-  pub record AcceptedOk (st : State) (a : ℕ) (v : Voted) : Type 0 where
+  pub record AcceptedOk (st : PaxosState) (a : ℕ) (v : Voted) : Type 0 where
     pub known : a < managers
     pub sent : In st.sent (AcceptLetter v.ballot v.view)
     pub within : Le (Some v.ballot) (level (st.acceptor a).accepted)
 
-  abbrev pub LetterOk : State → Letter → Type 0
+  abbrev pub LetterOk : PaxosState → PaxosLetter → Type 0
   LetterOk st (PrepareLetter b) = Unit {0}
   LetterOk st (PromiseLetter a p) = PromiseOk st a p
   LetterOk st (AcceptLetter b v) = AcceptOk st b v
   LetterOk st (AcceptedLetter a v) = AcceptedOk st a v
   LetterOk st (ChosenLetter v) = IsChosen managers st v
 
-  pub record AcceptorOk (st : State) (a : Acceptor) : Type 0 where
+  pub record AcceptorOk (st : PaxosState) (a : Acceptor) : Type 0 where
     pub sent : (v : Voted) → a.accepted ≡ Some v → In st.sent (AcceptLetter v.ballot v.view)
     pub below : Le (level a.accepted) a.promised
 
-  pub record ProposerOk (st : State) (m : ℕ) (p : Proposer) : Type 0 where
+  pub record ProposerOk (st : PaxosState) (m : ℕ) (p : Proposer) : Type 0 where
     pub its : p.ballot.manager ≡ m
     pub all : p.managers ≡ managers
     pub begun : In st.sent (PrepareLetter p.ballot)
@@ -67,20 +67,20 @@ module _ (managers : ℕ) where
     pub accepted : (a : ℕ) → In p.accepted a → (has_promises p ≡ true) × In st.sent (AcceptedLetter a (voted_of p.ballot (value_of p)))
     pub distinct_accepted : IsDistinct nat_eq p.accepted
 
-  pub record Parts (st : State) : Type 0 where
-    pub letters : (l : Letter) → In st.sent l → LetterOk st l
+  pub record Parts (st : PaxosState) : Type 0 where
+    pub letters : (l : PaxosLetter) → In st.sent l → LetterOk st l
     pub acceptors : (n : ℕ) → AcceptorOk st (st.acceptor n)
     pub proposers : (m : ℕ) (p : Proposer) → st.proposer m ≡ Some p → ProposerOk st m p
 
   -- promises and acceptances rise, no acceptance comes below a promise, and no second view comes at a ballot
-  pub record Growth (old new : State) : Type 0 where
+  pub record Growth (old new : PaxosState) : Type 0 where
     pub rises : (n : ℕ) → Le (old.acceptor n).promised (new.acceptor n).promised
     pub rises_accepted : (n : ℕ) → Le (level (old.acceptor n).accepted) (level (new.acceptor n).accepted)
-    pub stays : (l : Letter) → In old.sent l → In new.sent l
+    pub stays : (l : PaxosLetter) → In old.sent l → In new.sent l
     pub acceptances : (a : ℕ) (v : Voted) → In new.sent (AcceptedLetter a v) → In old.sent (AcceptedLetter a v) ⊎ Le (old.acceptor a).promised (Some v.ballot)
     pub accepts : (b : Ballot) (v : View) → In new.sent (AcceptLetter b v) → In old.sent (AcceptLetter b v) ⊎ ((w : View) → In old.sent (AcceptLetter b w) → ⊥)
 
-  module _ (old new : State) (g : Growth old new) where
+  module _ (old new : PaxosState) (g : Growth old new) where
     pub safe_grows : (v : View) (c : Ballot) → Safe old v c → Safe new v c
     safe_grows v c s = record {
       quorum = s.quorum;
@@ -94,7 +94,7 @@ module _ (managers : ℕ) where
     pub chosen_grows : (v : View) → IsChosen managers old v → IsChosen managers new v
     chosen_grows v c = record { ballot = c.ballot; quorum = c.quorum; majority = c.majority; accepted = λ m q. g.stays _ (c.accepted m q) }
 
-    pub letter_grows : (l : Letter) → In old.sent l → LetterOk old l → LetterOk new l
+    pub letter_grows : (l : PaxosLetter) → In old.sent l → LetterOk old l → LetterOk new l
     letter_grows (PrepareLetter b) sent o = tt
     letter_grows (PromiseLetter a p) sent o = record {
       known = o.known;
@@ -133,7 +133,7 @@ module _ (managers : ℕ) where
       distinct_accepted = o.distinct_accepted;
     }
 
-    pub keep : Parts old → ((l : Letter) → In new.sent l → In old.sent l ⊎ LetterOk new l) → ((n : ℕ) → (new.acceptor n ≡ old.acceptor n) ⊎ AcceptorOk new (new.acceptor n)) →
+    pub keep : Parts old → ((l : PaxosLetter) → In new.sent l → In old.sent l ⊎ LetterOk new l) → ((n : ℕ) → (new.acceptor n ≡ old.acceptor n) ⊎ AcceptorOk new (new.acceptor n)) →
         ((m : ℕ) (p : Proposer) → new.proposer m ≡ Some p → ((old.proposer m ≡ Some p) × ((w : View) → In new.sent (AcceptLetter p.ballot w) → In old.sent (AcceptLetter p.ballot w))) ⊎ ProposerOk new m p) → Parts new
     keep parts news accs props = record {
       letters = λ l h. ⊎_elim (λ (was : In old.sent l). letter_grows l was (parts.letters l was)) (λ (ok : LetterOk new l). ok) (news l h);
@@ -142,7 +142,7 @@ module _ (managers : ℕ) where
     }
 
   -- what a majority promised makes its highest acceptance safe at every lower ballot
-  pub offer_safe : (st : State) → Parts st → (b : Ballot) (quorum : List ℕ) (highest : Option Voted) (view : View) → IsQuorum managers quorum →
+  pub offer_safe : (st : PaxosState) → Parts st → (b : Ballot) (quorum : List ℕ) (highest : Option Voted) (view : View) → IsQuorum managers quorum →
       ((a : ℕ) → In quorum a → (told : Option Voted) × In st.sent (PromiseLetter a (promise_of b told)) × Le (level told) (level highest)) →
       ((v : Voted) → highest ≡ Some v → In st.sent (AcceptLetter v.ballot v.view)) → ((v : Voted) → highest ≡ Some v → v.view ≡ view) →
       (c : Ballot) → Lt (Some c) (Some b) → Safe st view c
@@ -191,7 +191,7 @@ module _ (managers : ℕ) where
           }) d) (order c top.ballot)
 
   -- two chosen views are equal
-  pub agree : (st : State) → Parts st → (v w : View) → IsChosen managers st v → IsChosen managers st w → v ≡ w
+  pub agree : (st : PaxosState) → Parts st → (v w : View) → IsChosen managers st v → IsChosen managers st w → v ≡ w
   agree st parts v w p q = ⊎_elim
       (λ (same : p.ballot ≡ q.ballot).
       let a = meet managers p.quorum q.quorum p.majority q.majority in

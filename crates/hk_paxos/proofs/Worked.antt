@@ -1,14 +1,14 @@
 -- The worked run.
 use Rattle.std.proofs.Common.{◌≡◌, ◌<◌, ℕ, false, [], ◌∷◌, nat_eq, refl, ap, inl, inr, arith, None}
 use Rattle.std.specs.List.{IsDistinct}
-use Rattle.hk_paxos.specs.Run.{Letter, State, In, IsUp, IsQuorum}
-use Rattle.hk_paxos.specs.Run.Letter.{PrepareLetter, PromiseLetter, AcceptLetter, AcceptedLetter, ChosenLetter}
+use Rattle.hk_paxos.specs.Run.{PaxosLetter, PaxosState, In, IsUp, IsQuorum}
+use Rattle.hk_paxos.specs.Run.PaxosLetter.{PrepareLetter, PromiseLetter, AcceptLetter, AcceptedLetter, ChosenLetter}
 use Rattle.hk_paxos.specs.Worked.{dropped, low, high, vote, promises, letters, Overtaken}
 
-up : (st : State) (m : ℕ) → m < 3 → st.stopped m ≡ false → IsUp 2 3 st m
+up : (st : PaxosState) (m : ℕ) → m < 3 → st.stopped m ≡ false → IsUp 2 3 st m
 up st m known running = record { known = known; running = running }
 
-abbrev manager_of : Letter → ℕ
+abbrev manager_of : PaxosLetter → ℕ
 manager_of (PrepareLetter ballot) = ballot.manager
 manager_of (PromiseLetter from promise) = 0
 manager_of (AcceptLetter ballot view) = 0

@@ -2,9 +2,9 @@
 use Rattle.std.specs.Prelude.{◌≡◌, ℕ, List, Option, Some, None}
 use Rattle.hk_base.specs.declared.view.View.{View}
 use Rattle.hk_base.specs.declared.view.Voted.{Voted}
-use Rattle.hk_paxos.specs.Run.{Letter, Event, In, IsRun, last_state, start}
-use Rattle.hk_paxos.specs.Run.Letter.{PrepareLetter, PromiseLetter, AcceptLetter, AcceptedLetter, ChosenLetter}
-use Rattle.hk_paxos.specs.Run.Event.{Propose}
+use Rattle.hk_paxos.specs.Run.{PaxosLetter, PaxosEvent, In, IsPaxosRun, last_state, paxos_start}
+use Rattle.hk_paxos.specs.Run.PaxosLetter.{PrepareLetter, PromiseLetter, AcceptLetter, AcceptedLetter, ChosenLetter}
+use Rattle.hk_paxos.specs.Run.PaxosEvent.{Propose}
 
 -- the view that was accepted, if one was
 abbrev pub IsVoteFor : Option Voted → View → Type 0
@@ -12,7 +12,7 @@ IsVoteFor None view = ⊥
 IsVoteFor (Some voted) view = voted.view ≡ view
 
 -- the view stands in the letter: a promise tells the one that was accepted last
-abbrev pub Carries : Letter → View → Type 0
+abbrev pub Carries : PaxosLetter → View → Type 0
 Carries (PrepareLetter ballot) view = ⊥
 Carries (PromiseLetter from promise) view = IsVoteFor promise.accepted view
 Carries (AcceptLetter ballot proposed) view = proposed ≡ view
@@ -21,5 +21,5 @@ Carries (ChosenLetter chosen) view = chosen ≡ view
 
 -- VALIDITY: each view in a letter of a run is one that a manager proposed in it as its own.
 abbrev pub Validity : Type 0
-Validity = (epoch managers : ℕ) (events : List Event) → IsRun epoch managers start events → (letter : Letter) (view : View) → In (last_state epoch managers start events).sent letter → Carries letter view →
+Validity = (epoch managers : ℕ) (events : List PaxosEvent) → IsPaxosRun epoch managers paxos_start events → (letter : PaxosLetter) (view : View) → In (last_state epoch managers paxos_start events).sent letter → Carries letter view →
     (manager : ℕ) × (round : ℕ) × In events (Propose manager round view)

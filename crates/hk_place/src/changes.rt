@@ -5,7 +5,7 @@ ghost use Rattle.std.specs.List.{AllByRecursion, filter};
 ghost use Rattle.std.specs.Ordering.{is_eq};
 ghost use Rattle.std.specs.List.Sorted.{IsNonDecreasingBy};
 ghost use Rattle.hk_copy.specs.Batches.{key_cmp};
-ghost use Rattle.hk_node.specs.Sound.{IsEvent};
+ghost use Rattle.hk_node.specs.Sound.{IsNodeEvent};
 ghost use Rattle.hk_journal.specs.Journal.{IsReplay, after, shown_by};
 ghost use Rattle.hk_place.specs.Past.{tickets_of, tickets_in, last_upto};
 ghost use Rattle.hk_place.specs.Noted.{told_to, told_by};
@@ -65,7 +65,7 @@ fn repeat(
     alloc: Global,
     entry: &JournalEntry,
 ) -> Result<(), Memory>
-    requires { IsEvent entry.now.event }
+    requires { IsNodeEvent entry.now.event }
     ensures node { OnOk result (node.new ≡ after node.old entry.now) }
     ensures noted { OnOk result ((k : List ℕ) → tickets_in kept.new.entries k
         ≡ tickets_in kept.old.entries k ++ map (λ s. s.ticket) (filter (λ s. is_eq (key_cmp s.key k)) (shown_by node.old entry.now))) }
@@ -76,7 +76,7 @@ fn repeat(
 
 // The tickets by their keys.
 fn index(alloc: Global, base: &Node, journal: &[JournalEntry]) -> Result<KeyTickets, Memory>
-    requires { AllByRecursion (λ e. IsEvent e.event) journal.now }
+    requires { AllByRecursion (λ e. IsNodeEvent e.event) journal.now }
     ensures { IfOk result (λ kept. (k : List ℕ) → tickets_in kept.entries k ≡ tickets_of base.now journal.now k) }
 {
     let mut node = base.copy(alloc)?;
@@ -123,7 +123,7 @@ impl<'a> Changes<'a> {
     /// Makes all steps of the journal again, on a copy of the base.
     pub fn of(alloc: Global, base: &'a Node, journal: &'a Journal) -> Result<Changes<'a>, Memory>
         requires replay { IsReplay base.now journal.now }
-        requires events { AllByRecursion (λ e. IsEvent e.event) journal.now }
+        requires events { AllByRecursion (λ e. IsNodeEvent e.event) journal.now }
         ensures { IfOk result (λ changes. changes ≡ record { base = base.now; journal = journal.now }) }
     {
         let kept = index(alloc, base, journal.as_slice())?;

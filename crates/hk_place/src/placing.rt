@@ -3,7 +3,7 @@
 ghost use Rattle.std.specs.Prelude.{◌≡◌, max, map, Err};
 ghost use Rattle.std.specs.List.{AllByRecursion, find, reduce};
 ghost use Rattle.std.specs.Option.{option_copied};
-ghost use Rattle.hk_node.specs.Sound.{IsEvent};
+ghost use Rattle.hk_node.specs.Sound.{IsNodeEvent};
 ghost use Rattle.hk_journal.specs.Journal.{IsReplay};
 ghost use Rattle.hk_place.specs.declared.placing.PlaceFault.TheVariants.{NoPlace};
 ghost use Rattle.hk_place.specs.Place.{greatest, is_displaced, place_of, IsPlaced};
@@ -128,7 +128,7 @@ pub fn place(
     found: &Snapshots,
 ) -> Result<u64, PlaceFault>
     requires replay { IsReplay base.now journal.now }
-    requires events { AllByRecursion (λ e. IsEvent e.event) journal.now }
+    requires events { AllByRecursion (λ e. IsNodeEvent e.event) journal.now }
     ensures { IsPlaced result (place_of (record { base = base.now; journal = journal.now }) found.now) }
 {
     let changes = Changes::of(alloc, base, journal)?;

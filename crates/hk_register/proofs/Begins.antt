@@ -1,11 +1,11 @@
 -- Beginning an update keeps the parts, and stands above what was complete.
 use Rattle.std.proofs.Common.{◌≡◌, ◌⊎◌, ℕ, true, false, List, [], ◌∷◌, ◌<◌, ◌≤◌, ◌∙◌, sym, refl, ap, inl, inr, ⊎_elim, arith, le_refl, le_of_eq, Some, None}
 use Rattle.std.proofs.lemmas.Bool.{false≢true, cases_order}
-use Rattle.hk_register.specs.Machine.{In, Marked, Pending, Node, Mark, Update, State}
+use Rattle.hk_register.specs.Machine.{In, Marked, WaitingUpdate, Node, Mark, Update, RegisterState}
 use Rattle.hk_base.specs.declared.stamp.Kind.{Kind}
-use Rattle.hk_base.specs.declared.stamp.Kind.TheVariants.{Write as Plain, Rmw}
+use Rattle.hk_base.specs.declared.stamp.Kind.TheVariants as Kind
 use Rattle.hk_register.specs.Machine.Phase.{Valid, Write}
-use Rattle.hk_register.specs.Machine.Letter.{Inv}
+use Rattle.hk_register.specs.Machine.Message.{Inv}
 use Rattle.hk_register.specs.Machine.Item.{Called, Answered, ReadOnly}
 use Rattle.hk_register.specs.Facts.{ReadyCovers, Complete, Rests, Bound, PassesOver}
 use Rattle.hk_register.specs.Effects.Effect.{Begin, Serve}
@@ -17,14 +17,14 @@ use Rattle.hk_register.proofs.Keep.{holds_grows, keep, rises, arrives, begins_an
 use Rattle.hk_register.proofs.Helps.{complete_of, ready_in, twin_itself, cover_of}
 
 next_above : (kind : Kind) (b n : ℕ) → b < next_stamp kind b n
-next_above Plain b n = omega arith
-next_above Rmw b n = omega arith
+next_above Kind.Write b n = omega arith
+next_above Kind.Rmw b n = omega arith
 
 same_node : (k j : Kind) (a b n w : ℕ) → n < 65536 → w < 65536 → next_stamp k a n ≡ next_stamp j b w → n ≡ w
-same_node Plain Plain a b n w p q e = omega arith
-same_node Plain Rmw a b n w p q e = omega arith
-same_node Rmw Plain a b n w p q e = omega arith
-same_node Rmw Rmw a b n w p q e = omega arith
+same_node Kind.Write Kind.Write a b n w p q e = omega arith
+same_node Kind.Write Kind.Rmw a b n w p q e = omega arith
+same_node Kind.Rmw Kind.Write a b n w p q e = omega arith
+same_node Kind.Rmw Kind.Rmw a b n w p q e = omega arith
 
 some_is : (m n : ℕ) → Some m ≡ Some n → m ≡ n
 some_is m n e = cc
@@ -34,7 +34,7 @@ none_is n e = cc
 
 module _ (V : ℕ → List ℕ) where
   -- the row of a ready node with a lease is at least what is complete
-  pub fresh_row : (st : State) → Parts V st → (n a : ℕ) → (st.node n).ready ≡ true → Leased V st n → Complete V st a → a ≤ (st.node n).stamp
+  pub fresh_row : (st : RegisterState) → Parts V st → (n a : ℕ) → (st.node n).ready ≡ true → Leased V st n → Complete V st a → a ≤ (st.node n).stamp
   fresh_row st parts n a ready leased (e, c) =
       let o = parts.nodes n in
       let covered : In (V e) n → a ≤ (st.node n).stamp = λ member. let k = c.all n member in let m = parts.marks k.mark k.marked in let top : k.mark.stamp ≤ (st.node n).stamp = rw k.who at m.top in omega (arith, k.stamp) in
@@ -45,13 +45,13 @@ module _ (V : ℕ → List ℕ) where
       (λ (below : e < (st.node n).epoch). let b = o.bound (o.copied ready) e c.some_epoch below in let k = c.all b.who b.member in let top = b.tops k.mark k.marked k.who (omega (arith, k.epoch)) in omega (arith, k.stamp))
       (λ (above : (st.node n).epoch < e). let k = c.one_ready in covered (rw k.epoch at (leased k.mark k.marked (omega (arith, k.epoch))))) h) (cases_order e (st.node n).epoch)
 
-  pub fresh_rests : (st : State) → Parts V st → (n a : ℕ) → (st.node n).ready ≡ true → Leased V st n → Rests V st a → a ≤ (st.node n).stamp
+  pub fresh_rests : (st : RegisterState) → Parts V st → (n a : ℕ) → (st.node n).ready ≡ true → Leased V st n → Rests V st a → a ≤ (st.node n).stamp
   fresh_rests st parts n a ready leased (inl zero_is) = omega arith
   fresh_rests st parts n a ready leased (inr s) = fresh_row st parts n a ready leased (complete_of V st s)
 
-  pub begin_kept : (old new : State) → Parts V old → (n : ℕ) (u : Update) →
+  pub begin_kept : (old new : RegisterState) → Parts V old → (n : ℕ) (u : Update) →
       (old.node n).ready ≡ true → (old.node n).phase ≡ Valid → Leased V old n → n < 65536 →
-      u.who ≡ n → u.base ≡ (old.node n).stamp → u.stamp ≡ next_stamp u.kind u.base n → (u.kind ≡ Plain → IsBlind u.op) → Changes u (old.node n).content → Fresh old u.call →
+      u.who ≡ n → u.base ≡ (old.node n).stamp → u.stamp ≡ next_stamp u.kind u.base n → (u.kind ≡ Kind.Write → IsBlind u.op) → Changes u (old.node n).content → Fresh old u.call →
       Change old new n
       (record (old.node n) { phase = Write (fresh_pending u.stamp u.kind u.content (Some (reply_of u))); stamp = u.stamp; kind = u.kind; content = u.content; kept_val = false })
       (Inv n (old.node n).epoch u.stamp u.kind u.content ∷ [])
@@ -60,7 +60,7 @@ module _ (V : ℕ → List ℕ) where
       Parts V new
   begin_kept old new parts n u ready valid leased small who base next blind content fresh ch =
       let x = old.node n in
-      let p : Pending = fresh_pending u.stamp u.kind u.content (Some (reply_of u)) in
+      let p : WaitingUpdate = fresh_pending u.stamp u.kind u.content (Some (reply_of u)) in
       let y : Node = record x { phase = Write p; stamp = u.stamp; kind = u.kind; content = u.content; kept_val = false } in
       let k : Mark = record { who = n; epoch = x.epoch; stamp = u.stamp; exact = true; ready = x.ready } in
       let ms : List Mark = k ∷ [] in
@@ -141,7 +141,7 @@ module _ (V : ℕ → List ℕ) where
       })
 
   -- wherever a call is served, the row is fresh
-  pub served_fresh : (st : State) → Parts V st → (e : Effect) → Allowed V st e → (n : ℕ) → served_at e ≡ Some n → (s : ℕ) → Complete V st s → s ≤ (st.node n).stamp
+  pub served_fresh : (st : RegisterState) → Parts V st → (e : Effect) → Allowed V st e → (n : ℕ) → served_at e ≡ Some n → (s : ℕ) → Complete V st s → s ≤ (st.node n).stamp
   served_fresh st parts (Begin m u) a n is s c = rw (some_is m n is) at (fresh_row st parts m s a.0 a.2 c)
   served_fresh st parts (Serve m call op answer) a n is s c = rw (some_is m n is) at (fresh_row st parts m s a.0 a.2 c)
   served_fresh st parts e a n is s c = absurd (none_is n is)

@@ -2,11 +2,11 @@
 use Rattle.std.proofs.Common.{◌≡◌, ◌⊎◌, ◌≢◌, ℕ, Bool, true, false, List, [], ◌∷◌, ◌++◌, ◌∙◌, sym, refl, ap, subst, inl, inr, ⊎_elim, Option, Some, None, IsTrue}
 use Rattle.std.proofs.lemmas.Bool.{cases_eq}
 use Rattle.hk_base.specs.declared.stamp.Kind.{Kind}
-use Rattle.hk_base.specs.declared.stamp.Kind.TheVariants.{Write as Plain, Rmw}
+use Rattle.hk_base.specs.declared.stamp.Kind.TheVariants as Kind
 use Rattle.hk_base.specs.declared.call.Answer.{Answer}
 use Rattle.hk_base.specs.declared.call.Reply.{Reply}
 use Rattle.hk_history.specs.History.{is_unsure}
-use Rattle.hk_register.specs.Machine.{In, Mark, Note, Pending, Phase, Node, Letter, Update, Item, State, call_of}
+use Rattle.hk_register.specs.Machine.{In, Mark, Note, WaitingUpdate, Phase, Node, Message, Update, Item, RegisterState, call_of}
 use Rattle.hk_register.specs.Machine.Phase.{Valid, Invalid, Write, Replay, Trans}
 use Rattle.hk_register.specs.Machine.Item.{Called, Answered, Dropped, ReadOnly, Rejected}
 use Rattle.hk_register.specs.Effects.{Change, Effect, Happens, Fresh, Has, answer_of, dropped, drop_of, overtaken, with_notes, fresh_pending, reply_of}
@@ -30,7 +30,7 @@ stamp_in (Dropped c s a) = s
 stamp_in (ReadOnly c s op held a) = s
 stamp_in (Rejected c op a) = 0
 
-module _ (V : ℕ → List ℕ) (st : State) (parts : Parts V st) (cp : CallParts st) where
+module _ (V : ℕ → List ℕ) (st : RegisterState) (parts : Parts V st) (cp : CallParts st) where
   -- two updates of one call are one
   pub own_call : (u v : Update) → In st.begun u → In st.begun v → u.call ≡ v.call → u ≡ v
   own_call u v h k e =
@@ -40,7 +40,7 @@ module _ (V : ℕ → List ℕ) (st : State) (parts : Parts V st) (cp : CallPart
       stamps : (u v : Update) → Called u.call u.stamp u.op ≡ Called v.call v.stamp v.op → u.stamp ≡ v.stamp
       stamps u v e = ap stamp_in e
 
-module _ (V : ℕ → List ℕ) (old new : State) (parts : Parts V old) (cp : CallParts old) (n : ℕ) (x : Node) (ls : List Letter) (ms : List Mark) (us : List Update) (hs : List Item) (ch : Change old new n x ls ms us hs) where
+module _ (V : ℕ → List ℕ) (old new : RegisterState) (parts : Parts V old) (cp : CallParts old) (n : ℕ) (x : Node) (ls : List Message) (ms : List Mark) (us : List Update) (hs : List Item) (ch : Change old new n x ls ms us hs) where
   begun_grows : (u : Update) → In old.begun u → In new.begun u
   begun_grows u h = rw ch.begun (in_right us old.begun u h)
 
@@ -52,7 +52,7 @@ module _ (V : ℕ → List ℕ) (old new : State) (parts : Parts V old) (cp : Ca
   item_grows (Rejected c op a) o = o
 
   -- a pending update goes on, where no reply that is new is its call's
-  pend_grows : (m : ℕ) (p q : Pending) (r : Reply) → p.stamp ≡ q.stamp → PendCall old m p r → ((i : Item) → In hs i → IsReply i → call_of i ≢ r.call.0) → PendCall new m q r
+  pend_grows : (m : ℕ) (p q : WaitingUpdate) (r : Reply) → p.stamp ≡ q.stamp → PendCall old m p r → ((i : Item) → In hs i → IsReply i → call_of i ≢ r.call.0) → PendCall new m q r
   pend_grows m p q r same w apart = record {
     update = w.update;
     begun = begun_grows w.update w.begun;
@@ -63,8 +63,8 @@ module _ (V : ℕ → List ℕ) (old new : State) (parts : Parts V old) (cp : Ca
     open_so_far = λ i h reply. ⊎_elim (λ (a : In hs i). apart i a reply) (λ (b : In old.history i). w.open_so_far i b reply) (in_either hs old.history i (rw ch.history at h));
   }
 
-  pub keep_calls : ((p : Pending) (r : Reply) → Has x.phase p → p.reply ≡ Some r → PendCall new n p r) →
-      ((m : ℕ) → m ≢ n → (p : Pending) (r : Reply) → Has (old.node m).phase p → p.reply ≡ Some r → (i : Item) → In hs i → IsReply i → call_of i ≢ r.call.0) →
+  pub keep_calls : ((p : WaitingUpdate) (r : Reply) → Has x.phase p → p.reply ≡ Some r → PendCall new n p r) →
+      ((m : ℕ) → m ≢ n → (p : WaitingUpdate) (r : Reply) → Has (old.node m).phase p → p.reply ≡ Some r → (i : Item) → In hs i → IsReply i → call_of i ≢ r.call.0) →
       ((u : Update) → In us u → In hs (Called u.call u.stamp u.op)) → ((i : Item) → In hs i → CallItem new i) → OneStart (hs ++ old.history) → OneReply (hs ++ old.history) → CallParts new
   keep_calls here apart called items starts replies = record {
     pend = λ m p r has e. ⊎_elim
@@ -78,13 +78,13 @@ module _ (V : ℕ → List ℕ) (old new : State) (parts : Parts V old) (cp : Ca
     replies = rw ch.history replies;
   }
 
-module _ (V : ℕ → List ℕ) (old new : State) (parts : Parts V old) (cp : CallParts old) where
+module _ (V : ℕ → List ℕ) (old new : RegisterState) (parts : Parts V old) (cp : CallParts old) where
   -- nothing is said, and what is pending was
-  silent : (n : ℕ) (x : Node) (ls : List Letter) (ms : List Mark) → Change old new n x ls ms [] [] → ((p : Pending) → Has x.phase p → (p.reply ≡ None) ⊎ ((q : Pending) × Has (old.node n).phase q × (q.stamp ≡ p.stamp) × (q.reply ≡ p.reply))) → CallParts new
+  silent : (n : ℕ) (x : Node) (ls : List Message) (ms : List Mark) → Change old new n x ls ms [] [] → ((p : WaitingUpdate) → Has x.phase p → (p.reply ≡ None) ⊎ ((q : WaitingUpdate) × Has (old.node n).phase q × (q.stamp ≡ p.stamp) × (q.reply ≡ p.reply))) → CallParts new
   silent n x ls ms ch had = keep_calls V old new parts cp n x ls ms [] [] ch
       (λ p r has e. ⊎_elim
       (λ (none : p.reply ≡ None). clash p.reply r none e)
-      (λ (q : (q : Pending) × Has (old.node n).phase q × (q.stamp ≡ p.stamp) × (q.reply ≡ p.reply)). pend_grows V old new parts cp n x ls ms [] [] ch n q.0 p r q.2 (cp.pend n q.0 r q.1 (q.3 ∙ e)) (λ i h. absurd h)) (had p has))
+      (λ (q : (q : WaitingUpdate) × Has (old.node n).phase q × (q.stamp ≡ p.stamp) × (q.reply ≡ p.reply)). pend_grows V old new parts cp n x ls ms [] [] ch n q.0 p r q.2 (cp.pend n q.0 r q.1 (q.3 ∙ e)) (λ i h. absurd h)) (had p has))
       (λ m other p r has e i h. absurd h) (λ u h. absurd h) (λ i h. absurd h) cp.starts cp.replies
     where
       clash : (o : Option Reply) (r : Reply) → o ≡ None → o ≡ Some r → {A : Type 0} → A
@@ -94,7 +94,7 @@ module _ (V : ℕ → List ℕ) (old new : State) (parts : Parts V old) (cp : Ca
           no_way o r a b = cc
 
   -- the node's pending update is replied to, and is gone
-  replied : (n : ℕ) (x : Node) (ls : List Letter) (ms : List Mark) (p : Pending) (r : Reply) (item : Item) → call_of item ≡ r.call.0 → (IsStart item → ⊥) → Change old new n x ls ms [] (item ∷ []) → Has (old.node n).phase p → p.reply ≡ Some r → ((q : Pending) → Has x.phase q → ⊥) → CallItem old item → CallParts new
+  replied : (n : ℕ) (x : Node) (ls : List Message) (ms : List Mark) (p : WaitingUpdate) (r : Reply) (item : Item) → call_of item ≡ r.call.0 → (IsStart item → ⊥) → Change old new n x ls ms [] (item ∷ []) → Has (old.node n).phase p → p.reply ≡ Some r → ((q : WaitingUpdate) → Has x.phase q → ⊥) → CallItem old item → CallParts new
   replied n x ls ms p r item is not_start ch has e gone good =
       let w = cp.pend n p r has e in
       keep_calls V old new parts cp n x ls ms [] (item ∷ []) ch
@@ -112,35 +112,35 @@ module _ (V : ℕ → List ℕ) (old new : State) (parts : Parts V old) (cp : Ca
       (λ reply j h rj same. w.open_so_far j h rj (same ∙ is), cp.replies)
 
   -- a call that is replied to at once
-  at_once : (n : ℕ) (x : Node) (ls : List Letter) (ms : List Mark) (item : Item) → Fresh old (call_of item) → Change old new n x ls ms [] (item ∷ []) → x.phase ≡ (old.node n).phase → CallItem old item → CallParts new
+  at_once : (n : ℕ) (x : Node) (ls : List Message) (ms : List Mark) (item : Item) → Fresh old (call_of item) → Change old new n x ls ms [] (item ∷ []) → x.phase ≡ (old.node n).phase → CallItem old item → CallParts new
   at_once n x ls ms item fresh ch same good = keep_calls V old new parts cp n x ls ms [] (item ∷ []) ch
       (λ p r has e. let had : Has (old.node n).phase p = subst (λ (ph : Phase). Has ph p) same has in pend_grows V old new parts cp n x ls ms [] (item ∷ []) ch n p p r refl (cp.pend n p r had e) (apart n p r had e))
       (λ m other p r had e. apart m p r had e) (λ u h. absurd h)
       (λ i h. ⊎_elim (λ (it : i ≡ item). subst (CallItem new) (sym it) (item_grows V old new parts cp n x ls ms [] (item ∷ []) ch item good)) (λ (none : ⊥). absurd none) h)
       (λ start j h. fresh j h, cp.starts) (λ reply j h rj. fresh j h, cp.replies)
     where
-      apart : (m : ℕ) (p : Pending) (r : Reply) → Has (old.node m).phase p → p.reply ≡ Some r → (i : Item) → In (item ∷ []) i → IsReply i → call_of i ≢ r.call.0
+      apart : (m : ℕ) (p : WaitingUpdate) (r : Reply) → Has (old.node m).phase p → p.reply ≡ Some r → (i : Item) → In (item ∷ []) i → IsReply i → call_of i ≢ r.call.0
       apart m p r had e i h reply same = ⊎_elim
           (λ (it : i ≡ item). let w = cp.pend m p r had e in fresh (Called w.update.call w.update.stamp w.update.op) (cp.called w.update w.begun) (w.call ∙ (sym same ∙ ap call_of it)))
           (λ (none : ⊥). none) h
 
-  kept_pending : (n : ℕ) (ph : Phase) → ph ≡ (old.node n).phase → (p : Pending) → Has ph p → (p.reply ≡ None) ⊎ ((q : Pending) × Has (old.node n).phase q × (q.stamp ≡ p.stamp) × (q.reply ≡ p.reply))
+  kept_pending : (n : ℕ) (ph : Phase) → ph ≡ (old.node n).phase → (p : WaitingUpdate) → Has ph p → (p.reply ≡ None) ⊎ ((q : WaitingUpdate) × Has (old.node n).phase q × (q.stamp ≡ p.stamp) × (q.reply ≡ p.reply))
   kept_pending n ph same p has = inr (p, subst (λ (f : Phase). Has f p) same has, refl, refl)
 
-  ended : (n : ℕ) (x : Node) (ls : List Letter) (ms : List Mark) (p : Pending) → Has (old.node n).phase p → ((q : Pending) → Has x.phase q → ⊥) → (o : Option Reply) → p.reply ≡ o → Change old new n x ls ms [] (answer_of o p.stamp) → CallParts new
+  ended : (n : ℕ) (x : Node) (ls : List Message) (ms : List Mark) (p : WaitingUpdate) → Has (old.node n).phase p → ((q : WaitingUpdate) → Has x.phase q → ⊥) → (o : Option Reply) → p.reply ≡ o → Change old new n x ls ms [] (answer_of o p.stamp) → CallParts new
   ended n x ls ms p has gone None e ch = silent n x ls ms ch (λ q h. absurd (gone q h))
   ended n x ls ms p has gone (Some r) e ch =
       let w = cp.pend n p r has e in
       replied n x ls ms p r (Answered r.call.0 p.stamp r.answer) refl (λ s. s) ch has e gone (w.update, w.begun, w.call, w.stamp, w.answer)
 
-  noted_had : (ph : Phase) (ns : List Note) (p : Pending) → Has (with_notes ph ns) p → (q : Pending) × Has ph q × (q.stamp ≡ p.stamp) × (q.reply ≡ p.reply)
+  noted_had : (ph : Phase) (ns : List Note) (p : WaitingUpdate) → Has (with_notes ph ns) p → (q : WaitingUpdate) × Has ph q × (q.stamp ≡ p.stamp) × (q.reply ≡ p.reply)
   noted_had Valid ns p h = absurd h
   noted_had Invalid ns p h = absurd h
-  noted_had (Write q) ns p h = (q, refl, ap (λ (z : Pending). z.stamp) h, ap (λ (z : Pending). z.reply) h)
-  noted_had (Replay q) ns p h = (q, refl, ap (λ (z : Pending). z.stamp) h, ap (λ (z : Pending). z.reply) h)
-  noted_had (Trans q) ns p h = (q, refl, ap (λ (z : Pending). z.stamp) h, ap (λ (z : Pending). z.reply) h)
+  noted_had (Write q) ns p h = (q, refl, ap (λ (z : WaitingUpdate). z.stamp) h, ap (λ (z : WaitingUpdate). z.reply) h)
+  noted_had (Replay q) ns p h = (q, refl, ap (λ (z : WaitingUpdate). z.stamp) h, ap (λ (z : WaitingUpdate). z.reply) h)
+  noted_had (Trans q) ns p h = (q, refl, ap (λ (z : WaitingUpdate). z.stamp) h, ap (λ (z : WaitingUpdate). z.reply) h)
 
-  take_inv_calls : (n : ℕ) (x : Node) (ls : List Letter) (ms : List Mark) (why : Answer) → IsTrue (is_unsure (Some why)) → (ph : Phase) → (old.node n).phase ≡ ph → x.phase ≡ overtaken ph → Change old new n x ls ms [] (dropped ph why) → CallParts new
+  take_inv_calls : (n : ℕ) (x : Node) (ls : List Message) (ms : List Mark) (why : Answer) → IsTrue (is_unsure (Some why)) → (ph : Phase) → (old.node n).phase ≡ ph → x.phase ≡ overtaken ph → Change old new n x ls ms [] (dropped ph why) → CallParts new
   take_inv_calls n x ls ms why unsure Valid e is ch = silent n x ls ms ch (λ p h. absurd (subst (λ (f : Phase). Has f p) is h))
   take_inv_calls n x ls ms why unsure Invalid e is ch = silent n x ls ms ch (λ p h. absurd (subst (λ (f : Phase). Has f p) is h))
   take_inv_calls n x ls ms why unsure (Replay q) e is ch = silent n x ls ms ch (λ p h. absurd (subst (λ (f : Phase). Has f p) is h))
@@ -156,22 +156,22 @@ module _ (V : ℕ → List ℕ) (old new : State) (parts : Parts V old) (cp : Ca
           let w = cp.pend n q r has f in
           replied n x ls ms q r (Dropped r.call.0 q.stamp why) refl (λ s. s) ch has f (λ p h. subst (λ (g : Phase). Has g p) is h) ((w.update, w.begun, w.call), unsure)
 
-      by_kind : (kind : Kind) → x.phase ≡ elim kind as (λ _. Phase) [ Plain ↦ Trans q | Rmw ↦ Invalid ] → Change old new n x ls ms [] (elim kind as (λ _. List Item) [ Plain ↦ [] | Rmw ↦ drop_of q.reply q.stamp why ]) → CallParts new
-      by_kind Plain is ch = silent n x ls ms ch (λ p h. let same : q ≡ p = subst (λ (g : Phase). Has g p) is h in inr (q, has, ap (λ (z : Pending). z.stamp) same, ap (λ (z : Pending). z.reply) same))
-      by_kind Rmw is ch = by_reply q.reply refl is ch
+      by_kind : (kind : Kind) → x.phase ≡ elim kind as (λ _. Phase) [ Kind.Write ↦ Trans q | Kind.Rmw ↦ Invalid ] → Change old new n x ls ms [] (elim kind as (λ _. List Item) [ Kind.Write ↦ [] | Kind.Rmw ↦ drop_of q.reply q.stamp why ]) → CallParts new
+      by_kind Kind.Write is ch = silent n x ls ms ch (λ p h. let same : q ≡ p = subst (λ (g : Phase). Has g p) is h in inr (q, has, ap (λ (z : WaitingUpdate). z.stamp) same, ap (λ (z : WaitingUpdate). z.reply) same))
+      by_kind Kind.Rmw is ch = by_reply q.reply refl is ch
 
-  begin_calls : (n : ℕ) (u : Update) (x : Node) (ls : List Letter) (ms : List Mark) → x.phase ≡ Write (fresh_pending u.stamp u.kind u.content (Some (reply_of u))) → u.who ≡ n → Fresh old u.call → Change old new n x ls ms (u ∷ []) (Called u.call u.stamp u.op ∷ []) → CallParts new
+  begin_calls : (n : ℕ) (u : Update) (x : Node) (ls : List Message) (ms : List Mark) → x.phase ≡ Write (fresh_pending u.stamp u.kind u.content (Some (reply_of u))) → u.who ≡ n → Fresh old u.call → Change old new n x ls ms (u ∷ []) (Called u.call u.stamp u.op ∷ []) → CallParts new
   begin_calls n u x ls ms is who fresh ch =
       let begun : In new.begun u = rw ch.begun (inl refl) in
       keep_calls V old new parts cp n x ls ms (u ∷ []) (Called u.call u.stamp u.op ∷ []) ch
       (λ p r h e.
       let same : fresh_pending u.stamp u.kind u.content (Some (reply_of u)) ≡ p = subst (λ (f : Phase). Has f p) is h in
-      let replies : Some (reply_of u) ≡ Some r = ap (λ (z : Pending). z.reply) same ∙ e in
+      let replies : Some (reply_of u) ≡ Some r = ap (λ (z : WaitingUpdate). z.reply) same ∙ e in
       let reply : reply_of u ≡ r = the_reply (reply_of u) r replies in
       record {
         update = u;
         begun = begun;
-        stamp = ap (λ (z : Pending). z.stamp) same;
+        stamp = ap (λ (z : WaitingUpdate). z.stamp) same;
         call = ap (λ (z : Reply). z.call.0) reply;
         answer = ap (λ (z : Reply). z.answer) reply;
         who = who;
@@ -198,14 +198,14 @@ module _ (V : ℕ → List ℕ) (old new : State) (parts : Parts V old) (cp : Ca
   effect_calls (FinishInvalid n p) happens = ended n _ _ _ p happens.allowed.0 (λ q h. h) p.reply refl happens.change
   effect_calls (TakeVal n m) happens = silent n _ _ _ happens.change (λ q h. absurd h)
   effect_calls (KeepVal n m) happens = silent n _ _ _ happens.change (kept_pending n _ refl)
-  effect_calls (StartReplay n) happens = silent n _ _ _ happens.change (λ q h. inl (sym (ap (λ (z : Pending). z.reply) h)))
+  effect_calls (StartReplay n) happens = silent n _ _ _ happens.change (λ q h. inl (sym (ap (λ (z : WaitingUpdate). z.reply) h)))
   effect_calls (Resend n p) happens = silent n _ _ _ happens.change (kept_pending n _ refl)
   effect_calls (Install n e) happens = silent n _ _ _ happens.change (kept_pending n _ refl)
   effect_calls (InstallPending n e p) happens = silent n _ _ _ happens.change (λ q h. inr (noted_had (old.node n).phase [] q h))
   effect_calls (GiveRow n valid) happens = silent n _ _ _ happens.change (kept_pending n _ refl)
   effect_calls (CopyRow n m s kind content valid) happens = silent n _ _ _ happens.change (λ q h. absurd (by_valid valid q h))
     where
-      by_valid : (v : Bool) (q : Pending) → Has (Rattle.std.proofs.Common.cond v Valid Invalid) q → ⊥
+      by_valid : (v : Bool) (q : WaitingUpdate) → Has (Rattle.std.proofs.Common.cond v Valid Invalid) q → ⊥
       by_valid true q h = h
       by_valid false q h = h
   effect_calls (PassRow n m s kind content valid) happens = silent n _ _ _ happens.change (kept_pending n _ refl)

@@ -2,10 +2,10 @@
 use Rattle.std.proofs.Common.{◌≡◌, ◌⊎◌, ℕ, Bool, true, false, List, [], ◌∷◌, ◌<◌, ◌≤◌, ◌∙◌, sym, refl, inl, inr, ⊎_elim, arith, le_trans, le_refl, le_of_eq, Option, None, if◌then◌else◌}
 use Rattle.std.proofs.lemmas.Bool.{false≢true}
 use Rattle.hk_base.specs.declared.call.Content.{Content}
-use Rattle.hk_register.specs.Machine.{In, Marked, Phase, Node, Mark, State}
+use Rattle.hk_register.specs.Machine.{In, Marked, Phase, Node, Mark, RegisterState}
 use Rattle.hk_base.specs.declared.stamp.Kind.{Kind}
 use Rattle.hk_register.specs.Machine.Phase.{Valid, Invalid, Write, Replay, Trans}
-use Rattle.hk_register.specs.Machine.Letter.{Give}
+use Rattle.hk_register.specs.Machine.Message.{Give}
 use Rattle.hk_register.specs.Facts.{Covers, Rests, Bound}
 use Rattle.hk_register.specs.Effects.{Change, row_mark}
 use Rattle.hk_register.specs.Parts.{Known, PhaseOk, NodeOk, Parts}
@@ -13,7 +13,7 @@ use Rattle.hk_register.proofs.Grow.{Rises, rests_grows, known_grows, bound_grows
 use Rattle.hk_register.proofs.Keep.{keep, rises, arrives, phase_grows, holds_grows, node_grows}
 use Rattle.hk_register.proofs.Helps.{pending_at, ready_in, begun_from, twin_itself, keep_phase}
 
-module _ (V : ℕ → List ℕ) (old new : State) (parts : Parts V old) (n : ℕ) where
+module _ (V : ℕ → List ℕ) (old new : RegisterState) (parts : Parts V old) (n : ℕ) where
   -- past each earlier view, of which it is a member or not, some member is known
   pub give_row_kept : (valid : Bool) → (old.node n).ready ≡ true → (valid ≡ true → (old.node n).phase ≡ Valid) → Change old new n (old.node n) (Give n (old.node n).epoch (old.node n).stamp (old.node n).kind (old.node n).content valid ∷ []) [] [] [] → Parts V new
   give_row_kept valid ready rests ch =

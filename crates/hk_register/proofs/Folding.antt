@@ -2,7 +2,7 @@
 use Rattle.std.proofs.Common.{◌≡◌, ◌⊎◌, ℕ, zero, suc, true, List, [], ◌∷◌, ◌<◌, ◌≤◌, ◌∙◌, sym, refl, ap, subst, inl, inr, ⊎_elim, arith, Option, Some, None, unwrap_or, le_refl, eq-zero-or-pos}
 use Rattle.std.proofs.lemmas.Bool.{false≢true, cases_lt, cases_order}
 use Rattle.hk_base.specs.declared.stamp.Kind.{Kind}
-use Rattle.hk_base.specs.declared.stamp.Kind.TheVariants.{Write as Plain, Rmw}
+use Rattle.hk_base.specs.declared.stamp.Kind.TheVariants as Kind
 use Rattle.hk_base.specs.declared.call.Op.{Op}
 use Rattle.hk_base.specs.declared.call.Answer.{Answer}
 use Rattle.hk_base.specs.declared.call.Answer.TheVariants.{Busy, Aborted, Exhausted}
@@ -11,7 +11,7 @@ use Rattle.hk_base.specs.Register.{Register, Acted, first, act, stays}
 use Rattle.hk_history.specs.declared.event.Event.{Event}
 use Rattle.hk_history.specs.History.{op_of, answer_of, is_unsure, is_answered}
 use Rattle.hk_history.specs.Legal.{FitsCall, FitsFrom}
-use Rattle.hk_register.specs.Machine.{In, Update, Item, State, call_of}
+use Rattle.hk_register.specs.Machine.{In, Update, Item, RegisterState, call_of}
 use Rattle.hk_register.specs.Machine.Item.{Called, Answered, Dropped, ReadOnly, Rejected}
 use Rattle.hk_register.specs.Facts.{Complete, Settled}
 use Rattle.hk_register.specs.Effects.{IsBlind, register_of}
@@ -34,7 +34,7 @@ stands_in [] k j h = absurd h
 stands_in (i ∷ items) k j (inl e) = inl e.0
 stands_in (i ∷ items) k j (inr h) = inr (stands_in items k j h)
 
-module _ (V : ℕ → List ℕ) (st : State) (parts : Parts V st) (cp : CallParts st) (slots : List Slot) (pr : IsPrinted V st slots) where
+module _ (V : ℕ → List ℕ) (st : RegisterState) (parts : Parts V st) (cp : CallParts st) (slots : List Slot) (pr : IsPrinted V st slots) where
   -- where the fold stands: at a stamp whose register has this content, with all updates above it still to come
   record At (rest : List Slot) (s : ℕ) (c : Option Content) : Type 0 where
     stands : (s ≡ 0) × (c ≡ None) ⊎ ((v : Update) × In st.begun v × Complete V st v.stamp × (v.stamp ≡ s) × (v.content ≡ c))
@@ -65,7 +65,7 @@ module _ (V : ℕ → List ℕ) (st : State) (parts : Parts V st) (cp : CallPart
       sym k.same_content ∙ ap (λ (w : Update). w.content) same ∙ v.4) at.stands) held
 
   -- the base of a read-modify-write is where the fold stands
-  base_here : (u : Update) (us : List Slot) (s : ℕ) (c : Option Content) → Sorted (update_slot u ∷ us) → At (update_slot u ∷ us) s c → In st.begun u → Complete V st u.stamp → s < u.stamp → u.kind ≡ Rmw → u.base ≡ s
+  base_here : (u : Update) (us : List Slot) (s : ℕ) (c : Option Content) → Sorted (update_slot u ∷ us) → At (update_slot u ∷ us) s c → In st.begun u → Complete V st u.stamp → s < u.stamp → u.kind ≡ Kind.Rmw → u.base ≡ s
   base_here u us s c sorted at begun done up rmw =
       let o = parts.updates u begun in
       let low = above_base V st parts u begun in
@@ -148,9 +148,9 @@ module _ (V : ℕ → List ℕ) (st : State) (parts : Parts V st) (cp : CallPart
                 tagged = sym changed;
               }) (subst (λ (g : Register). FitsFrom (events_of st.history) g (entries us)) (sym register) (more u.stamp u.content next))
             where
-              by_kind : (k : Kind) → u.kind ≡ k → (bk : Kind) (bc : Option Content) → Holds st u.base bk bc → (u.kind ≡ Plain → IsBlind u.op) → act u.op (register_of c s) u.stamp ≡ act u.op (register_of bc u.base) u.stamp
-              by_kind Plain e bk bc holds blind = blind e (register_of c s) (register_of bc u.base) u.stamp
-              by_kind Rmw e bk bc holds blind =
+              by_kind : (k : Kind) → u.kind ≡ k → (bk : Kind) (bc : Option Content) → Holds st u.base bk bc → (u.kind ≡ Kind.Write → IsBlind u.op) → act u.op (register_of c s) u.stamp ≡ act u.op (register_of bc u.base) u.stamp
+              by_kind Kind.Write e bk bc holds blind = blind e (register_of c s) (register_of bc u.base) u.stamp
+              by_kind Kind.Rmw e bk bc holds blind =
                   let here = base_here u us s c sorted at begun done up e in
                   let held = same_content (update_slot u ∷ us) s c at bk bc u.base holds here in
                   rw (held, here) refl

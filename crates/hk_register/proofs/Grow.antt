@@ -2,7 +2,7 @@
 use Rattle.std.proofs.Common.{Option, ◌≡◌, ◌⊎◌, ◌≢◌, ℕ, true, List, [], ◌∷◌, ◌++◌, ◌<◌, ◌≤◌, ◌∙◌, sym, subst, inl, inr, ⊎_elim, arith, le_trans}
 use Rattle.std.proofs.lemmas.Bool.{cases_eq}
 use Rattle.hk_base.specs.declared.call.Content.{Content}
-use Rattle.hk_register.specs.Machine.{In, Each, Weaker, Marked, Node, Mark, Update, State}
+use Rattle.hk_register.specs.Machine.{In, Each, Weaker, Marked, Node, Mark, Update, RegisterState}
 use Rattle.hk_base.specs.declared.stamp.Kind.{Kind}
 use Rattle.hk_register.specs.Facts.{Covers, Exact, ReadyCovers, ReadyExact, Complete, Settled, Rests, Bound, PassesOver}
 use Rattle.hk_register.specs.Parts.{Known}
@@ -27,7 +27,7 @@ each_in P (x ∷ xs) y all (inl e) = subst P (sym e) all.0
 each_in P (x ∷ xs) y all (inr h) = each_in P xs y all.1 h
 
 -- what a change is to respect: nothing falls, and new marks are of the node, in its epoch, exact ones with its stamp
-pub record Rises (old new : State) (n : ℕ) (x : Node) (ms : List Mark) : Type 0 where
+pub record Rises (old new : RegisterState) (n : ℕ) (x : Node) (ms : List Mark) : Type 0 where
   pub marks : (k : Mark) → Marked old k → Marked new k
   pub marks_from : (k : Mark) → Marked new k → (j : Mark) × Weaker k j × (In ms j ⊎ Marked old j)
   pub begun : (u : Update) → In old.begun u → In new.begun u
@@ -40,7 +40,7 @@ pub record Rises (old new : State) (n : ℕ) (x : Node) (ms : List Mark) : Type 
   pub of_row : (k : Mark) → In ms k → k.exact ≡ true → k.stamp ≡ x.stamp
   pub within : (k : Mark) → In ms k → k.stamp ≤ x.stamp
 
-module _ (V : ℕ → List ℕ) (old new : State) (n : ℕ) (x : Node) (ms : List Mark) (r : Rises old new n x ms) where
+module _ (V : ℕ → List ℕ) (old new : RegisterState) (n : ℕ) (x : Node) (ms : List Mark) (r : Rises old new n x ms) where
   pub epoch_rises : (m : ℕ) → (old.node m).epoch ≤ (new.node m).epoch
   epoch_rises m = ⊎_elim (λ (e : m ≡ n). rw (e, r.here) r.epoch) (λ (d : m ≢ n). rw (r.there m d) (omega arith)) (cases_eq m n)
 

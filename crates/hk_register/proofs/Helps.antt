@@ -3,9 +3,9 @@ use Rattle.std.proofs.Common.{◌≡◌, ◌⊎◌, ◌≢◌, ℕ, Bool, true, 
 use Rattle.std.proofs.lemmas.Bool.{false≢true, cases_eq}
 use Rattle.hk_base.specs.declared.call.Content.{Content}
 use Rattle.hk_base.specs.declared.call.Reply.{Reply}
-use Rattle.hk_register.specs.Machine.{In, Each, Marked, Note, Pending, Phase, Node, Letter, Mark, Update, Item, State}
+use Rattle.hk_register.specs.Machine.{In, Each, Marked, Note, WaitingUpdate, Phase, Node, Message, Mark, Update, Item, RegisterState}
 use Rattle.hk_base.specs.declared.stamp.Kind.{Kind}
-use Rattle.hk_base.specs.declared.stamp.Kind.TheVariants.{Write as Plain, Rmw}
+use Rattle.hk_base.specs.declared.stamp.Kind.TheVariants as Kind
 use Rattle.hk_register.specs.Machine.Phase.{Valid, Invalid, Write, Replay, Trans}
 use Rattle.hk_register.specs.Facts.{Covers, Exact, ReadyCovers, ReadyExact, Complete, Settled, Rests}
 use Rattle.hk_register.specs.Effects.{Change, Has, AllNoted, answer_of, row_mark, cover_mark, with_notes, overtaken}
@@ -14,7 +14,7 @@ use Rattle.hk_register.proofs.Grow.{Rises, passes_grows}
 use Rattle.hk_register.proofs.Keep.{keep, rises, node_grows, letter_grows, item_grows}
 
 module _ (V : ℕ → List ℕ) where
-  pub pending_of : (st : State) (n : ℕ) (x : Node) (phase : Phase) (p : Pending) → Has phase p → PhaseOk V st n x phase → PendingOk V st n x p
+  pub pending_of : (st : RegisterState) (n : ℕ) (x : Node) (phase : Phase) (p : WaitingUpdate) → Has phase p → PhaseOk V st n x phase → PendingOk V st n x p
   pending_of st n x Valid p has o = absurd has
   pending_of st n x Invalid p has o = absurd has
   pending_of st n x (Write q) p has o = subst (PendingOk V st n x) has o.0
@@ -22,7 +22,7 @@ module _ (V : ℕ → List ℕ) where
   pending_of st n x (Trans q) p has o = subst (PendingOk V st n x) has o.0
 
   -- a pending update at a row that differs elsewhere
-  pub pending_at : {st : State} {n : ℕ} {x y : Node} {p : Pending} → y.ready ≡ x.ready → y.epoch ≡ x.epoch → x.stamp ≤ y.stamp → PendingOk V st n x p → PendingOk V st n y p
+  pub pending_at : {st : RegisterState} {n : ℕ} {x y : Node} {p : WaitingUpdate} → y.ready ≡ x.ready → y.epoch ≡ x.epoch → x.stamp ≤ y.stamp → PendingOk V st n x p → PendingOk V st n y p
   pending_at {st} {n} {x} {y} {p} ready epoch up o = record {
     ready = ready ∙ o.ready;
     covers = rw epoch o.covers;
@@ -32,19 +32,19 @@ module _ (V : ℕ → List ℕ) where
     notes = λ k h. rw epoch (o.notes k h);
   }
 
-  pub known_positive : (st : State) (s : ℕ) (kind : Kind) (content : Option Content) → Parts V st → Known st s kind content → 1 ≤ s
+  pub known_positive : (st : RegisterState) (s : ℕ) (kind : Kind) (content : Option Content) → Parts V st → Known st s kind content → 1 ≤ s
   known_positive st s kind content parts k =
       let next = (parts.updates k.update k.begun).next in
       let is = k.stamp in
       above k.update.kind k.update.base k.update.who s (sym is ∙ next)
     where
       above : (kind : Kind) (b w s : ℕ) → s ≡ Rattle.hk_register.specs.Effects.next_stamp kind b w → 1 ≤ s
-      above Plain b w s e = omega arith
-      above Rmw b w s e = omega arith
+      above Kind.Write b w s e = omega arith
+      above Kind.Rmw b w s e = omega arith
 
-  module _ (old new : State) (n : ℕ) (x : Node) (ms : List Mark) (r : Rises old new n x ms) where
+  module _ (old new : RegisterState) (n : ℕ) (x : Node) (ms : List Mark) (r : Rises old new n x ms) where
     -- a new mark of a stamp that another mark has, in an epoch not below
-    pub begun_from : (k : Mark) (kind : Kind) (j : Mark) → j.stamp ≡ k.stamp → k.epoch ≤ j.epoch → ((u : Update) → In old.begun u → u.stamp ≡ k.stamp → u.kind ≡ Rmw → Twin V new k) → (j.stamp ≡ 0) ⊎ MarkBegun V old j → (k.stamp ≡ 0) ⊎ MarkBegun V new k
+    pub begun_from : (k : Mark) (kind : Kind) (j : Mark) → j.stamp ≡ k.stamp → k.epoch ≤ j.epoch → ((u : Update) → In old.begun u → u.stamp ≡ k.stamp → u.kind ≡ Kind.Rmw → Twin V new k) → (j.stamp ≡ 0) ⊎ MarkBegun V old j → (k.stamp ≡ 0) ⊎ MarkBegun V new k
     begun_from k kind j same upto twin (inl zero_is) = inl (sym same ∙ zero_is)
     begun_from k kind j same upto twin (inr b) = inr (record {
       update = b.update;
@@ -57,14 +57,14 @@ module _ (V : ℕ → List ℕ) where
     pub twin_itself : (k : Mark) → Marked new k → k.exact ≡ true → Twin V new k
     twin_itself k h exact = record { mark = k; marked = h; who = refl; epoch = refl; stamp = refl; ready = λ y. y; exact = exact }
 
-  pub ready_in : {st : State} {n : ℕ} {x : Node} → NodeOk V st n x → x.ready ≡ true → 1 ≤ x.epoch
+  pub ready_in : {st : RegisterState} {n : ℕ} {x : Node} → NodeOk V st n x → x.ready ≡ true → 1 ≤ x.epoch
   ready_in {st} {n} {x} o ready = ⊎_elim (λ (zero_is : x.epoch ≡ 0). absurd (false≢true (sym (o.resting zero_is).1 ∙ ready))) (λ (pos : 0 < x.epoch). pos) (eq-zero-or-pos x.epoch)
 
-  pub cover_of : {st : State} {n e s : ℕ} → ReadyCovers st n e s → Covers st n e s
+  pub cover_of : {st : RegisterState} {n e s : ℕ} → ReadyCovers st n e s → Covers st n e s
   cover_of c = record { mark = c.mark; marked = c.marked; who = c.who; epoch = c.epoch; stamp = c.stamp }
 
   -- all others are noted
-  pub completes : (st : State) (n : ℕ) (x : Node) (p : Pending) → NodeOk V st n x → PendingOk V st n x p → AllNoted V x.epoch n p.notes → Complete V st p.stamp
+  pub completes : (st : RegisterState) (n : ℕ) (x : Node) (p : WaitingUpdate) → NodeOk V st n x → PendingOk V st n x p → AllNoted V x.epoch n p.notes → Complete V st p.stamp
   completes st n x p o w noted = (
     x.epoch,
     record {
@@ -79,13 +79,13 @@ module _ (V : ℕ → List ℕ) where
     },
   )
 
-  pub row_exact : {st : State} {n : ℕ} {x : Node} → NodeOk V st n x → 1 ≤ x.epoch → Exact st n x.epoch x.stamp
+  pub row_exact : {st : RegisterState} {n : ℕ} {x : Node} → NodeOk V st n x → 1 ≤ x.epoch → Exact st n x.epoch x.stamp
   row_exact {st} {n} {x} o one = record { mark = row_mark n x; marked = o.marked one; who = refl; epoch = refl; stamp = refl; exact = refl }
 
-  pub row_ready_exact : {st : State} {n : ℕ} {x : Node} → NodeOk V st n x → x.ready ≡ true → ReadyExact st n x.epoch x.stamp
+  pub row_ready_exact : {st : RegisterState} {n : ℕ} {x : Node} → NodeOk V st n x → x.ready ≡ true → ReadyExact st n x.epoch x.stamp
   row_ready_exact {st} {n} {x} o ready = record { mark = row_mark n x; marked = o.marked (ready_in o ready); who = refl; epoch = refl; stamp = refl; exact = refl; ready = ready }
 
-  pub settles_there : (st : State) (n : ℕ) (x : Node) (p : Pending) → NodeOk V st n x → PendingOk V st n x p → AllNoted V x.epoch n p.notes → p.stamp ≡ x.stamp → ((k : Note) → In p.notes k → k.exact ≡ true) → Settled V st p.stamp
+  pub settles_there : (st : RegisterState) (n : ℕ) (x : Node) (p : WaitingUpdate) → NodeOk V st n x → PendingOk V st n x p → AllNoted V x.epoch n p.notes → p.stamp ≡ x.stamp → ((k : Note) → In p.notes k → k.exact ≡ true) → Settled V st p.stamp
   settles_there st n x p o w noted same exact = (
     x.epoch,
     record {
@@ -100,7 +100,7 @@ module _ (V : ℕ → List ℕ) where
     },
   )
 
-  pub answers_ok : (st : State) (call : Option Reply) (s : ℕ) → Complete V st s → 1 ≤ s → Each (ItemOk V st) (answer_of call s)
+  pub answers_ok : (st : RegisterState) (call : Option Reply) (s : ℕ) → Complete V st s → 1 ≤ s → Each (ItemOk V st) (answer_of call s)
   answers_ok st None s c one = tt
   answers_ok st (Some n) s c one = ((c, one), tt)
 
@@ -109,7 +109,7 @@ module _ (V : ℕ → List ℕ) where
   answers_timely (Some n) s h t = t
 
   -- a change of phase and of the bit alone
-  pub keep_phase : (old new : State) → Parts V old → (n : ℕ) (ph : Phase) (kp : Bool) (ls : List Letter) (hs : List Item) →
+  pub keep_phase : (old new : RegisterState) → Parts V old → (n : ℕ) (ph : Phase) (kp : Bool) (ls : List Message) (hs : List Item) →
       Change old new n (record (old.node n) { phase = ph; kept_val = kp }) ls [] [] hs →
       PhaseOk V old n (record (old.node n) { phase = ph; kept_val = kp }) ph →
       (kp ≡ true → Rests V old (old.node n).stamp) → Each (LetterOk V old) ls → Each (ItemOk V old) hs → TimelyAfter V (hs ++ old.history) → Parts V new
@@ -146,7 +146,7 @@ module _ (V : ℕ → List ℕ) where
       each_map [] f t = tt
       each_map (a ∷ xs) f t = (f a t.0, each_map xs f t.1)
 
-  pub complete_of : (st : State) {s : ℕ} → Settled V st s → Complete V st s
+  pub complete_of : (st : RegisterState) {s : ℕ} → Settled V st s → Complete V st s
   complete_of st (e, t) = (
     e,
     record {

@@ -1,10 +1,10 @@
 -- Installing a view keeps the parts.
 use Rattle.std.proofs.Common.{◌≡◌, ◌⊎◌, ℕ, true, false, List, [], ◌∷◌, ◌<◌, ◌≤◌, ◌∙◌, sym, refl, ap, inl, inr, ⊎_elim, arith, le_refl, eq-zero-or-pos}
 use Rattle.std.proofs.lemmas.Bool.{false≢true, cases_lt}
-use Rattle.hk_register.specs.Machine.{In, Marked, Pending, Phase, Node, Mark, Update, State}
-use Rattle.hk_base.specs.declared.stamp.Kind.TheVariants.{Write as Plain, Rmw}
+use Rattle.hk_register.specs.Machine.{In, Marked, WaitingUpdate, Phase, Node, Mark, Update, RegisterState}
+use Rattle.hk_base.specs.declared.stamp.Kind.TheVariants as Kind
 use Rattle.hk_register.specs.Machine.Phase.{Valid, Invalid, Write, Replay, Trans}
-use Rattle.hk_register.specs.Machine.Letter.{Inv}
+use Rattle.hk_register.specs.Machine.Message.{Inv}
 use Rattle.hk_register.specs.Facts.{ReadyCovers, Bound, PassesOver}
 use Rattle.hk_register.specs.Effects.{Between, Change, Has, row_mark, with_notes}
 use Rattle.hk_register.specs.Parts.{PendingOk, PhaseOk, Twin, MarkBegun, Parts}
@@ -12,7 +12,7 @@ use Rattle.hk_register.proofs.Grow.{Rises, rests_grows, known_grows, bound_grows
 use Rattle.hk_register.proofs.Keep.{keep, rises, arrives, phase_grows, holds_grows}
 use Rattle.hk_register.proofs.Helps.{ready_in, twin_itself, cover_of, pending_of}
 
-module _ (V : ℕ → List ℕ) (old new : State) (parts : Parts V old) (n e : ℕ) (later : (old.node n).epoch < e) (member : In (V e) n) (middle : Between V old n e) (y : Node) (ms : List Mark) (at_y : y.epoch ≡ e) (stamp_y : y.stamp ≡ (old.node n).stamp) (r : Rises old new n y ms) where
+module _ (V : ℕ → List ℕ) (old new : RegisterState) (parts : Parts V old) (n e : ℕ) (later : (old.node n).epoch < e) (member : In (V e) n) (middle : Between V old n e) (y : Node) (ms : List Mark) (at_y : y.epoch ≡ e) (stamp_y : y.stamp ≡ (old.node n).stamp) (r : Rises old new n y ms) where
   between : (f : ℕ) → 1 ≤ (old.node n).epoch → (old.node n).epoch ≤ f → f ≤ e → In (V f) n
   between f some from upto = middle f some from upto
 
@@ -39,7 +39,7 @@ module _ (V : ℕ → List ℕ) (old new : State) (parts : Parts V old) (n e : �
       }) (cases_lt f (old.node n).epoch)
 
   -- a mark of the node's row or pending update, in the new epoch
-  install_begun : (k j : Mark) → 1 ≤ (old.node n).epoch → k.epoch ≡ e → k.stamp ≤ (old.node n).stamp → Marked old j → j.epoch ≡ (old.node n).epoch → j.stamp ≡ k.stamp → ((u : Update) → In old.begun u → u.stamp ≡ k.stamp → u.kind ≡ Rmw → Twin V new k) → (k.stamp ≡ 0) ⊎ MarkBegun V new k
+  install_begun : (k j : Mark) → 1 ≤ (old.node n).epoch → k.epoch ≡ e → k.stamp ≤ (old.node n).stamp → Marked old j → j.epoch ≡ (old.node n).epoch → j.stamp ≡ k.stamp → ((u : Update) → In old.begun u → u.stamp ≡ k.stamp → u.kind ≡ Kind.Rmw → Twin V new k) → (k.stamp ≡ 0) ⊎ MarkBegun V new k
   install_begun k j some at top marked at_j same twin =
       ⊎_elim (λ (zero_is : j.stamp ≡ 0). inl (sym same ∙ zero_is)) (λ (b : MarkBegun V old j). inr (record {
         update = b.update;
@@ -67,8 +67,8 @@ module _ (V : ℕ → List ℕ) (old new : State) (parts : Parts V old) (n e : �
           cases_le : (a b : ℕ) → (a ≤ b) ⊎ (b < a)
           cases_le a b = ⊎_elim inr inl (cases_lt b a)
 
-module _ (V : ℕ → List ℕ) (old new : State) (parts : Parts V old) where
-  at_epoch : (st : State) (n e : ℕ) (x : Node) (phase : Phase) → (phase ≡ Valid) ⊎ (phase ≡ Invalid) → PhaseOk V st n x phase → PhaseOk V st n (record x { epoch = e }) phase
+module _ (V : ℕ → List ℕ) (old new : RegisterState) (parts : Parts V old) where
+  at_epoch : (st : RegisterState) (n e : ℕ) (x : Node) (phase : Phase) → (phase ≡ Valid) ⊎ (phase ≡ Invalid) → PhaseOk V st n x phase → PhaseOk V st n (record x { epoch = e }) phase
   at_epoch st n e x phase (inl is) o = rw is (rw is at o)
   at_epoch st n e x phase (inr is) o = rw is (rw is at o)
 
@@ -120,7 +120,7 @@ module _ (V : ℕ → List ℕ) (old new : State) (parts : Parts V old) where
         timely = parts.timely;
       })
 
-  renoted : (st : State) (n : ℕ) (x y : Node) (phase : Phase) (p : Pending) → Has phase p → PendingOk V st n y (record p { notes = [] }) → y.stamp ≡ x.stamp → PhaseOk V old n x phase → PhaseOk V st n y (with_notes phase [])
+  renoted : (st : RegisterState) (n : ℕ) (x y : Node) (phase : Phase) (p : WaitingUpdate) → Has phase p → PendingOk V st n y (record p { notes = [] }) → y.stamp ≡ x.stamp → PhaseOk V old n x phase → PhaseOk V st n y (with_notes phase [])
   renoted st n x y Valid p has w same o = absurd has
   renoted st n x y Invalid p has w same o = absurd has
   renoted st n x y (Write q) p has w same o = (rw has w, o.1 ∙ sym same)
@@ -128,14 +128,14 @@ module _ (V : ℕ → List ℕ) (old new : State) (parts : Parts V old) where
   renoted st n x y (Trans q) p has w same o = (rw has w, o.1)
 
   -- a pending read-modify-write has the row's stamp
-  rmw_at_row : (n : ℕ) (x : Node) (phase : Phase) (p : Pending) → Has phase p → PhaseOk V old n x phase → (p.kind ≡ Plain) ⊎ (p.stamp ≡ x.stamp)
+  rmw_at_row : (n : ℕ) (x : Node) (phase : Phase) (p : WaitingUpdate) → Has phase p → PhaseOk V old n x phase → (p.kind ≡ Kind.Write) ⊎ (p.stamp ≡ x.stamp)
   rmw_at_row n x Valid p has o = absurd has
   rmw_at_row n x Invalid p has o = absurd has
   rmw_at_row n x (Write q) p has o = inr (rw (← has) o.1)
   rmw_at_row n x (Replay q) p has o = inr (rw (← has) o.1)
   rmw_at_row n x (Trans q) p has o = inl (rw (← has) o.1)
 
-  pub install_pending_kept : (n e : ℕ) (p : Pending) → (old.node n).epoch < e → In (V e) n → Between V old n e → Has (old.node n).phase p → Change old new n (record (old.node n) { epoch = e; phase = with_notes (old.node n).phase [] }) (Inv n e p.stamp p.kind p.content ∷ []) (record { who = n; epoch = e; stamp = (old.node n).stamp; exact = true; ready = (old.node n).ready } ∷ record { who = n; epoch = e; stamp = p.stamp; exact = false; ready = (old.node n).ready } ∷ []) [] [] → Parts V new
+  pub install_pending_kept : (n e : ℕ) (p : WaitingUpdate) → (old.node n).epoch < e → In (V e) n → Between V old n e → Has (old.node n).phase p → Change old new n (record (old.node n) { epoch = e; phase = with_notes (old.node n).phase [] }) (Inv n e p.stamp p.kind p.content ∷ []) (record { who = n; epoch = e; stamp = (old.node n).stamp; exact = true; ready = (old.node n).ready } ∷ record { who = n; epoch = e; stamp = p.stamp; exact = false; ready = (old.node n).ready } ∷ []) [] [] → Parts V new
   install_pending_kept n e p later member middle has ch =
       let x = old.node n in
       let y : Node = record x { epoch = e; phase = with_notes x.phase [] } in
@@ -152,11 +152,11 @@ module _ (V : ℕ → List ℕ) (old new : State) (parts : Parts V old) where
       let covers : ReadyCovers new n e p.stamp = record { mark = j; marked = here_too; who = refl; epoch = refl; stamp = refl; ready = w.ready } in
       let known = known_grows V old new n y ms r w.known in
       let w' : PendingOk V new n y (record p { notes = [] }) = record { ready = w.ready; covers = covers; below = w.below; positive = w.positive; known = known; notes = λ i h. absurd h } in
-      let twin : (u : Update) → In old.begun u → u.stamp ≡ p.stamp → u.kind ≡ Rmw → Twin V new j = λ u begun is rmw.
+      let twin : (u : Update) → In old.begun u → u.stamp ≡ p.stamp → u.kind ≡ Kind.Rmw → Twin V new j = λ u begun is rmw.
       ⊎_elim
-      (λ (plain : p.kind ≡ Plain).
+      (λ (plain : p.kind ≡ Kind.Write).
       let same : w.known.update ≡ u = parts.once w.known.update u w.known.begun begun (w.known.stamp ∙ sym is) in
-      let kinds : Plain ≡ Rmw = sym (w.known.same_kind ∙ plain) ∙ ap (λ (v : Update). v.kind) same ∙ rmw in
+      let kinds : Kind.Write ≡ Kind.Rmw = sym (w.known.same_kind ∙ plain) ∙ ap (λ (v : Update). v.kind) same ∙ rmw in
       cc)
       (λ (top : p.stamp ≡ x.stamp). record { mark = k; marked = here; who = refl; epoch = refl; stamp = sym top; ready = λ y. y; exact = refl }) (rmw_at_row n x x.phase p has was.phase) in
       keep V old new n y _ ms _ _ (record {

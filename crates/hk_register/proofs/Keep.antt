@@ -2,10 +2,10 @@
 use Rattle.std.proofs.Common.{Option, ◌≡◌, ◌≢◌, ℕ, true, List, ◌++◌, ◌≤◌, ◌∙◌, sym, inl, inr, ⊎_elim, arith, le_trans}
 use Rattle.std.proofs.lemmas.Bool.{cases_eq}
 use Rattle.hk_base.specs.declared.call.Content.{Content}
-use Rattle.hk_register.specs.Machine.{In, Each, Weaker, Marked, Note, Pending, Phase, Node, Letter, Mark, Update, Item, State}
+use Rattle.hk_register.specs.Machine.{In, Each, Weaker, Marked, Note, WaitingUpdate, Phase, Node, Message, Mark, Update, Item, RegisterState}
 use Rattle.hk_base.specs.declared.stamp.Kind.{Kind}
 use Rattle.hk_register.specs.Machine.Phase.{Valid, Invalid, Write, Replay, Trans}
-use Rattle.hk_register.specs.Machine.Letter.{Inv, Ack, Val, Give}
+use Rattle.hk_register.specs.Machine.Message.{Inv, Ack, Val, Give}
 use Rattle.hk_register.specs.Machine.Item.{Called, Answered, ReadOnly, Rejected, Dropped}
 use Rattle.hk_register.specs.Effects.{Change}
 use Rattle.hk_register.specs.Parts.{Holds, Made, NoteOk, PendingOk, PhaseOk, NodeOk, Twin, MarkBegun, MarkOk, UpdateOk, LetterOk, ItemOk, TimelyAfter, Parts}
@@ -18,13 +18,13 @@ pub record Fits (n : ℕ) (x : Node) (k : Mark) : Type 0 where
   pub row : k.exact ≡ true → k.stamp ≡ x.stamp
   pub within : k.stamp ≤ x.stamp
 
-pub arrives : {old new : State} {n : ℕ} {x : Node} {ls : List Letter} {ms : List Mark} {us : List Update} {hs : List Item} → Change old new n x ls ms us hs → (k : Mark) → In ms k → Marked new k
+pub arrives : {old new : RegisterState} {n : ℕ} {x : Node} {ls : List Message} {ms : List Mark} {us : List Update} {hs : List Item} → Change old new n x ls ms us hs → (k : Mark) → In ms k → Marked new k
 arrives ch k h = ch.marks_new k h
 
-pub begins_anew : {old new : State} {n : ℕ} {x : Node} {ls : List Letter} {ms : List Mark} {us : List Update} {hs : List Item} → Change old new n x ls ms us hs → (u : Update) → In us u → In new.begun u
+pub begins_anew : {old new : RegisterState} {n : ℕ} {x : Node} {ls : List Message} {ms : List Mark} {us : List Update} {hs : List Item} → Change old new n x ls ms us hs → (u : Update) → In us u → In new.begun u
 begins_anew {old} {us = us} ch u h = rw ch.begun (in_left us old.begun u h)
 
-pub rises : {old new : State} {n : ℕ} {x : Node} {ls : List Letter} {ms : List Mark} {us : List Update} {hs : List Item} → Change old new n x ls ms us hs → (old.node n).epoch ≤ x.epoch → (old.node n).stamp ≤ x.stamp → Each (Fits n x) ms → Rises old new n x ms
+pub rises : {old new : RegisterState} {n : ℕ} {x : Node} {ls : List Message} {ms : List Mark} {us : List Update} {hs : List Item} → Change old new n x ls ms us hs → (old.node n).epoch ≤ x.epoch → (old.node n).stamp ≤ x.stamp → Each (Fits n x) ms → Rises old new n x ms
 rises {old} {new} {n} {x} {ms = ms} {us = us} ch epoch stamp fits = record {
   marks = ch.marks_kept;
   marks_from = ch.marks_from;
@@ -39,7 +39,7 @@ rises {old} {new} {n} {x} {ms = ms} {us = us} ch epoch stamp fits = record {
   within = λ k h. (each_in (Fits n x) ms k fits h).within;
 }
 
-pub weaker_ok : (V : ℕ → List ℕ) (st : State) (k j : Mark) → Weaker k j → MarkOk V st j → MarkOk V st k
+pub weaker_ok : (V : ℕ → List ℕ) (st : RegisterState) (k j : Mark) → Weaker k j → MarkOk V st j → MarkOk V st k
 weaker_ok V st k j w o = record {
   some_epoch = rw w.epoch o.some_epoch;
   epoch = rw (w.epoch, w.who) o.epoch;
@@ -55,11 +55,11 @@ weaker_ok V st k j w o = record {
   })) o.begun;
 }
 
-module _ (V : ℕ → List ℕ) (old new : State) (n : ℕ) (x : Node) (ms : List Mark) (r : Rises old new n x ms) where
+module _ (V : ℕ → List ℕ) (old new : RegisterState) (n : ℕ) (x : Node) (ms : List Mark) (r : Rises old new n x ms) where
   pub note_grows : {e s : ℕ} {k : Note} → NoteOk V old e s k → NoteOk V new e s k
   note_grows o = record { member = o.member; covers = covers_grows V old new n x ms r o.covers; exact = λ e. exact_grows V old new n x ms r (o.exact e) }
 
-  pub pending_grows : {m : ℕ} {y : Node} {p : Pending} → PendingOk V old m y p → PendingOk V new m y p
+  pub pending_grows : {m : ℕ} {y : Node} {p : WaitingUpdate} → PendingOk V old m y p → PendingOk V new m y p
   pending_grows o = record {
     ready = o.ready;
     covers = ready_covers_grows V old new n x ms r o.covers;
@@ -126,7 +126,7 @@ module _ (V : ℕ → List ℕ) (old new : State) (n : ℕ) (x : Node) (ms : Lis
     made = made_grows o.made;
   }
 
-  pub letter_grows : (l : Letter) → LetterOk V old l → LetterOk V new l
+  pub letter_grows : (l : Message) → LetterOk V old l → LetterOk V new l
   letter_grows (Inv m e s kind content) o = (covers_grows V old new n x ms r o.0, known_grows V old new n x ms r o.1)
   letter_grows (Ack m e s t) o = (covers_grows V old new n x ms r o.0, λ is. exact_grows V old new n x ms r (o.1 is))
   letter_grows (Val m e s) o = settled_grows V old new n x ms r o
@@ -144,7 +144,7 @@ module _ (V : ℕ → List ℕ) (old new : State) (n : ℕ) (x : Node) (ms : Lis
   item_grows (Dropped c s a) o = o
 
 -- what a change makes anew
-pub record Anew (V : ℕ → List ℕ) (old new : State) (n : ℕ) (x : Node) (ls : List Letter) (ms : List Mark) (us : List Update) (hs : List Item) : Type 0 where
+pub record Anew (V : ℕ → List ℕ) (old new : RegisterState) (n : ℕ) (x : Node) (ls : List Message) (ms : List Mark) (us : List Update) (hs : List Item) : Type 0 where
   pub parts : Parts V old
   pub change : Change old new n x ls ms us hs
   pub rise : Rises old new n x ms
@@ -157,7 +157,7 @@ pub record Anew (V : ℕ → List ℕ) (old new : State) (n : ℕ) (x : Node) (l
   pub items : Each (ItemOk V new) hs
   pub timely : TimelyAfter V (hs ++ old.history)
 
-pub keep : (V : ℕ → List ℕ) (old new : State) (n : ℕ) (x : Node) (ls : List Letter) (ms : List Mark) (us : List Update) (hs : List Item) → Anew V old new n x ls ms us hs → Parts V new
+pub keep : (V : ℕ → List ℕ) (old new : RegisterState) (n : ℕ) (x : Node) (ls : List Message) (ms : List Mark) (us : List Update) (hs : List Item) → Anew V old new n x ls ms us hs → Parts V new
 keep V old new n x ls ms us hs a =
     let p = a.parts in
     let ch = a.change in

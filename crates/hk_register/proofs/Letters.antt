@@ -4,18 +4,18 @@ use Rattle.std.proofs.lemmas.Bool.{false≢true}
 use Rattle.hk_base.specs.declared.call.Content.{Content}
 use Rattle.hk_base.specs.declared.call.Reply.{Reply}
 use Rattle.hk_base.specs.declared.call.Answer.{Answer}
-use Rattle.hk_register.specs.Machine.{In, Each, Item, Marked, Phase, Node, Mark, Update, State}
+use Rattle.hk_register.specs.Machine.{In, Each, Item, Marked, Phase, Node, Mark, Update, RegisterState}
 use Rattle.hk_base.specs.declared.stamp.Kind.{Kind}
-use Rattle.hk_base.specs.declared.stamp.Kind.TheVariants.{Write as Plain, Rmw}
+use Rattle.hk_base.specs.declared.stamp.Kind.TheVariants as Kind
 use Rattle.hk_register.specs.Machine.Phase.{Valid, Invalid, Write, Replay, Trans}
-use Rattle.hk_register.specs.Machine.Letter.{Inv, Ack}
+use Rattle.hk_register.specs.Machine.Message.{Inv, Ack}
 use Rattle.hk_register.specs.Effects.{Change, row_mark, cover_mark, overtaken, dropped, drop_of}
 use Rattle.hk_register.specs.Parts.{PhaseOk, Twin, ItemOk, TimelyAfter, Parts}
 use Rattle.hk_register.proofs.Grow.{Rises, known_grows, bound_grows}
 use Rattle.hk_register.proofs.Keep.{keep, rises, arrives, phase_grows, node_grows}
 use Rattle.hk_register.proofs.Helps.{pending_at, begun_from, twin_itself}
 
-module _ (V : ℕ → List ℕ) (old new : State) (parts : Parts V old) where
+module _ (V : ℕ → List ℕ) (old new : RegisterState) (parts : Parts V old) where
   -- a pending update that is overtaken, or dropped
   overtaken_ok : (n : ℕ) (x y : Node) (phase : Phase) → y.ready ≡ x.ready → y.epoch ≡ x.epoch → x.stamp ≤ y.stamp → 1 ≤ y.stamp → PhaseOk V new n x phase → PhaseOk V new n y (overtaken phase)
   overtaken_ok n x y Valid ready epoch up one o = one
@@ -24,11 +24,11 @@ module _ (V : ℕ → List ℕ) (old new : State) (parts : Parts V old) where
   overtaken_ok n x y (Trans p) ready epoch up one o = (pending_at V ready epoch up o.0, o.1)
   overtaken_ok n x y (Write p) ready epoch up one o = by_kind p.kind refl
     where
-      by_kind : (kind : Kind) → p.kind ≡ kind → PhaseOk V new n y (elim kind [ Plain ↦ Trans p | Rmw ↦ Invalid ])
-      by_kind Plain is = (pending_at V ready epoch up o.0, is)
-      by_kind Rmw is = one
+      by_kind : (kind : Kind) → p.kind ≡ kind → PhaseOk V new n y (elim kind [ Kind.Write ↦ Trans p | Kind.Rmw ↦ Invalid ])
+      by_kind Kind.Write is = (pending_at V ready epoch up o.0, is)
+      by_kind Kind.Rmw is = one
 
-  dropped_ok : (st : State) (phase : Phase) (why : Answer) → Each (ItemOk V st) (dropped phase why)
+  dropped_ok : (st : RegisterState) (phase : Phase) (why : Answer) → Each (ItemOk V st) (dropped phase why)
   dropped_ok st Valid why = tt
   dropped_ok st Invalid why = tt
   dropped_ok st (Replay p) why = tt
@@ -39,9 +39,9 @@ module _ (V : ℕ → List ℕ) (old new : State) (parts : Parts V old) where
       by_reply None = tt
       by_reply (Some r) = (tt, tt)
 
-      by_kind : (kind : Kind) → Each (ItemOk V st) (elim kind as (λ _. List Item) [ Plain ↦ [] | Rmw ↦ drop_of p.reply p.stamp why ])
-      by_kind Plain = tt
-      by_kind Rmw = by_reply p.reply
+      by_kind : (kind : Kind) → Each (ItemOk V st) (elim kind as (λ _. List Item) [ Kind.Write ↦ [] | Kind.Rmw ↦ drop_of p.reply p.stamp why ])
+      by_kind Kind.Write = tt
+      by_kind Kind.Rmw = by_reply p.reply
 
   dropped_timely : (phase : Phase) (why : Answer) (h : List Item) → TimelyAfter V h → TimelyAfter V (dropped phase why ++ h)
   dropped_timely Valid why h t = t
@@ -54,9 +54,9 @@ module _ (V : ℕ → List ℕ) (old new : State) (parts : Parts V old) where
       by_reply None = t
       by_reply (Some r) = t
 
-      by_kind : (kind : Kind) → TimelyAfter V ((elim kind as (λ _. List Item) [ Plain ↦ [] | Rmw ↦ drop_of p.reply p.stamp why ]) ++ h)
-      by_kind Plain = t
-      by_kind Rmw = by_reply p.reply
+      by_kind : (kind : Kind) → TimelyAfter V ((elim kind as (λ _. List Item) [ Kind.Write ↦ [] | Kind.Rmw ↦ drop_of p.reply p.stamp why ]) ++ h)
+      by_kind Kind.Write = t
+      by_kind Kind.Rmw = by_reply p.reply
 
   pub take_inv_kept : (n m s : ℕ) (kind : Kind) (content : Option Content) (why : Answer) → In old.letters (Inv m (old.node n).epoch s kind content) → (old.node n).stamp < s → 1 ≤ (old.node n).epoch → Change old new n (record (old.node n) { phase = overtaken (old.node n).phase; stamp = s; kind = kind; content = content; kept_val = false }) (Ack n (old.node n).epoch s s ∷ []) (record { who = n; epoch = (old.node n).epoch; stamp = s; exact = true; ready = (old.node n).ready } ∷ []) [] (dropped (old.node n).phase why) → Parts V new
   take_inv_kept n m s kind content why sent above some ch =
@@ -102,7 +102,7 @@ module _ (V : ℕ → List ℕ) (old new : State) (parts : Parts V old) where
         timely = dropped_timely (old.node n).phase why old.history parts.timely;
       })
 
-  pub ack_inv_kept : (n m s : ℕ) (kind : Kind) (content : Option Content) → In old.letters (Inv m (old.node n).epoch s kind content) → s ≤ (old.node n).stamp → 1 ≤ (old.node n).epoch → (kind ≡ Plain) ⊎ (s ≡ (old.node n).stamp) → Change old new n (old.node n) (Ack n (old.node n).epoch s (old.node n).stamp ∷ []) (cover_mark n (old.node n) s ∷ []) [] [] → Parts V new
+  pub ack_inv_kept : (n m s : ℕ) (kind : Kind) (content : Option Content) → In old.letters (Inv m (old.node n).epoch s kind content) → s ≤ (old.node n).stamp → 1 ≤ (old.node n).epoch → (kind ≡ Kind.Write) ⊎ (s ≡ (old.node n).stamp) → Change old new n (old.node n) (Ack n (old.node n).epoch s (old.node n).stamp ∷ []) (cover_mark n (old.node n) s ∷ []) [] [] → Parts V new
   ack_inv_kept n m s kind content sent upto some why ch =
       let x = old.node n in
       let k : Mark = cover_mark n x s in
@@ -114,11 +114,11 @@ module _ (V : ℕ → List ℕ) (old new : State) (parts : Parts V old) where
       let here : Marked new k = arrives ch k (inl refl) in
       let row_here : Marked new row = r.marks row (was.marked some) in
       let from = parts.marks told.0.mark told.0.marked in
-      let twin : (u : Update) → In old.begun u → u.stamp ≡ s → u.kind ≡ Rmw → Twin V new k = λ u begun is rmw.
+      let twin : (u : Update) → In old.begun u → u.stamp ≡ s → u.kind ≡ Kind.Rmw → Twin V new k = λ u begun is rmw.
       ⊎_elim
-      (λ (plain : kind ≡ Plain).
+      (λ (plain : kind ≡ Kind.Write).
       let same : told.1.update ≡ u = parts.once told.1.update u told.1.begun begun (told.1.stamp ∙ sym is) in
-      let kinds : Plain ≡ Rmw = sym (told.1.same_kind ∙ plain) ∙ ap (λ (v : Update). v.kind) same ∙ rmw in
+      let kinds : Kind.Write ≡ Kind.Rmw = sym (told.1.same_kind ∙ plain) ∙ ap (λ (v : Update). v.kind) same ∙ rmw in
       cc)
       (λ (top : s ≡ x.stamp). record { mark = row; marked = row_here; who = refl; epoch = refl; stamp = sym top; ready = λ y. y; exact = refl }) why in
       keep V old new n x _ ms _ _ (record {

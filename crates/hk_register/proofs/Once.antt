@@ -14,7 +14,7 @@ use Rattle.hk_base.specs.declared.call.Content.{Content}
 use Rattle.hk_base.specs.declared.call.Answer.TheVariants.{Busy, Aborted, Exhausted}
 use Rattle.hk_history.specs.History.{op_of, answer_of, is_void, is_unsure, is_answered}
 use Rattle.hk_history.specs.Legal.{is_entry, calls_of, tags_of, Once}
-use Rattle.hk_register.specs.Machine.{In, Update, Item, State, call_of}
+use Rattle.hk_register.specs.Machine.{In, Update, Item, RegisterState, call_of}
 use Rattle.hk_register.specs.Machine.Item.{Called, Answered, Dropped, ReadOnly, Rejected}
 use Rattle.hk_register.specs.Parts.{Parts}
 use Rattle.hk_register.specs.Calls.{IsStart, OneStart, CallParts}
@@ -97,7 +97,7 @@ unsure_not_void a e = absurd (false≢true e)
 less : (a b : ℕ) → a < b → nat_cmp a b ≡ Less
 less a b h = sym (nat_cmp_is a b Less h)
 
-module _ (V : ℕ → List ℕ) (st : State) (parts : Parts V st) (cp : CallParts st) (slots : List Slot) (pr : IsPrinted V st slots) where
+module _ (V : ℕ → List ℕ) (st : RegisterState) (parts : Parts V st) (cp : CallParts st) (slots : List Slot) (pr : IsPrinted V st slots) where
   -- how a slot's call starts: never by a call that was Busy or Exhausted
   record Started (s : Slot) : Type 0 where
     item : Item

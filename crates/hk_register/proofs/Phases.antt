@@ -2,21 +2,21 @@
 use Rattle.std.proofs.Common.{◌≡◌, ℕ, Bool, true, List, [], ◌∷◌, ◌<◌, ◌≤◌, ◌∙◌, sym, refl, inr, ⊎_elim, arith, le_trans, le_refl, None}
 use Rattle.hk_base.specs.declared.call.Answer.{Answer}
 use Rattle.hk_base.specs.declared.call.Op.{Op}
-use Rattle.hk_register.specs.Machine.{In, Note, Pending, Phase, Node, Mark, State}
+use Rattle.hk_register.specs.Machine.{In, Note, WaitingUpdate, Phase, Node, Mark, RegisterState}
 use Rattle.hk_register.specs.Machine.Phase.{Valid, Invalid, Write, Replay, Trans}
 use Rattle.hk_register.specs.Machine.Item.{Answered, ReadOnly, Rejected}
-use Rattle.hk_register.specs.Machine.Letter.{Inv, Ack, Val}
+use Rattle.hk_register.specs.Machine.Message.{Inv, Ack, Val}
 use Rattle.hk_register.specs.Facts.{Covers, ReadyCovers, Settled, Rests}
 use Rattle.hk_register.specs.Effects.{Change, Has, AllNoted, Leased, NotesAfter, fresh_pending, Stays, register_of, answer_of, row_mark, with_notes}
 use Rattle.hk_register.specs.Parts.{Known, NoteOk, PendingOk, PhaseOk, Parts}
 use Rattle.hk_register.proofs.Begins.{fresh_row, fresh_rests}
 use Rattle.hk_register.proofs.Helps.{pending_of, pending_at, cover_of, row_ready_exact, completes, settles_there, answers_ok, answers_timely, keep_phase}
 
-module _ (V : ℕ → List ℕ) (old new : State) (parts : Parts V old) (n : ℕ) where
-  the_pending : (p : Pending) → Has (old.node n).phase p → PendingOk V old n (old.node n) p
+module _ (V : ℕ → List ℕ) (old new : RegisterState) (parts : Parts V old) (n : ℕ) where
+  the_pending : (p : WaitingUpdate) → Has (old.node n).phase p → PendingOk V old n (old.node n) p
   the_pending p has = pending_of V old n (old.node n) (old.node n).phase p has (parts.nodes n).phase
 
-  with_notes_ok : (x y : Node) (phase : Phase) (p : Pending) (after : List Note) → y.ready ≡ x.ready → y.epoch ≡ x.epoch → y.stamp ≡ x.stamp → Has phase p → ((k : Note) → In after k → NoteOk V old x.epoch p.stamp k) → PhaseOk V old n x phase → PhaseOk V old n y (with_notes phase after)
+  with_notes_ok : (x y : Node) (phase : Phase) (p : WaitingUpdate) (after : List Note) → y.ready ≡ x.ready → y.epoch ≡ x.epoch → y.stamp ≡ x.stamp → Has phase p → ((k : Note) → In after k → NoteOk V old x.epoch p.stamp k) → PhaseOk V old n x phase → PhaseOk V old n y (with_notes phase after)
   with_notes_ok x y Valid p after ready epoch stamp has ok o = absurd has
   with_notes_ok x y Invalid p after ready epoch stamp has ok o = absurd has
   with_notes_ok x y (Write q) p after ready epoch stamp has ok o = (noted, o.1 ∙ sym stamp)
@@ -32,7 +32,7 @@ module _ (V : ℕ → List ℕ) (old new : State) (parts : Parts V old) (n : ℕ
       noted : PendingOk V old n y (record q { notes = after })
       noted = record { ready = ready ∙ o.0.ready; covers = rw epoch o.0.covers; below = rw stamp o.0.below; positive = o.0.positive; known = o.0.known; notes = λ k h. rw (epoch, has) (ok k h) }
 
-  pub note_ack_kept : (m t : ℕ) (p : Pending) (after : List Note) → In old.letters (Ack m (old.node n).epoch p.stamp t) → Has (old.node n).phase p → In (V (old.node n).epoch) m → NotesAfter p.notes after m p.stamp t → Change old new n (record (old.node n) { phase = with_notes (old.node n).phase after }) [] [] [] [] → Parts V new
+  pub note_ack_kept : (m t : ℕ) (p : WaitingUpdate) (after : List Note) → In old.letters (Ack m (old.node n).epoch p.stamp t) → Has (old.node n).phase p → In (V (old.node n).epoch) m → NotesAfter p.notes after m p.stamp t → Change old new n (record (old.node n) { phase = with_notes (old.node n).phase after }) [] [] [] [] → Parts V new
   note_ack_kept m t p after sent has member noted ch =
       let x = old.node n in
       let told = parts.letters _ sent in
@@ -42,7 +42,7 @@ module _ (V : ℕ → List ℕ) (old new : State) (parts : Parts V old) (n : ℕ
       (λ (is : (k.who ≡ m) × (k.exact ≡ true → t ≡ p.stamp)). record { member = rw is.0 member; covers = rw is.0 told.0; exact = λ e. rw is.0 (told.1 (is.1 e)) }) (noted k h) in
       keep_phase V old new parts n (with_notes x.phase after) x.kept_val [] [] ch (with_notes_ok x (record x { phase = with_notes x.phase after }) x.phase p after refl refl refl has ok (parts.nodes n).phase) (parts.nodes n).kept tt tt parts.timely
 
-  pub settle_kept : (p : Pending) → Has (old.node n).phase p → AllNoted V (old.node n).epoch n p.notes → p.stamp ≡ (old.node n).stamp → ((k : Note) → In p.notes k → k.exact ≡ true) → Change old new n (record (old.node n) { phase = Valid }) (Val n (old.node n).epoch p.stamp ∷ []) [] [] (answer_of p.reply p.stamp) → Parts V new
+  pub settle_kept : (p : WaitingUpdate) → Has (old.node n).phase p → AllNoted V (old.node n).epoch n p.notes → p.stamp ≡ (old.node n).stamp → ((k : Note) → In p.notes k → k.exact ≡ true) → Change old new n (record (old.node n) { phase = Valid }) (Val n (old.node n).epoch p.stamp ∷ []) [] [] (answer_of p.reply p.stamp) → Parts V new
   settle_kept p has noted same exact ch =
       let x = old.node n in
       let w = the_pending p has in
@@ -51,13 +51,13 @@ module _ (V : ℕ → List ℕ) (old new : State) (parts : Parts V old) (n : ℕ
       let rests : Rests V old x.stamp = rw same at at_pending in
       keep_phase V old new parts n Valid x.kept_val (Val n x.epoch p.stamp ∷ []) (answer_of p.reply p.stamp) ch rests (parts.nodes n).kept (done, tt) (answers_ok V old p.reply p.stamp (completes V old n x p (parts.nodes n) w noted) w.positive) (answers_timely V p.reply p.stamp old.history parts.timely)
 
-  pub finish_valid_kept : (p : Pending) → Has (old.node n).phase p → AllNoted V (old.node n).epoch n p.notes → (old.node n).kept_val ≡ true → Change old new n (record (old.node n) { phase = Valid }) [] [] [] (answer_of p.reply p.stamp) → Parts V new
+  pub finish_valid_kept : (p : WaitingUpdate) → Has (old.node n).phase p → AllNoted V (old.node n).epoch n p.notes → (old.node n).kept_val ≡ true → Change old new n (record (old.node n) { phase = Valid }) [] [] [] (answer_of p.reply p.stamp) → Parts V new
   finish_valid_kept p has noted kept ch =
       let x = old.node n in
       let w = the_pending p has in
       keep_phase V old new parts n Valid x.kept_val [] (answer_of p.reply p.stamp) ch ((parts.nodes n).kept kept) (parts.nodes n).kept tt (answers_ok V old p.reply p.stamp (completes V old n x p (parts.nodes n) w noted) w.positive) (answers_timely V p.reply p.stamp old.history parts.timely)
 
-  pub finish_invalid_kept : (p : Pending) → Has (old.node n).phase p → AllNoted V (old.node n).epoch n p.notes → Change old new n (record (old.node n) { phase = Invalid }) [] [] [] (answer_of p.reply p.stamp) → Parts V new
+  pub finish_invalid_kept : (p : WaitingUpdate) → Has (old.node n).phase p → AllNoted V (old.node n).epoch n p.notes → Change old new n (record (old.node n) { phase = Invalid }) [] [] [] (answer_of p.reply p.stamp) → Parts V new
   finish_invalid_kept p has noted ch =
       let x = old.node n in
       let w = the_pending p has in
@@ -84,13 +84,13 @@ module _ (V : ℕ → List ℕ) (old new : State) (parts : Parts V old) (n : ℕ
       let x = old.node n in
       let was = parts.nodes n in
       let one : 1 ≤ x.stamp = rw invalid at was.phase in
-      let p : Pending = fresh_pending x.stamp x.kind x.content None in
+      let p : WaitingUpdate = fresh_pending x.stamp x.kind x.content None in
       let e = row_ready_exact V was ready in
       let covers : ReadyCovers old n x.epoch x.stamp = record { mark = e.mark; marked = e.marked; who = e.who; epoch = e.epoch; stamp = e.stamp; ready = e.ready } in
       let w : PendingOk V old n (record x { phase = Replay p }) p = record { ready = ready; covers = covers; below = le_refl x.stamp; positive = one; known = known_row one; notes = λ k h. absurd h } in
       keep_phase V old new parts n (Replay p) x.kept_val (Inv n x.epoch x.stamp x.kind x.content ∷ []) [] ch (w, refl) was.kept ((cover_of V covers, known_row one), tt) tt parts.timely
 
-  pub resend_kept : (p : Pending) → Has (old.node n).phase p → Change old new n (old.node n) (Inv n (old.node n).epoch p.stamp p.kind p.content ∷ []) [] [] [] → Parts V new
+  pub resend_kept : (p : WaitingUpdate) → Has (old.node n).phase p → Change old new n (old.node n) (Inv n (old.node n).epoch p.stamp p.kind p.content ∷ []) [] [] [] → Parts V new
   resend_kept p has ch =
       let x = old.node n in
       let w = the_pending p has in

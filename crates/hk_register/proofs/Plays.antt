@@ -2,7 +2,7 @@
 use Rattle.std.proofs.Common.{ℕ, Bool, true, false, cond, [], ◌∷◌, refl, inl, inr, arith, eqb}
 use Rattle.std.specs.Prelude.{take}
 use Rattle.std.proofs.lemmas.Bool.{false≢true}
-use Rattle.hk_register.specs.Machine.{In, State}
+use Rattle.hk_register.specs.Machine.{In, RegisterState}
 use Rattle.hk_register.specs.Runs.{start, played, Plays}
 use Rattle.hk_register.specs.Worked.{five, nine, exactly, with_more, two, three, shrinking, growing, settled_rule, two_increments, aborted_in_effect, val_kept_in_trans, joiner, deleted_and_added, SettledRule, TwoIncrements, AbortedInEffect, ValKeptInTrans, Joiner, DeletedAndAdded}
 use Rattle.hk_register.proofs.Worked.{blind, not_plain, fresh, leased, noted, noted_after, inexact, all_exact}
@@ -47,7 +47,7 @@ settled_rule_plays = (
   ),
 )
   where
-    at : ℕ → State
+    at : ℕ → RegisterState
     at k = played (start three) (take k settled_rule)
 
 pub settled_rule_worked : SettledRule
@@ -89,7 +89,7 @@ two_increments_plays = (
   ),
 )
   where
-    at : ℕ → State
+    at : ℕ → RegisterState
     at k = played (start two) (take k two_increments)
 
 pub two_increments_worked : TwoIncrements
@@ -143,7 +143,7 @@ aborted_in_effect_plays = (
   ),
 )
   where
-    at : ℕ → State
+    at : ℕ → RegisterState
     at k = played (start shrinking) (take k aborted_in_effect)
 
 pub aborted_in_effect_worked : AbortedInEffect
@@ -179,7 +179,7 @@ val_kept_in_trans_plays = (
   ),
 )
   where
-    at : ℕ → State
+    at : ℕ → RegisterState
     at k = played (start two) (take k val_kept_in_trans)
 
 pub val_kept_in_trans_worked : ValKeptInTrans
@@ -236,7 +236,7 @@ joiner_plays = (
   ),
 )
   where
-    at : ℕ → State
+    at : ℕ → RegisterState
     at k = played (start growing) (take k joiner)
 
 pub joiner_worked : Joiner
@@ -287,7 +287,7 @@ deleted_and_added_plays = (
   ),
 )
   where
-    at : ℕ → State
+    at : ℕ → RegisterState
     at k = played (start two) (take k deleted_and_added)
 
 pub deleted_and_added_worked : DeletedAndAdded

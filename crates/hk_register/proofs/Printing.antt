@@ -6,7 +6,7 @@ use Rattle.std.specs.List.{list_any}
 use Rattle.hk_base.specs.declared.call.Op.{Op}
 use Rattle.hk_base.specs.declared.call.Answer.{Answer}
 use Rattle.hk_base.specs.declared.call.Content.{Content}
-use Rattle.hk_register.specs.Machine.{In, Weaker, Mark, Update, Item, State}
+use Rattle.hk_register.specs.Machine.{In, Weaker, Mark, Update, Item, RegisterState}
 use Rattle.hk_register.specs.Machine.Item.{Called, Answered, Dropped, ReadOnly, Rejected}
 use Rattle.hk_register.specs.Facts.{Covers, Complete}
 use Rattle.hk_register.specs.Runs.{is_in}
@@ -28,7 +28,7 @@ mark_is n e s k is =
 is_mark_from : (n e s : ℕ) (k : Mark) → k.who ≡ n → k.epoch ≡ e → k.stamp ≡ s → is_mark n e s k ≡ true
 is_mark_from n e s k a b c = and_from (eqb k.who n) (eqb k.epoch e && eqb k.stamp s) (eq-eqb k.who n a) (and_from (eqb k.epoch e) (eqb k.stamp s) (eq-eqb k.epoch e b) (eq-eqb k.stamp s c))
 
-module _ (V : ℕ → List ℕ) (st : State) where
+module _ (V : ℕ → List ℕ) (st : RegisterState) where
   -- the test decides
   complete_is : (s : ℕ) → is_complete V st s ≡ true → Complete V st s
   complete_is s is =
@@ -230,7 +230,7 @@ in_sorted [] one x h = absurd h
 in_sorted (s ∷ ss) one x (inl is) = subst (In (insert_slot s (sort_slots ss))) (sym is) (new_inserted s (sort_slots ss) (λ r h e f. one s r (inl refl) (inr (sorted_in ss r h)) (sym e) (sym f)))
 in_sorted (s ∷ ss) one x (inr h) = old_inserted s (sort_slots ss) x (in_sorted ss (λ a b p q. one a b (inr p) (inr q)) x h)
 
-module _ (V : ℕ → List ℕ) (st : State) (parts : Parts V st) where
+module _ (V : ℕ → List ℕ) (st : RegisterState) (parts : Parts V st) where
   abbrev all_slots : List Slot
   all_slots = update_slots V st st.begun ++ look_slots st.history
 

@@ -1,7 +1,7 @@
 -- Every run keeps the parts.
 use Rattle.std.proofs.Common.{◌≡◌, ℕ, true, false, List, [], ◌∷◌, map, refl, ap, inl, inr, ⊎_elim, arith, le_refl}
 use Rattle.std.proofs.lemmas.Bool.{false≢true}
-use Rattle.hk_register.specs.Machine.{In, Weaker, Mark, Pending, State}
+use Rattle.hk_register.specs.Machine.{In, Weaker, Mark, WaitingUpdate, RegisterState}
 use Rattle.hk_register.specs.Effects.{Effect, Happens, Has, row_mark}
 use Rattle.hk_register.specs.Effects.Effect.{Begin, TakeInv, AckInv, CounterInv, NoteAck, Settle, FinishValid, FinishInvalid, TakeVal, KeepVal, StartReplay, Resend, Install, InstallPending, GiveRow, CopyRow, PassRow, CopyValid, GetReady, Serve, Refuse, Quiet}
 use Rattle.hk_register.specs.Parts.{Parts, NodeOk, MarkOk}
@@ -16,7 +16,7 @@ use Rattle.hk_register.proofs.Begins.{begin_kept}
 use Rattle.hk_register.proofs.Installs.{install_kept, install_pending_kept}
 use Rattle.hk_register.proofs.Copies.{give_row_kept, copy_row_kept, pass_row_kept, copy_valid_kept, get_ready_kept}
 
-pub effect_kept : (V : ℕ → List ℕ) → (old new : State) → Parts V old → (e : Effect) → Happens V old e new → Parts V new
+pub effect_kept : (V : ℕ → List ℕ) → (old new : RegisterState) → Parts V old → (e : Effect) → Happens V old e new → Parts V new
 effect_kept V old new parts (Begin n u) happens = begin_kept V old new parts n u happens.allowed.0 happens.allowed.1 happens.allowed.2 happens.allowed.3 happens.allowed.4 happens.allowed.5 happens.allowed.6 happens.allowed.7 happens.allowed.8 happens.allowed.9 happens.change
 effect_kept V old new parts (TakeInv n m s kind content why) happens = take_inv_kept V old new parts n m s kind content why happens.allowed.0 happens.allowed.1 happens.allowed.2 happens.change
 effect_kept V old new parts (AckInv n m s kind content) happens = ack_inv_kept V old new parts n m s kind content happens.allowed.0 happens.allowed.1 happens.allowed.2 happens.allowed.3 happens.change
@@ -40,11 +40,11 @@ effect_kept V old new parts (Serve n call op answer) happens = P.look_kept V old
 effect_kept V old new parts (Refuse n call op answer) happens = P.refuse_kept V old new parts n call op answer happens.change
 effect_kept V old new parts (Quiet n) happens = P.quiet_kept V old new parts n happens.change
 
-run_kept : (V : ℕ → List ℕ) → (run : List Step) (st : State) → Parts V st → Run V st run → Parts V (last st run)
+run_kept : (V : ℕ → List ℕ) → (run : List Step) (st : RegisterState) → Parts V st → Run V st run → Parts V (last st run)
 run_kept V [] st parts r = parts
 run_kept V (s ∷ rest) st parts r = run_kept V rest s.state (effect_kept V st s.state parts s.effect r.0) r.1
 
-run_calls : (V : ℕ → List ℕ) → (run : List Step) (st : State) → Parts V st → CallParts st → Run V st run → CallParts (last st run)
+run_calls : (V : ℕ → List ℕ) → (run : List Step) (st : RegisterState) → Parts V st → CallParts st → Run V st run → CallParts (last st run)
 run_calls V [] st parts calls r = calls
 run_calls V (s ∷ rest) st parts calls r = run_calls V rest s.state (effect_kept V st s.state parts s.effect r.0) (effect_calls V st s.state parts calls s.effect r.0) r.1
 
@@ -85,10 +85,10 @@ start_parts V = record {
         (λ (t : (is_in n (V 1) ≡ true) × In (V 1) n). record { some_epoch = le_refl 1; epoch = rw t.0 (le_refl 1); member = h; top = rw t.0 (le_refl 0); bound = λ _ _ e one below. absurd (omega arith); begun = inl refl })
         (λ (t : (is_in n (V 1) ≡ false) × (In (V 1) n → ⊥)). absurd (t.1 h)) (is_in_cases n (V 1))
 
-pub reached_parts : (V : ℕ → List ℕ) (st : State) → Reached V st → Parts V st
+pub reached_parts : (V : ℕ → List ℕ) (st : RegisterState) → Reached V st → Parts V st
 reached_parts V st r = rw r.at (run_kept V r.run (start V) (start_parts V) r.runs)
 
-pub reached_calls : (V : ℕ → List ℕ) (st : State) → Reached V st → CallParts st
+pub reached_calls : (V : ℕ → List ℕ) (st : RegisterState) → Reached V st → CallParts st
 reached_calls V st r = rw r.at (run_calls V r.run (start V) (start_parts V) start_calls r.runs)
   where
     start_calls : CallParts (start V)
@@ -100,7 +100,7 @@ reached_calls V st r = rw r.at (run_calls V r.run (start V) (start_parts V) star
       replies = tt;
     }
       where
-        no_pending : (n : ℕ) (p : Pending) → Has ((start V).node n).phase p → ⊥
+        no_pending : (n : ℕ) (p : WaitingUpdate) → Has ((start V).node n).phase p → ⊥
         no_pending n p has = ⊎_elim
             (λ (h : (is_in n (V 1) ≡ true) × In (V 1) n). rw h.0 at has)
             (λ (h : (is_in n (V 1) ≡ false) × (In (V 1) n → ⊥)). rw h.0 at has) (is_in_cases n (V 1))

@@ -2,7 +2,7 @@
 use Rattle.std.proofs.Common.{◌≡◌, ℕ, Bool, true, false, cond, ◌+◌, ◌*◌, ◌<◌, ◌≤◌, Some, None, inl, inr, ⊎_elim, arith, ltb}
 use Rattle.std.proofs.lemmas.Bool.{cases_lt}
 use Rattle.hk_base.specs.declared.stamp.Kind.{Kind}
-use Rattle.hk_base.specs.declared.stamp.Kind.TheVariants.{Write as Plain, Rmw}
+use Rattle.hk_base.specs.declared.stamp.Kind.TheVariants as Kind
 use Rattle.hk_base.specs.declared.stamp.Stamp.{Stamp}
 use Rattle.hk_base.specs.declared.stamp.TheConstants.{MAX_VERSION}
 use Rattle.hk_base.specs.Stamp.{tag_of}
@@ -19,8 +19,8 @@ some : (a b : Stamp) → Some a ≡ Some b → a ≡ b
 some a b e = cc
 
 steps : (kind : Kind) (v m n : ℕ) → m < 65536 → (v + step_of kind) * 65536 + n ≡ next_stamp kind (v * 65536 + m) n
-steps Plain v m n p = omega arith
-steps Rmw v m n p = omega arith
+steps Kind.Write v m n p = omega arith
+steps Kind.Rmw v m n p = omega arith
 
 pub tags_order : TagsOrderStamps
 tags_order a b p q = (

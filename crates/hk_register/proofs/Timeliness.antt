@@ -9,7 +9,7 @@ use Rattle.hk_history.specs.declared.event.Event.{Event}
 use Rattle.hk_history.specs.declared.event.Event.TheVariants.{Call, Reply}
 use Rattle.hk_history.specs.History.{answer_of, is_call, is_reply, is_answered}
 use Rattle.hk_history.specs.Legal.{is_entry, Timely}
-use Rattle.hk_register.specs.Machine.{In, Item, State, call_of}
+use Rattle.hk_register.specs.Machine.{In, Item, RegisterState, call_of}
 use Rattle.hk_register.specs.Machine.Item.{Called, Answered, Dropped, ReadOnly, Rejected}
 use Rattle.hk_register.specs.Parts.{Parts, TimelyAfter}
 use Rattle.hk_register.specs.Calls.{IsStart, IsReply, CallParts}
@@ -107,7 +107,7 @@ module _ (V : ℕ → List ℕ) where
           let high : position_or_len (is_call (call_of j)) (events_of items ++ (item_events x ++ tail)) ≤ length (events_of items) = rw f.2 (not_after (is_call (call_of j)) (events_of items) (Call (record { 0 = call_of x }) f.0) (f.1 ++ tail) calls) in
           absurd (omega arith)
 
-module _ (V : ℕ → List ℕ) (st : State) (parts : Parts V st) (cp : CallParts st) (slots : List Slot) (pr : IsPrinted V st slots) where
+module _ (V : ℕ → List ℕ) (st : RegisterState) (parts : Parts V st) (cp : CallParts st) (slots : List Slot) (pr : IsPrinted V st slots) where
   -- where an answered slot's reply stands among older items
   abbrev Where : List Item → Slot → Type 0
   Where older a = (((c : ℕ) × (x : Answer) × In older (Answered c a.stamp x)) ⊎ ((c : ℕ) × (op : Op) × (held : Option Content) × (x : Answer) × In older (ReadOnly c a.stamp op held x))) × (a.place ≤ length older)

@@ -3,11 +3,11 @@ use Rattle.std.proofs.Common.{◌≡◌, ℕ, Bool, true, false, not, ◌||◌, 
 use Rattle.std.proofs.lemmas.Bool.{false≢true, eqb-true, eq-eqb, ne_eqb, or_cases, ltb-true}
 use Rattle.std.specs.Prelude.{nat_lt}
 use Rattle.std.specs.List.{list_any, list_all}
-use Rattle.hk_base.specs.declared.stamp.Kind.TheVariants.{Write as Plain, Rmw}
+use Rattle.hk_base.specs.declared.stamp.Kind.TheVariants as Kind
 use Rattle.hk_base.specs.declared.call.Content.{Content}
 use Rattle.hk_base.specs.declared.call.Op.TheVariants as op
 use Rattle.hk_base.specs.Register.{act}
-use Rattle.hk_register.specs.Machine.{In, Each, Marked, Note, Mark, Update, Item, State, call_of}
+use Rattle.hk_register.specs.Machine.{In, Each, Marked, Note, Mark, Update, Item, RegisterState, call_of}
 use Rattle.hk_register.specs.Effects.{Effect, Happens, Allowed, register_of, IsBlind, Fresh, Leased, AllNoted, AllExact, NotesAfter, done}
 use Rattle.hk_register.specs.Runs.{Step, Run, Reached, is_in, start, last, after, played, Plays}
 use Rattle.hk_register.specs.Worked.{Possible}
@@ -24,20 +24,20 @@ blind c r r' tag = at r.content r'.content
     at (Some x) None = refl
     at (Some x) (Some y) = refl
 
-pub not_plain : {A : Type 0} → Rmw ≡ Plain → A
+pub not_plain : {A : Type 0} → Kind.Rmw ≡ Kind.Write → A
 not_plain e = absurd (apart e)
   where
-    apart : Rmw ≡ Plain → ⊥
+    apart : Kind.Rmw ≡ Kind.Write → ⊥
     apart e = cc
 
-pub fresh : (st : State) (call : ℕ) → list_all (λ i. not (eqb (call_of i) call)) st.history ≡ true → Fresh st call
+pub fresh : (st : RegisterState) (call : ℕ) → list_all (λ i. not (eqb (call_of i) call)) st.history ≡ true → Fresh st call
 fresh st call e i h same = differs (eqb (call_of i) call) (all_in (λ i. not (eqb (call_of i) call)) st.history e i h) (eq-eqb (call_of i) call same)
   where
     differs : (b : Bool) → not b ≡ true → b ≡ true → ⊥
     differs true e f = false≢true e
     differs false e f = false≢true f
 
-pub leased : (V : ℕ → List ℕ) (st : State) (n : ℕ) → list_all (λ (j : Mark). nat_lt j.epoch (st.node n).epoch || is_in n (V j.epoch)) st.marks ≡ true → Leased V st n
+pub leased : (V : ℕ → List ℕ) (st : RegisterState) (n : ℕ) → list_all (λ (j : Mark). nat_lt j.epoch (st.node n).epoch || is_in n (V j.epoch)) st.marks ≡ true → Leased V st n
 leased V st n e k marked late =
     let j = marked.0 in
     ⊎_elim
@@ -65,7 +65,7 @@ all_exact notes e = all_in (λ (k : Note). k.exact) notes e
 itself : (k : Mark) → Rattle.hk_register.specs.Machine.Weaker k k
 itself k = record { who = refl; epoch = refl; stamp = refl; exact = λ e. e; ready = λ e. e }
 
-happens : (V : ℕ → List ℕ) (st : State) (e : Effect) → Allowed V st e → Happens V st e (after st e)
+happens : (V : ℕ → List ℕ) (st : RegisterState) (e : Effect) → Allowed V st e → Happens V st e (after st e)
 happens V st e allowed = record {
   allowed = allowed;
   change = record {
@@ -81,15 +81,15 @@ happens V st e allowed = record {
 }
 
 -- computed runs are runs
-abbrev pub steps_of : State → List Effect → List Step
+abbrev pub steps_of : RegisterState → List Effect → List Step
 steps_of st [] = []
 steps_of st (e ∷ es) = record { effect = e; state = after st e } ∷ steps_of (after st e) es
 
-runs : (V : ℕ → List ℕ) (st : State) (es : List Effect) → Plays V st es → Run V st (steps_of st es)
+runs : (V : ℕ → List ℕ) (st : RegisterState) (es : List Effect) → Plays V st es → Run V st (steps_of st es)
 runs V st [] p = tt
 runs V st (e ∷ es) p = (happens V st e p.0, runs V (after st e) es p.1)
 
-ends_at : (st : State) (es : List Effect) → played st es ≡ last st (steps_of st es)
+ends_at : (st : RegisterState) (es : List Effect) → played st es ≡ last st (steps_of st es)
 ends_at st [] = refl
 ends_at st (e ∷ es) = ends_at (after st e) es
 
@@ -97,19 +97,19 @@ pub reached : (V : ℕ → List ℕ) (es : List Effect) → Plays V (start V) es
 reached V es p = record { run = steps_of (start V) es; runs = runs V (start V) es p; at = ends_at (start V) es }
 
 -- each effect of a computed run is possible
-pub each_possible : (V : ℕ → List ℕ) (st : State) (es : List Effect) → Reached V st → Plays V st es → Each Possible es
+pub each_possible : (V : ℕ → List ℕ) (st : RegisterState) (es : List Effect) → Reached V st → Plays V st es → Each Possible es
 each_possible V st [] r p = tt
 each_possible V st (e ∷ es) r p = (record { V = V; before = st; reached = r; next = after st e; happens = happens V st e p.0 }, each_possible V (after st e) es (further V st e r p.0) p.1)
   where
-    last_more : (st : State) (run : List Step) (s : Step) → last st (run ++ (s ∷ [])) ≡ s.state
+    last_more : (st : RegisterState) (run : List Step) (s : Step) → last st (run ++ (s ∷ [])) ≡ s.state
     last_more st [] s = refl
     last_more st (x ∷ run) s = last_more x.state run s
 
-    run_more : (V : ℕ → List ℕ) (st : State) (run : List Step) (s : Step) → Run V st run → Happens V (last st run) s.effect s.state → Run V st (run ++ (s ∷ []))
+    run_more : (V : ℕ → List ℕ) (st : RegisterState) (run : List Step) (s : Step) → Run V st run → Happens V (last st run) s.effect s.state → Run V st (run ++ (s ∷ []))
     run_more V st [] s r h = (h, tt)
     run_more V st (x ∷ run) s r h = (r.0, run_more V x.state run s r.1 h)
 
-    further : (V : ℕ → List ℕ) (st : State) (e : Effect) → Reached V st → Allowed V st e → Reached V (after st e)
+    further : (V : ℕ → List ℕ) (st : RegisterState) (e : Effect) → Reached V st → Allowed V st e → Reached V (after st e)
     further V st e r a =
         let s : Step = record { effect = e; state = after st e } in
-        record { run = r.run ++ (s ∷ []); runs = run_more V (start V) r.run s r.runs (subst (λ (t : State). Happens V t e (after st e)) r.at (happens V st e a)); at = sym (last_more (start V) r.run s) }
+        record { run = r.run ++ (s ∷ []); runs = run_more V (start V) r.run s r.runs (subst (λ (t : RegisterState). Happens V t e (after st e)) r.at (happens V st e a)); at = sym (last_more (start V) r.run s) }

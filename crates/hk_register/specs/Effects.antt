@@ -13,12 +13,12 @@ use Rattle.hk_base.specs.declared.call.Answer.{Answer}
 use Rattle.hk_base.specs.declared.call.Reply.{Reply}
 use Rattle.hk_base.specs.declared.call.Op.{Op}
 use Rattle.hk_base.specs.declared.stamp.Kind.{Kind}
-use Rattle.hk_base.specs.declared.stamp.Kind.TheVariants.{Write as Plain, Rmw}
+use Rattle.hk_base.specs.declared.stamp.Kind.TheVariants as Kind
 use Rattle.hk_base.specs.Register.{Register, act, stays}
 use Rattle.hk_history.specs.History.{is_void, is_unsure, is_answered}
-use Rattle.hk_register.specs.Machine.{call_of, In, Weaker, Marked, Note, Pending, Phase, Node, Letter, Mark, Update, Item, State}
+use Rattle.hk_register.specs.Machine.{call_of, In, Weaker, Marked, Note, WaitingUpdate, Phase, Node, Message, Mark, Update, Item, RegisterState}
 use Rattle.hk_register.specs.Machine.Phase.{Valid, Invalid, Write, Replay, Trans}
-use Rattle.hk_register.specs.Machine.Letter.{Inv, Ack, Val, Give}
+use Rattle.hk_register.specs.Machine.Message.{Inv, Ack, Val, Give}
 use Rattle.hk_register.specs.Machine.Item.{Called, Answered, ReadOnly, Rejected, Dropped}
 
 -- The effects. n is always the node that acts, m the sender of the letter that it takes.
@@ -27,16 +27,16 @@ pub data Effect : Type 0 where
   TakeInv : (n m s : ℕ) → (kind : Kind) → (content : Option Content) → (why : Answer) → Effect
   AckInv : (n m s : ℕ) → (kind : Kind) → (content : Option Content) → Effect
   CounterInv : (n m s : ℕ) → (kind : Kind) → (content : Option Content) → Effect
-  NoteAck : (n m top : ℕ) → (p : Pending) → (notes : List Note) → Effect
-  Settle : (n : ℕ) → (p : Pending) → Effect
-  FinishValid : (n : ℕ) → (p : Pending) → Effect
-  FinishInvalid : (n : ℕ) → (p : Pending) → Effect
+  NoteAck : (n m top : ℕ) → (p : WaitingUpdate) → (notes : List Note) → Effect
+  Settle : (n : ℕ) → (p : WaitingUpdate) → Effect
+  FinishValid : (n : ℕ) → (p : WaitingUpdate) → Effect
+  FinishInvalid : (n : ℕ) → (p : WaitingUpdate) → Effect
   TakeVal : (n m : ℕ) → Effect
   KeepVal : (n m : ℕ) → Effect
   StartReplay : (n : ℕ) → Effect
-  Resend : (n : ℕ) → (p : Pending) → Effect
+  Resend : (n : ℕ) → (p : WaitingUpdate) → Effect
   Install : (n e : ℕ) → Effect
-  InstallPending : (n e : ℕ) → (p : Pending) → Effect
+  InstallPending : (n e : ℕ) → (p : WaitingUpdate) → Effect
   GiveRow : (n : ℕ) → (valid : Bool) → Effect
   CopyRow : (n m s : ℕ) → (kind : Kind) → (content : Option Content) → (valid : Bool) → Effect
   PassRow : (n m s : ℕ) → (kind : Kind) → (content : Option Content) → (valid : Bool) → Effect
@@ -48,10 +48,10 @@ pub data Effect : Type 0 where
 
 -- One node changes, and letters, marks, updates and items are added. Letters may also be forgotten, and a mark may be
 -- told again with less: so a group that keeps its letters or marks in another way still makes this change.
-pub record Change (old new : State) (n : ℕ) (x : Node) (ls : List Letter) (ms : List Mark) (us : List Update) (hs : List Item) : Type 0 where
+pub record Change (old new : RegisterState) (n : ℕ) (x : Node) (ls : List Message) (ms : List Mark) (us : List Update) (hs : List Item) : Type 0 where
   pub here : new.node n ≡ x
   pub there : (m : ℕ) → m ≢ n → new.node m ≡ old.node m
-  pub letters : (l : Letter) → In new.letters l → In ls l ⊎ In old.letters l
+  pub letters : (l : Message) → In new.letters l → In ls l ⊎ In old.letters l
   pub marks_kept : (k : Mark) → Marked old k → Marked new k
   pub marks_new : (k : Mark) → In ms k → Marked new k
   pub marks_from : (k : Mark) → Marked new k → (j : Mark) × Weaker k j × (In ms j ⊎ Marked old j)
@@ -69,14 +69,14 @@ cover_mark n x s = record { who = n; epoch = x.epoch; stamp = s; exact = false; 
 -- A write steps the version by two, a read-modify-write by one: so of two updates of one base a write is above a
 -- read-modify-write (Hermes, "Read-Modify-Writes").
 abbrev pub step_of : Kind → ℕ
-step_of Plain = 2
-step_of Rmw = 1
+step_of Kind.Write = 2
+step_of Kind.Rmw = 1
 
 -- The tag of the next stamp: the version of the base, raised by the step of the kind, and the coordinator's number.
 abbrev pub next_stamp : Kind → ℕ → ℕ → ℕ
 next_stamp kind base n = (base / 65536 + step_of kind) * 65536 + n
 
-abbrev pub fresh_pending : ℕ → Kind → Option Content → Option Reply → Pending
+abbrev pub fresh_pending : ℕ → Kind → Option Content → Option Reply → WaitingUpdate
 fresh_pending stamp kind content reply = record { stamp = stamp; kind = kind; content = content; reply = reply; notes = [] }
 
 abbrev pub register_of : Option Content → ℕ → Register
@@ -102,7 +102,7 @@ abbrev pub reply_of : Update → Reply
 reply_of u = record { call = record { 0 = u.call }; answer = u.answer }
 
 -- no call so far has this number
-abbrev pub Fresh : State → ℕ → Type 0
+abbrev pub Fresh : RegisterState → ℕ → Type 0
 Fresh st call = (i : Item) → In st.history i → call_of i ≢ call
 
 -- the state after an INV above the row: a plain write waits on in Trans, a read-modify-write and a replay are given up
@@ -111,10 +111,10 @@ overtaken Valid = Invalid
 overtaken Invalid = Invalid
 overtaken (Replay p) = Invalid
 overtaken (Trans p) = Trans p
-overtaken (Write p) = elim p.kind [ Plain ↦ Trans p | Rmw ↦ Invalid ]
+overtaken (Write p) = elim p.kind [ Kind.Write ↦ Trans p | Kind.Rmw ↦ Invalid ]
 
 -- the node's pending update is p
-abbrev pub Has : Phase → Pending → Type 0
+abbrev pub Has : Phase → WaitingUpdate → Type 0
 Has Valid p = ⊥
 Has Invalid p = ⊥
 Has (Write q) p = q ≡ p
@@ -160,13 +160,13 @@ dropped Valid why = []
 dropped Invalid why = []
 dropped (Replay p) why = []
 dropped (Trans p) why = []
-dropped (Write p) why = elim p.kind [ Plain ↦ [] | Rmw ↦ drop_of p.reply p.stamp why ]
+dropped (Write p) why = elim p.kind [ Kind.Write ↦ [] | Kind.Rmw ↦ drop_of p.reply p.stamp why ]
 
 -- What an effect makes: the node that acts, as it is after, and what is added.
 pub record Done : Type 0 where
   pub actor : ℕ
   pub node : Node
-  pub letters : List Letter
+  pub letters : List Message
   pub marks : List Mark
   pub updates : List Update
   pub items : List Item
@@ -176,22 +176,22 @@ abbrev pub alters : ℕ → Node → Done
 alters n x = record { actor = n; node = x; letters = []; marks = []; updates = []; items = [] }
 
 -- and these letters are sent
-abbrev pub sends : ℕ → Node → List Letter → Done
+abbrev pub sends : ℕ → Node → List Message → Done
 sends n x letters = record { actor = n; node = x; letters = letters; marks = []; updates = []; items = [] }
 
 -- its row is new, or is new in this epoch or as that of a ready node, and so has a mark
-abbrev pub marks_row : ℕ → Node → List Letter → Done
+abbrev pub marks_row : ℕ → Node → List Message → Done
 marks_row n x letters = record { actor = n; node = x; letters = letters; marks = row_mark n x ∷ []; updates = []; items = [] }
 
 -- its pending update is complete, and the call of that is answered
-abbrev pub completes : ℕ → Node → List Letter → Pending → Done
+abbrev pub completes : ℕ → Node → List Message → WaitingUpdate → Done
 completes n x letters p = record { actor = n; node = x; letters = letters; marks = []; updates = []; items = answer_of p.reply p.stamp }
 
 -- a call begins and is answered at once
 abbrev pub tells : ℕ → Node → Item → Done
 tells n x item = record { actor = n; node = x; letters = []; marks = []; updates = []; items = item ∷ [] }
 
-abbrev pub done : State → Effect → Done
+abbrev pub done : RegisterState → Effect → Done
 -- CTS and CINV, HWrite: the coordinator gives the update the next stamp, takes it into its row, goes to Write and sends
 -- INV to the others. Begin stands for writes and read-modify-writes both.
 done st (Begin n u) = record {
@@ -287,26 +287,26 @@ module _ (V : ℕ → List ℕ) where
   AllNoted e n notes = (m : ℕ) → In (V e) m → m ≢ n → Noted notes m
 
   -- The node's lease runs: no node has installed a view, from the node's own on, that leaves the node out.
-  abbrev pub Leased : State → ℕ → Type 0
+  abbrev pub Leased : RegisterState → ℕ → Type 0
   Leased st n = (k : Mark) → Marked st k → (st.node n).epoch ≤ k.epoch → In (V k.epoch) n
 
   -- a node that had a view is a member of each view up to the one that it installs
-  abbrev pub Between : State → ℕ → ℕ → Type 0
+  abbrev pub Between : RegisterState → ℕ → ℕ → Type 0
   Between st n e = (f : ℕ) → 1 ≤ (st.node n).epoch → (st.node n).epoch ≤ f → f ≤ e → In (V f) n
 
   -- when an effect may happen
-  abbrev pub Allowed : State → Effect → Type 0
+  abbrev pub Allowed : RegisterState → Effect → Type 0
   -- ready, leased, Valid: the new stamp is the base's next, what is left is the operation's work, the call is new
   Allowed st (Begin n u) =
       ((st.node n).ready ≡ true) × ((st.node n).phase ≡ Valid) × Leased st n × (n < 65536)
       × (u.who ≡ n) × (u.base ≡ (st.node n).stamp) × (u.stamp ≡ next_stamp u.kind u.base n)
-      × (u.kind ≡ Plain → IsBlind u.op) × Changes u (st.node n).content × Fresh st u.call
+      × (u.kind ≡ Kind.Write → IsBlind u.op) × Changes u (st.node n).content × Fresh st u.call
   -- the INV was sent in the node's epoch, and is above the row; `why` is what an aborted call is told
   Allowed st (TakeInv n m s kind content why) =
       In st.letters (Inv m (st.node n).epoch s kind content) × ((st.node n).stamp < s) × (1 ≤ (st.node n).epoch) × IsTrue (is_unsure (Some why))
   -- not above the row, and a read-modify-write only at its very stamp
   Allowed st (AckInv n m s kind content) =
-      In st.letters (Inv m (st.node n).epoch s kind content) × (s ≤ (st.node n).stamp) × (1 ≤ (st.node n).epoch) × ((kind ≡ Plain) ⊎ (s ≡ (st.node n).stamp))
+      In st.letters (Inv m (st.node n).epoch s kind content) × (s ≤ (st.node n).stamp) × (1 ≤ (st.node n).epoch) × ((kind ≡ Kind.Write) ⊎ (s ≡ (st.node n).stamp))
   Allowed st (CounterInv n m s kind content) =
       In st.letters (Inv m (st.node n).epoch s kind content) × (s < (st.node n).stamp) × (1 ≤ (st.node n).epoch)
   -- the ACK is of the pending update, sent in the node's epoch by a member
@@ -340,6 +340,6 @@ module _ (V : ℕ → List ℕ) where
   Allowed st (Quiet n) = ⊤
 
   -- the effect happens between two states
-  pub record Happens (old : State) (e : Effect) (new : State) : Type 0 where
+  pub record Happens (old : RegisterState) (e : Effect) (new : RegisterState) : Type 0 where
     pub allowed : Allowed old e
     pub change : Change old new (done old e).actor (done old e).node (done old e).letters (done old e).marks (done old e).updates (done old e).items

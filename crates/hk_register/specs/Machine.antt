@@ -28,7 +28,7 @@ pub record Note : Type 0 where
 
 -- An update that waits for acknowledgements: the node's own, whose call is answered when it completes, or one that it
 -- replays, which has no call.
-pub record Pending : Type 0 where
+pub record WaitingUpdate : Type 0 where
   pub stamp : ℕ
   pub kind : Kind
   pub content : Option Content
@@ -39,9 +39,9 @@ pub record Pending : Type 0 where
 pub data Phase : Type 0 where
   Valid : Phase
   Invalid : Phase
-  Write : Pending → Phase
-  Replay : Pending → Phase
-  Trans : Pending → Phase
+  Write : WaitingUpdate → Phase
+  Replay : WaitingUpdate → Phase
+  Trans : WaitingUpdate → Phase
 
 -- What a node has of the key: its row (state, stamp, kind and content of the last update that it saw), and the epoch of
 -- its view, 0 where it has none.
@@ -62,11 +62,11 @@ pub record Node : Type 0 where
 -- INV, ACK and VAL of Hermes, and a row as a ready member copies it to a joiner. Each tells its sender and its
 -- sender's epoch. None has an addressee: any node of the epoch may take any letter, at any time, or never, or often.
 -- An ACK has, beside the stamp that it acknowledges, the sender's own stamp, `top`: that is ours.
-pub data Letter : Type 0 where
-  Inv : (from epoch stamp : ℕ) → (kind : Kind) → (content : Option Content) → Letter
-  Ack : (from epoch stamp top : ℕ) → Letter
-  Val : (from epoch stamp : ℕ) → Letter
-  Give : (from epoch stamp : ℕ) → (kind : Kind) → (content : Option Content) → (valid : Bool) → Letter
+pub data Message : Type 0 where
+  Inv : (from epoch stamp : ℕ) → (kind : Kind) → (content : Option Content) → Message
+  Ack : (from epoch stamp top : ℕ) → Message
+  Val : (from epoch stamp : ℕ) → Message
+  Give : (from epoch stamp : ℕ) → (kind : Kind) → (content : Option Content) → (valid : Bool) → Message
 
 -- A mark says that at some moment the node covered the stamp in the epoch: `exact`, in its row; else as its pending
 -- update or by an ACK of it. `ready`: it was ready then. Marks are only kept, never read by a node: they are what the
@@ -109,9 +109,9 @@ call_of (Item.Rejected c op a) = c
 
 -- One key of the whole group. Letters, marks, updates and the history only grow, the newest first: what was sent once
 -- may come again, and what is lost is just never taken.
-pub record State : Type 0 where
+pub record RegisterState : Type 0 where
   pub node : ℕ → Node
-  pub letters : List Letter
+  pub letters : List Message
   pub marks : List Mark
   pub begun : List Update
   pub history : List Item
@@ -125,5 +125,5 @@ pub record Weaker (k j : Mark) : Type 0 where
   pub ready : k.ready ≡ true → j.ready ≡ true
 
 -- the mark, or one that says more, was made
-abbrev pub Marked : State → Mark → Type 0
+abbrev pub Marked : RegisterState → Mark → Type 0
 Marked st k = (j : Mark) × Weaker k j × In st.marks j

@@ -9,7 +9,7 @@ use Rattle.hk_history.specs.declared.event.Event.{Event}
 use Rattle.hk_history.specs.declared.event.Event.TheVariants.{Call, Reply}
 use Rattle.hk_history.specs.declared.event.Entry.{Entry}
 use Rattle.hk_history.specs.Legal.{Legal}
-use Rattle.hk_register.specs.Machine.{In, Mark, Update, Item, State}
+use Rattle.hk_register.specs.Machine.{In, Mark, Update, Item, RegisterState}
 use Rattle.hk_register.specs.Machine.Item.{Called, Answered, Dropped, ReadOnly, Rejected}
 use Rattle.hk_register.specs.Facts.{Complete}
 use Rattle.hk_register.specs.Runs.{Reached, is_in}
@@ -67,7 +67,7 @@ StandsAt [] k j = ⊥
 StandsAt (i ∷ items) k j = (j ≡ i) × (k ≡ length items + 1) ⊎ StandsAt items k j
 
 -- These are the slots of the key, in order: those of the complete updates, and those of the calls that changed nothing.
-pub record IsPrinted (V : ℕ → List ℕ) (st : State) (slots : List Slot) : Type 0 where
+pub record IsPrinted (V : ℕ → List ℕ) (st : RegisterState) (slots : List Slot) : Type 0 where
   pub sorted : Sorted slots
   pub update : (s : Slot) → In slots s → s.place ≡ 0 → (u : Update) × In st.begun u × Complete V st u.stamp × (s ≡ update_slot u)
   pub look : (s : Slot) → In slots s → 0 < s.place → StandsAt st.history s.place (ReadOnly s.call s.stamp s.op s.content s.answer)
@@ -84,11 +84,11 @@ all_cover marks members e s = list_all (λ n. list_any (is_mark n e s) marks) me
 abbrev pub completes_by : (ℕ → List ℕ) → List Mark → ℕ → Mark → Bool
 completes_by V marks s k = (k.stamp == s) && (k.ready && (nat_le 1 k.epoch && (is_in k.who (V k.epoch) && all_cover marks (V k.epoch) k.epoch s)))
 
-abbrev pub is_complete : (ℕ → List ℕ) → State → ℕ → Bool
+abbrev pub is_complete : (ℕ → List ℕ) → RegisterState → ℕ → Bool
 is_complete V st s = list_any (completes_by V st.marks s) st.marks
 
 -- The order, computed: the slots, sorted.
-abbrev pub update_slots : (ℕ → List ℕ) → State → List Update → List Slot
+abbrev pub update_slots : (ℕ → List ℕ) → RegisterState → List Update → List Slot
 update_slots V st [] = []
 update_slots V st (u ∷ us) = if is_complete V st u.stamp then update_slot u ∷ update_slots V st us else update_slots V st us
 
@@ -111,17 +111,17 @@ abbrev pub sort_slots : List Slot → List Slot
 sort_slots [] = []
 sort_slots (s ∷ ss) = insert_slot s (sort_slots ss)
 
-abbrev pub printed : (ℕ → List ℕ) → State → List Slot
+abbrev pub printed : (ℕ → List ℕ) → RegisterState → List Slot
 printed V st = sort_slots (update_slots V st st.begun ++ look_slots st.history)
 
 -- the computed order has these slots
 abbrev pub PrintedIsPrinted : Type 0
-PrintedIsPrinted = (V : ℕ → List ℕ) (st : State) → Parts V st → IsPrinted V st (printed V st)
+PrintedIsPrinted = (V : ℕ → List ℕ) (st : RegisterState) → Parts V st → IsPrinted V st (printed V st)
 
 -- What has these slots is legal for the key's history: it fits, has each call once, and is timely.
 abbrev pub SlotsAreLegal : Type 0
-SlotsAreLegal = (V : ℕ → List ℕ) (st : State) → Parts V st → CallParts st → (slots : List Slot) → IsPrinted V st slots → Legal (events_of st.history) (entries slots)
+SlotsAreLegal = (V : ℕ → List ℕ) (st : RegisterState) → Parts V st → CallParts st → (slots : List Slot) → IsPrinted V st slots → Legal (events_of st.history) (entries slots)
 
 -- For every run, the printed order of the key is legal for its history.
 abbrev pub PrintedIsLegal : Type 0
-PrintedIsLegal = (V : ℕ → List ℕ) (st : State) → Reached V st → Legal (events_of st.history) (entries (printed V st))
+PrintedIsLegal = (V : ℕ → List ℕ) (st : RegisterState) → Reached V st → Legal (events_of st.history) (entries (printed V st))

@@ -8,11 +8,11 @@ use Rattle.hk_base.specs.declared.call.Answer.TheVariants.{Found, Missing, Store
 use Rattle.hk_base.specs.declared.call.Why.TheVariants.{Row}
 use Rattle.hk_base.specs.declared.call.State.TheVariants as state
 use Rattle.hk_base.specs.declared.stamp.Kind.{Kind}
-use Rattle.hk_base.specs.declared.stamp.Kind.TheVariants.{Write as Plain, Rmw}
+use Rattle.hk_base.specs.declared.stamp.Kind.TheVariants as Kind
 use Rattle.hk_history.specs.declared.event.Event.{Event}
 use Rattle.hk_history.specs.declared.event.Event.TheVariants.{Call, Reply}
 use Rattle.hk_history.specs.declared.event.Entry.{Entry}
-use Rattle.hk_register.specs.Machine.{Note, Pending, Update, Node, State}
+use Rattle.hk_register.specs.Machine.{Note, WaitingUpdate, Update, Node, RegisterState}
 use Rattle.hk_register.specs.Machine.Phase.{Valid, Invalid, Trans}
 use Rattle.hk_register.specs.Effects.{Effect, Happens, Allowed, reply_of}
 use Rattle.hk_register.specs.Effects.Effect.{Begin, TakeInv, AckInv, CounterInv, NoteAck, Settle, FinishValid, FinishInvalid, TakeVal, KeepVal, StartReplay, Resend, Install, InstallPending, GiveRow, CopyRow, PassRow, CopyValid, GetReady, Serve, Refuse, Quiet}
@@ -64,17 +64,17 @@ with_more m = record { who = m; exact = false }
 
 -- a write, at node and with base, of a call; its stamp is two versions on
 abbrev pub write : ℕ → ℕ → ℕ → ℕ → Content → Update
-write stamp base node call content = record { stamp = stamp; base = base; kind = Plain; content = Some content; op = op.Write content; answer = Stored; who = node; call = call }
+write stamp base node call content = record { stamp = stamp; base = base; kind = Kind.Write; content = Some content; op = op.Write content; answer = Stored; who = node; call = call }
 
 -- an incr of "5" to "6"; its stamp is one version on
 abbrev pub increment : ℕ → ℕ → ℕ → ℕ → Update
-increment stamp base node call = record { stamp = stamp; base = base; kind = Rmw; content = Some six; op = op.Incr 1; answer = Number 6; who = node; call = call }
+increment stamp base node call = record { stamp = stamp; base = base; kind = Kind.Rmw; content = Some six; op = op.Incr 1; answer = Number 6; who = node; call = call }
 
 -- the update as it waits at its coordinator, with these notes, and at one that replays it
-abbrev pub waits : Update → List Note → Pending
+abbrev pub waits : Update → List Note → WaitingUpdate
 waits u notes = record { stamp = u.stamp; kind = u.kind; content = u.content; reply = Some (reply_of u); notes = notes }
 
-abbrev pub waits_again : Update → List Note → Pending
+abbrev pub waits_again : Update → List Note → WaitingUpdate
 waits_again u notes = record { stamp = u.stamp; kind = u.kind; content = u.content; reply = None; notes = notes }
 
 -- a node takes the INV of an update that its coordinator sent; nothing of its own is aborted
@@ -101,7 +101,7 @@ growing e = if e == 1 then 0 ∷ [] else 0 ∷ 1 ∷ []
 abbrev pub settled_rule : List Effect
 settled_rule =
     Begin 0 (write 131072 0 0 1 five) ∷ Begin 1 (write 131073 0 1 2 nine)
-    ∷ AckInv 1 0 131072 Plain (Some five) ∷ takes 2 (write 131072 0 0 1 five)
+    ∷ AckInv 1 0 131072 Kind.Write (Some five) ∷ takes 2 (write 131072 0 0 1 five)
     ∷ NoteAck 0 1 131073 (waits (write 131072 0 0 1 five) []) (with_more 1 ∷ [])
     ∷ NoteAck 0 2 131072 (waits (write 131072 0 0 1 five) (with_more 1 ∷ [])) (exactly 2 ∷ with_more 1 ∷ [])
     ∷ FinishInvalid 0 (waits (write 131072 0 0 1 five) (exactly 2 ∷ with_more 1 ∷ [])) ∷ []
@@ -121,7 +121,7 @@ two_increments =
     ∷ NoteAck 0 1 131072 (waits (write 131072 0 0 1 five) []) (exactly 1 ∷ [])
     ∷ Settle 0 (waits (write 131072 0 0 1 five) (exactly 1 ∷ [])) ∷ TakeVal 1 0
     ∷ Begin 0 (increment 196608 131072 0 2) ∷ Begin 1 (increment 196609 131072 1 3)
-    ∷ CounterInv 1 0 196608 Rmw (Some six) ∷ TakeInv 0 1 196609 Rmw (Some six) (aborted 3 1)
+    ∷ CounterInv 1 0 196608 Kind.Rmw (Some six) ∷ TakeInv 0 1 196609 Kind.Rmw (Some six) (aborted 3 1)
     ∷ NoteAck 1 0 196609 (waits (increment 196609 131072 1 3) []) (exactly 0 ∷ [])
     ∷ Settle 1 (waits (increment 196609 131072 1 3) (exactly 0 ∷ [])) ∷ []
 
@@ -140,7 +140,7 @@ aborted_in_effect =
     ∷ NoteAck 0 2 131072 (waits (write 131072 0 0 1 five) (exactly 1 ∷ [])) (exactly 2 ∷ exactly 1 ∷ [])
     ∷ Settle 0 (waits (write 131072 0 0 1 five) (exactly 2 ∷ exactly 1 ∷ [])) ∷ TakeVal 1 0
     ∷ Begin 0 (increment 196608 131072 0 2) ∷ Begin 1 (write 262145 131072 1 3 nine)
-    ∷ takes 2 (increment 196608 131072 0 2) ∷ TakeInv 0 1 262145 Plain (Some nine) (aborted 4 1)
+    ∷ takes 2 (increment 196608 131072 0 2) ∷ TakeInv 0 1 262145 Kind.Write (Some nine) (aborted 4 1)
     ∷ Install 2 3 ∷ StartReplay 2 ∷ Settle 2 (waits_again (increment 196608 131072 0 2) [])
     ∷ Serve 2 4 op.Read (Found six 196608) ∷ []
 
@@ -155,7 +155,7 @@ AbortedInEffect =
 abbrev pub val_kept_in_trans : List Effect
 val_kept_in_trans =
     Begin 0 (write 131072 0 0 1 five) ∷ Begin 1 (write 131073 0 1 2 nine)
-    ∷ takes 0 (write 131073 0 1 2 nine) ∷ AckInv 1 0 131072 Plain (Some five)
+    ∷ takes 0 (write 131073 0 1 2 nine) ∷ AckInv 1 0 131072 Kind.Write (Some five)
     ∷ NoteAck 1 0 131073 (waits (write 131073 0 1 2 nine) []) (exactly 0 ∷ [])
     ∷ Settle 1 (waits (write 131073 0 1 2 nine) (exactly 0 ∷ [])) ∷ KeepVal 0 1
     ∷ NoteAck 0 1 131073 (waits (write 131072 0 0 1 five) []) (with_more 1 ∷ [])
@@ -176,11 +176,11 @@ joiner =
     Begin 0 (write 131072 0 0 1 five) ∷ Resend 0 (waits (write 131072 0 0 1 five) [])
     ∷ Refuse 0 2 op.Read (Busy (Row state.Write (record { version = 2; node = 0 })))
     ∷ InstallPending 0 2 (waits (write 131072 0 0 1 five) []) ∷ Install 1 2
-    ∷ GiveRow 0 false ∷ CopyRow 1 0 131072 Plain (Some five) false
-    ∷ AckInv 1 0 131072 Plain (Some five)
+    ∷ GiveRow 0 false ∷ CopyRow 1 0 131072 Kind.Write (Some five) false
+    ∷ AckInv 1 0 131072 Kind.Write (Some five)
     ∷ NoteAck 0 1 131072 (waits (write 131072 0 0 1 five) []) (exactly 1 ∷ [])
     ∷ Settle 0 (waits (write 131072 0 0 1 five) (exactly 1 ∷ []))
-    ∷ GiveRow 0 true ∷ CopyValid 1 0 131072 Plain (Some five) ∷ PassRow 1 0 131072 Plain (Some five) true
+    ∷ GiveRow 0 true ∷ CopyValid 1 0 131072 Kind.Write (Some five) ∷ PassRow 1 0 131072 Kind.Write (Some five) true
     ∷ GetReady 1 ∷ Serve 1 3 op.Read (Found five 131072) ∷ Quiet 0 ∷ []
 
 abbrev pub Joiner : Type 0
@@ -192,10 +192,10 @@ Joiner =
 -- A key is deleted, and added again. Between the two it holds nothing, with the tag of the deletion, and the next update
 -- has a greater one.
 abbrev pub deletion : Update
-deletion = record { stamp = 196608; base = 131072; kind = Rmw; content = None; op = op.Delete; answer = Deleted; who = 0; call = 2 }
+deletion = record { stamp = 196608; base = 131072; kind = Kind.Rmw; content = None; op = op.Delete; answer = Deleted; who = 0; call = 2 }
 
 abbrev pub addition : Update
-addition = record { stamp = 262145; base = 196608; kind = Rmw; content = Some nine; op = op.Add nine; answer = Stored; who = 1; call = 4 }
+addition = record { stamp = 262145; base = 196608; kind = Kind.Rmw; content = Some nine; op = op.Add nine; answer = Stored; who = 1; call = 4 }
 
 abbrev pub deleted_and_added : List Effect
 deleted_and_added =
@@ -220,9 +220,9 @@ DeletedAndAdded =
 -- in some run the effect happens
 pub record Possible (e : Effect) : Type 0 where
   pub V : ℕ → List ℕ
-  pub before : State
+  pub before : RegisterState
   pub reached : Reached V before
-  pub next : State
+  pub next : RegisterState
   pub happens : Happens V before e next
 
 -- every kind of effect happens in some run
@@ -231,16 +231,16 @@ pub record EachHappens : Type 0 where
   pub take_inv : (n m s : ℕ) × (kind : Kind) × (content : Option Content) × (why : Answer) × Possible (TakeInv n m s kind content why)
   pub ack_inv : (n m s : ℕ) × (kind : Kind) × (content : Option Content) × Possible (AckInv n m s kind content)
   pub counter_inv : (n m s : ℕ) × (kind : Kind) × (content : Option Content) × Possible (CounterInv n m s kind content)
-  pub note_ack : (n m top : ℕ) × (p : Pending) × (notes : List Note) × Possible (NoteAck n m top p notes)
-  pub settle : (n : ℕ) × (p : Pending) × Possible (Settle n p)
-  pub finish_valid : (n : ℕ) × (p : Pending) × Possible (FinishValid n p)
-  pub finish_invalid : (n : ℕ) × (p : Pending) × Possible (FinishInvalid n p)
+  pub note_ack : (n m top : ℕ) × (p : WaitingUpdate) × (notes : List Note) × Possible (NoteAck n m top p notes)
+  pub settle : (n : ℕ) × (p : WaitingUpdate) × Possible (Settle n p)
+  pub finish_valid : (n : ℕ) × (p : WaitingUpdate) × Possible (FinishValid n p)
+  pub finish_invalid : (n : ℕ) × (p : WaitingUpdate) × Possible (FinishInvalid n p)
   pub take_val : (n m : ℕ) × Possible (TakeVal n m)
   pub keep_val : (n m : ℕ) × Possible (KeepVal n m)
   pub start_replay : (n : ℕ) × Possible (StartReplay n)
-  pub resend : (n : ℕ) × (p : Pending) × Possible (Resend n p)
+  pub resend : (n : ℕ) × (p : WaitingUpdate) × Possible (Resend n p)
   pub install : (n e : ℕ) × Possible (Install n e)
-  pub install_pending : (n e : ℕ) × (p : Pending) × Possible (InstallPending n e p)
+  pub install_pending : (n e : ℕ) × (p : WaitingUpdate) × Possible (InstallPending n e p)
   pub give_row : (n : ℕ) × (valid : Bool) × Possible (GiveRow n valid)
   pub copy_row : (n m s : ℕ) × (kind : Kind) × (content : Option Content) × (valid : Bool) × Possible (CopyRow n m s kind content valid)
   pub pass_row : (n m s : ℕ) × (kind : Kind) × (content : Option Content) × (valid : Bool) × Possible (PassRow n m s kind content valid)

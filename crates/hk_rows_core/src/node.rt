@@ -1,7 +1,7 @@
 //! Steps of one node.
 
 ghost use Rattle.hk_base.specs.Range.{IsBody, IsLetter};
-ghost use Rattle.hk_node.specs.Sound.{IsEvent};
+ghost use Rattle.hk_node.specs.Sound.{IsNodeEvent};
 
 use hk_base::{
     Actor, Answer, Body, CallNo, Content, Data, Key, Kind, Letter, Members, NodeId, Op, Stamp,
@@ -47,7 +47,7 @@ fn founder(rt: &impl Abort, alloc: Global) -> Node {
 
 // Makes the step of an event.
 fn step(rt: &impl Abort, alloc: Global, node: &mut Node, event: NodeEvent) -> NodeOut
-    requires { IsEvent event }
+    requires { IsNodeEvent event }
 {
     node.step(alloc, &event).expect(rt, "memory")
 }
@@ -159,7 +159,7 @@ fn a_shadow_has_no_lease(rt: HostRuntime) {
 
 // How many letters an event sends.
 fn sends(rt: &impl Abort, alloc: Global, node: &mut Node, event: NodeEvent) -> usize
-    requires { IsEvent event }
+    requires { IsNodeEvent event }
 {
     let out = step(rt, alloc, node, event);
     out.letters.len()

@@ -1,7 +1,7 @@
 //! Letters to a node from outside its group, and of an epoch that is not its own.
 
 ghost use Rattle.hk_base.specs.Range.{IsBody, IsLetter};
-ghost use Rattle.hk_node.specs.Sound.{IsEvent};
+ghost use Rattle.hk_node.specs.Sound.{IsNodeEvent};
 
 use hk_base::{Actor, Body, CallNo, Content, Data, Key, Letter, Members, NodeId, Op, Stamp, View};
 use hk_node::{Node, NodeEvent};
@@ -37,7 +37,7 @@ fn counts(
     node: &mut Node,
     event: NodeEvent,
 ) -> (usize, usize, usize)
-    requires { IsEvent event }
+    requires { IsNodeEvent event }
 {
     let out = node.step(alloc, &event).expect(rt, "memory");
     (out.letters.len(), out.replies.len(), out.report.rows.len())

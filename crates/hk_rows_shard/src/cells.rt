@@ -1,7 +1,7 @@
 //! What a shard shows while it steps, and what reads are told from that.
 
 ghost use Rattle.std.specs.Prelude.{◌≡◌, [], ◌∷◌, None};
-ghost use Rattle.hk_node.specs.Sound.{IsEvent};
+ghost use Rattle.hk_node.specs.Sound.{IsNodeEvent};
 
 use hk_base::{CallNo, Content, Data, Key, Members, NodeId, Op, Stamp, State, View, Why};
 use hk_joint_reads::{Joint, read_joint};
@@ -47,7 +47,7 @@ fn write_of(
     flags: u32,
     data: &[u8],
 ) -> NodeEvent
-    ensures { IsEvent result }
+    ensures { IsNodeEvent result }
 {
     NodeEvent::Call {
         call: CallNo(number),

@@ -20,15 +20,15 @@ use Rattle.hk_copy.specs.Batches.{key_cmp}
 use Rattle.hk_key.specs.declared.row.Pending.{Pending}
 use Rattle.hk_key.specs.declared.row.Row.{Row}
 use Rattle.hk_node.specs.declared.event.NodeEvent.{NodeEvent}
-use Rattle.hk_node.specs.declared.event.NodeEvent.TheVariants as N
+use Rattle.hk_node.specs.declared.event.NodeEvent.TheVariants as NodeEvent
 use Rattle.hk_clocks.specs.Clocks.{Paces}
-use Rattle.hk_manager.specs.declared.event.ManagerEvent.TheVariants.{Propose as Proposal, Receive as Receipt, Activate as Activation}
+use Rattle.hk_manager.specs.declared.event.ManagerEvent.TheVariants as ManagerEvent
 use Rattle.hk_manager.specs.declared.fault.ManagerFault.{ManagerFault}
 use Rattle.hk_manager.specs.Manager.{ManagerState}
-use Rattle.hk_manager.specs.Steps.{Stepped as ManagerStepped, manager_step}
+use Rattle.hk_manager.specs.Steps.{ManagerStepped, manager_step}
 use Rattle.hk_node.specs.Node.{NodeState}
 use Rattle.hk_node.specs.Rows.{row_at}
-use Rattle.hk_node.specs.Sound.{IsNode, IsEvent as IsNodeEvent}
+use Rattle.hk_node.specs.Sound.{IsNode, IsNodeEvent}
 use Rattle.hk_node.specs.Report.{AreChanged, changed_rows}
 use Rattle.hk_node.specs.Stepped.{Stepped}
 use Rattle.hk_node.specs.Calls.{called}
@@ -65,15 +65,15 @@ call_in next event = None
 
 -- what the event is to the node that it lets act
 abbrev pub node_event : WorldState → Event → Option NodeEvent
-node_event w (Call id key op) = Some (N.Call (next_call w) key op)
-node_event w (Take number) = option_map N.Receive (numbered number w.letters)
-node_event w (Tick actor to) = Some (N.Tick to)
-node_event w (Resend id key) = Some (N.Resend key)
-node_event w (Replay id key) = Some (N.Replay key)
-node_event w (Copy id from room) = Some (N.AskCopy from room)
-node_event w (Install id epoch) = option_map N.Install (numbered epoch w.views)
-node_event w (Lease id end) = Some (N.Grant end)
-node_event w (AskLease id manager) = Some (N.AskLease manager)
+node_event w (Call id key op) = Some (NodeEvent.Call (next_call w) key op)
+node_event w (Take number) = option_map NodeEvent.Receive (numbered number w.letters)
+node_event w (Tick actor to) = Some (NodeEvent.Tick to)
+node_event w (Resend id key) = Some (NodeEvent.Resend key)
+node_event w (Replay id key) = Some (NodeEvent.Replay key)
+node_event w (Copy id from room) = Some (NodeEvent.AskCopy from room)
+node_event w (Install id epoch) = option_map NodeEvent.Install (numbered epoch w.views)
+node_event w (Lease id end) = Some (NodeEvent.Grant end)
+node_event w (AskLease id manager) = Some (NodeEvent.AskLease manager)
 node_event w event = None
 
 -- the node makes the step of that
@@ -168,7 +168,7 @@ module _ (w : WorldState) (a : Accepted) where
           x = x;
           at = at;
           o = called x (next_call w) key op;
-          how = (N.Call (next_call w) key op, refl, refl);
+          how = (NodeEvent.Call (next_call w) key op, refl, refl);
           paces = w.paces;
           is = the_accepted a (accepted w id x (called x (next_call w) key op) (w.calls + 1) w.paces (Some (next_call w))) (Ok a) refl (sym e);
         },
@@ -178,11 +178,11 @@ module _ (w : WorldState) (a : Accepted) where
   pub is_made_by : (event : Event) → world_step w event ≡ Ok a → IsMadeBy w event a
   is_made_by (Call id key op) e = live_step (IsMadeBy w (Call id key op) a) w a id (calls_at w id key op) (λ x at made. call_made id key op x at made) e
   is_made_by (Take number) e = any_takes_step (IsMadeBy w (Take number) a) w a number
-      (λ l found id x at made. step_made (Take number) id tt x at (receives x l) (N.Receive l, ap (option_map N.Receive) found, refl) refl refl made)
-      (λ l found m e. manager_made (Take number) tt refl m (λ x. manager_step x (Receipt l)) e) e
+      (λ l found id x at made. step_made (Take number) id tt x at (receives x l) (NodeEvent.Receive l, ap (option_map NodeEvent.Receive) found, refl) refl refl made)
+      (λ l found m e. manager_made (Take number) tt refl m (λ x. manager_step x (ManagerEvent.Receive l)) e) e
   is_made_by (Tick actor to) e = any_actor_step (IsMadeBy w (Tick actor to) a) w a actor (ticks_at w to) (manager_ticks_at w to)
       (λ id x at e. ticks_step (IsMadeBy w (Tick actor to) a) w a to id x
-      (λ paces made. makes_made (Tick actor to) id tt x at (node_step x (N.Tick to)) paces (N.Tick to, refl, refl) refl refl made) e)
+      (λ paces made. makes_made (Tick actor to) id tt x at (node_step x (NodeEvent.Tick to)) paces (NodeEvent.Tick to, refl, refl) refl refl made) e)
       (λ m e. live_manager_step (IsMadeBy w (Tick actor to) a) w a m (manager_ticks_at w to m)
       (λ x at e. manager_ticks_step (IsMadeBy w (Tick actor to) a) w a to m x
       (λ managers paces made. unsent_made (Tick actor to) (with_managers (with_processes w w.processes paces) managers) None refl refl tt made) e) e) e
@@ -194,12 +194,12 @@ module _ (w : WorldState) (a : Accepted) where
       (λ m e. live_manager_step (IsMadeBy w (Crash actor) a) w a m (manager_crashes_at w m)
       (λ x at e. manager_crashes_step (IsMadeBy w (Crash actor) a) w a m x
       (λ managers paces made. unsent_made (Crash actor) (with_managers (with_processes w w.processes paces) managers) None refl refl tt made) e) e) e
-  is_made_by (Resend id key) e = live_step (IsMadeBy w (Resend id key) a) w a id (λ node. acts w id node (node_step node (N.Resend key)))
-      (λ x at made. step_made (Resend id key) id tt x at (node_step x (N.Resend key)) (N.Resend key, refl, refl) refl refl made) e
-  is_made_by (Replay id key) e = live_step (IsMadeBy w (Replay id key) a) w a id (λ node. acts w id node (node_step node (N.Replay key)))
-      (λ x at made. step_made (Replay id key) id tt x at (node_step x (N.Replay key)) (N.Replay key, refl, refl) refl refl made) e
-  is_made_by (Copy id from room) e = live_step (IsMadeBy w (Copy id from room) a) w a id (λ node. acts w id node (node_step node (N.AskCopy from room)))
-      (λ x at made. step_made (Copy id from room) id tt x at (node_step x (N.AskCopy from room)) (N.AskCopy from room, refl, refl) refl refl made) e
+  is_made_by (Resend id key) e = live_step (IsMadeBy w (Resend id key) a) w a id (λ node. acts w id node (node_step node (NodeEvent.Resend key)))
+      (λ x at made. step_made (Resend id key) id tt x at (node_step x (NodeEvent.Resend key)) (NodeEvent.Resend key, refl, refl) refl refl made) e
+  is_made_by (Replay id key) e = live_step (IsMadeBy w (Replay id key) a) w a id (λ node. acts w id node (node_step node (NodeEvent.Replay key)))
+      (λ x at made. step_made (Replay id key) id tt x at (node_step x (NodeEvent.Replay key)) (NodeEvent.Replay key, refl, refl) refl refl made) e
+  is_made_by (Copy id from room) e = live_step (IsMadeBy w (Copy id from room) a) w a id (λ node. acts w id node (node_step node (NodeEvent.AskCopy from room)))
+      (λ x at made. step_made (Copy id from room) id tt x at (node_step x (NodeEvent.AskCopy from room)) (NodeEvent.AskCopy from room, refl, refl) refl refl made) e
   is_made_by (Start id) e = any_starts_step (IsMadeBy w (Start id) a) w a id
       (λ none may paces made. unsent_made (Start id) (with_processes w (put_process id (joining w id) w.processes) paces) None refl refl tt made) e
   is_made_by (Agree change) e = unmanaged_step (IsMadeBy w (Agree change) a) w a (agrees w (last_view w.views) change)
@@ -207,47 +207,47 @@ module _ (w : WorldState) (a : Accepted) where
   is_made_by (Install id epoch) e = unmanaged_step (IsMadeBy w (Install id epoch) a) w a (live w id (λ node. installs_at (numbered epoch w.views) w id node))
       (λ e. live_step (IsMadeBy w (Install id epoch) a) w a id (λ node. installs_at (numbered epoch w.views) w id node)
       (λ x at e. installs_step (IsMadeBy w (Install id epoch) a) w a epoch id x
-      (λ v may made. step_made (Install id epoch) id tt x at (installs x v) (N.Install v, ap (option_map N.Install) may.found, refl) refl refl made) e) e) e
+      (λ v may made. step_made (Install id epoch) id tt x at (installs x v) (NodeEvent.Install v, ap (option_map NodeEvent.Install) may.found, refl) refl refl made) e) e) e
   is_made_by (Lease id end) e = unmanaged_step (IsMadeBy w (Lease id end) a) w a (live w id (leases_at w id end))
       (λ e. live_step (IsMadeBy w (Lease id end) a) w a id (leases_at w id end)
       (λ x at made. leases_step (IsMadeBy w (Lease id end) a) w a id end x
-      (λ inside e. step_made (Lease id end) id tt x at (node_step x (N.Grant end)) (N.Grant end, refl, refl) refl refl e) made) e) e
-  is_made_by (AskLease id manager) e = live_step (IsMadeBy w (AskLease id manager) a) w a id (λ node. acts w id node (node_step node (N.AskLease manager)))
-      (λ x at made. step_made (AskLease id manager) id tt x at (node_step x (N.AskLease manager)) (N.AskLease manager, refl, refl) refl refl made) e
-  is_made_by (Propose manager base change) e = manager_made (Propose manager base change) tt refl manager (λ x. manager_step x (Proposal base change)) e
-  is_made_by (Activate manager) e = manager_made (Activate manager) tt refl manager (λ x. manager_step x Activation) e
+      (λ inside e. step_made (Lease id end) id tt x at (node_step x (NodeEvent.Grant end)) (NodeEvent.Grant end, refl, refl) refl refl e) made) e) e
+  is_made_by (AskLease id manager) e = live_step (IsMadeBy w (AskLease id manager) a) w a id (λ node. acts w id node (node_step node (NodeEvent.AskLease manager)))
+      (λ x at made. step_made (AskLease id manager) id tt x at (node_step x (NodeEvent.AskLease manager)) (NodeEvent.AskLease manager, refl, refl) refl refl made) e
+  is_made_by (Propose manager base change) e = manager_made (Propose manager base change) tt refl manager (λ x. manager_step x (ManagerEvent.Propose base change)) e
+  is_made_by (Activate manager) e = manager_made (Activate manager) tt refl manager (λ x. manager_step x ManagerEvent.Activate) e
 
 -- the node's event is one that a node may be given
 module _ (w : WorldState) (own : IsOwn w) where
-  received : (number : ℕ) (o : Option Letter) (e : NodeEvent) → numbered number w.letters ≡ o → option_map N.Receive o ≡ Some e → IsNodeEvent e
+  received : (number : ℕ) (o : Option Letter) (e : NodeEvent) → numbered number w.letters ≡ o → option_map NodeEvent.Receive o ≡ Some e → IsNodeEvent e
   received number None e found is = cc
   received number (Some l) e found is =
-      let same : N.Receive l ≡ e = cc in
+      let same : NodeEvent.Receive l ≡ e = cc in
       subst IsNodeEvent same (numbered_holds IsLetter number w.letters l own.sound.letters found)
 
-  installed : (epoch : ℕ) (o : Option View) (e : NodeEvent) → numbered epoch w.views ≡ o → option_map N.Install o ≡ Some e → IsNodeEvent e
+  installed : (epoch : ℕ) (o : Option View) (e : NodeEvent) → numbered epoch w.views ≡ o → option_map NodeEvent.Install o ≡ Some e → IsNodeEvent e
   installed epoch None e found is = cc
   installed epoch (Some v) e found is =
-      let same : N.Install v ≡ e = cc in
+      let same : NodeEvent.Install v ≡ e = cc in
       subst IsNodeEvent same (numbered_holds IsView epoch w.views v own.sound.each found)
 
   of : (d e : NodeEvent) → Some d ≡ Some e → IsNodeEvent d → IsNodeEvent e
   of d e is within = let same : d ≡ e = cc in subst IsNodeEvent same within
 
   node_within : (event : Event) (e : NodeEvent) → IsEvent event → node_event w event ≡ Some e → IsNodeEvent e
-  node_within (Call id key op) e within is = of (N.Call (next_call w) key op) e is tt
+  node_within (Call id key op) e within is = of (NodeEvent.Call (next_call w) key op) e is tt
   node_within (Take number) e within is = received number (numbered number w.letters) e refl is
-  node_within (Tick actor to) e within is = of (N.Tick to) e is within.1
-  node_within (Resend id key) e within is = of (N.Resend key) e is tt
-  node_within (Replay id key) e within is = of (N.Replay key) e is tt
-  node_within (Copy id from room) e within is = of (N.AskCopy from room) e is within
+  node_within (Tick actor to) e within is = of (NodeEvent.Tick to) e is within.1
+  node_within (Resend id key) e within is = of (NodeEvent.Resend key) e is tt
+  node_within (Replay id key) e within is = of (NodeEvent.Replay key) e is tt
+  node_within (Copy id from room) e within is = of (NodeEvent.AskCopy from room) e is within
   node_within (Install id epoch) e within is = installed epoch (numbered epoch w.views) e refl is
-  node_within (Lease id end) e within is = of (N.Grant end) e is within
+  node_within (Lease id end) e within is = of (NodeEvent.Grant end) e is within
   node_within (TickAll to) e within is = cc
   node_within (Crash actor) e within is = cc
   node_within (Start id) e within is = cc
   node_within (Agree change) e within is = cc
-  node_within (AskLease id manager) e within is = of (N.AskLease manager) e is tt
+  node_within (AskLease id manager) e within is = of (NodeEvent.AskLease manager) e is tt
   node_within (Propose manager base change) e within is = cc
   node_within (Activate manager) e within is = cc
 

@@ -6,7 +6,7 @@ use Rattle.std.specs.List.Sorted.{IsStrictlySortedBy}
 use Rattle.std.proofs.lemmas.Bool.{false≢true}
 use Rattle.hk_base.specs.declared.call.Op.{Op}
 use Rattle.hk_base.specs.declared.call.Reply.{Reply}
-use Rattle.hk_history.specs.declared.event.Event.{Event as Line}
+use Rattle.hk_history.specs.declared.event.Event.{Event as HistoryEvent}
 use Rattle.hk_copy.specs.Batches.{key_cmp}
 use Rattle.hk_world.specs.World.{numbered}
 use Rattle.hk_effects.specs.Projection.{is_same_key}
@@ -49,10 +49,10 @@ named_first m n key l turn op none keys put taken = record {
 
 -- ---- replies
 with_none : (k : KeyState) → k ≡ with_lines k []
-with_none k = ap (λ (l : List Line). record { items = l; stamps = k.stamps }) (sym (append-nil k.items))
+with_none k = ap (λ (l : List HistoryEvent). record { items = l; stamps = k.stamps }) (sym (append-nil k.items))
 
-with_more : (k : KeyState) (a b : List Line) → with_lines (with_lines k a) b ≡ with_lines k (a ++ b)
-with_more k a b = ap (λ (l : List Line). record { items = l; stamps = k.stamps }) (append_assoc k.items a b)
+with_more : (k : KeyState) (a b : List HistoryEvent) → with_lines (with_lines k a) b ≡ with_lines k (a ++ b)
+with_more k a b = ap (λ (l : List HistoryEvent). record { items = l; stamps = k.stamps }) (append_assoc k.items a b)
 
 line_other : (q key : List ℕ) (o : Option (List ℕ)) (r : Reply) → o ≡ Some key → q ≢ key → line_at q o r ++ [] ≡ []
 line_other q key o r is ne = ap (λ (p : Option (List ℕ)). line_at q p r ++ []) is ∙ ap (λ (b : Bool). cond b (reply_line r ∷ []) [] ++ []) (same_not q key ne)
@@ -60,7 +60,7 @@ line_other q key o r is ne = ap (λ (p : Option (List ℕ)). line_at q p r ++ []
 line_own : (key : List ℕ) (o : Option (List ℕ)) (r : Reply) → o ≡ Some key → line_at key o r ++ [] ≡ reply_line r ∷ []
 line_own key o r is = ap (λ (p : Option (List ℕ)). line_at key p r ++ []) is ∙ ap (λ (b : Bool). cond b (reply_line r ∷ []) [] ++ []) (same_of key key refl)
 
-untold : (k l : KeyState) (ls : List Line) → l ≡ k → ls ≡ [] → l ≡ with_lines k ls
+untold : (k l : KeyState) (ls : List HistoryEvent) → l ≡ k → ls ≡ [] → l ≡ with_lines k ls
 untold k l ls same none = same ∙ with_none k ∙ ap (with_lines k) (sym none)
 
 pub told_there : (m n : Keys) (key : List ℕ) (k l : KeyState) (calls : List (List ℕ)) (r : Reply) → numbered r.call.0 calls ≡ Some key →
@@ -80,7 +80,7 @@ told_there m n key k l calls r named found keys put is = record {
 }
 
 -- entries that are the same
-pub told_nobody : (m n : Keys) (ls : List ℕ → List Line) → n ≡ m → ((q : List ℕ) → is_some (find_key q m) ≡ true → ls q ≡ []) → AreTold m n ls
+pub told_nobody : (m n : Keys) (ls : List ℕ → List HistoryEvent) → n ≡ m → ((q : List ℕ) → is_some (find_key q m) ≡ true → ls q ≡ []) → AreTold m n ls
 told_nobody m n ls same none = record {
   keys = ap keys_of same;
   there = λ q. ap (λ (keys : Keys). is_some (find_key q keys)) same;
@@ -95,7 +95,7 @@ pub absent_lines : (m : Keys) (key : List ℕ) (calls : List (List ℕ)) (r : Re
 absent_lines m key calls r named none q there = line_other q key (numbered r.call.0 calls) r named
     (λ (e : q ≡ key). not_there (find_key key m) none (subst (λ (j : List ℕ). is_some (find_key j m) ≡ true) e there))
 
-pub told_joined : (a b c : Keys) (f g h : List ℕ → List Line) → ((q : List ℕ) → h q ≡ f q ++ g q) → AreTold a b f → AreTold b c g → AreTold a c h
+pub told_joined : (a b c : Keys) (f g h : List ℕ → List HistoryEvent) → ((q : List ℕ) → h q ≡ f q ++ g q) → AreTold a b f → AreTold b c g → AreTold a c h
 told_joined a b c f g h both first second = record {
   keys = second.keys ∙ first.keys;
   there = λ q. second.there q ∙ first.there q;
@@ -106,7 +106,7 @@ told_joined a b c f g h both first second = record {
 pub lines_more : (calls : List (List ℕ)) (rs : List Reply) (r : Reply) (q : List ℕ) →
     lines_at q calls (rs ++ r ∷ []) ≡ lines_at q calls rs ++ lines_at q calls (r ∷ [])
 lines_more calls [] r q = refl
-lines_more calls (s ∷ rs) r q = ap (λ (l : List Line). line_at q (numbered s.call.0 calls) s ++ l) (lines_more calls rs r q)
+lines_more calls (s ∷ rs) r q = ap (λ (l : List HistoryEvent). line_at q (numbered s.call.0 calls) s ++ l) (lines_more calls rs r q)
     ∙ sym (append_assoc (line_at q (numbered s.call.0 calls) s) (lines_at q calls rs) (lines_at q calls (r ∷ [])))
 
 pub lines_turn : (calls : List (List ℕ)) (rs : List Reply) (i : ℕ) (r : Reply) → i < length rs → r ≡ get_or rs i r → (q : List ℕ) →

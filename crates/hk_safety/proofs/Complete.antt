@@ -3,7 +3,7 @@ use Rattle.std.proofs.Common.{◌≡◌, ℕ, true, ◌&&◌, List, ◌∙◌, s
 use Rattle.std.specs.Prelude.{nat_le}
 use Rattle.std.specs.List.{list_any}
 use Rattle.std.proofs.lemmas.Bool.{eqb-true, eq-eqb, leb-true, le-leb, and_parts, and_from}
-use Rattle.hk_register.specs.Machine.{Weaker, Mark, State}
+use Rattle.hk_register.specs.Machine.{Weaker, Mark, RegisterState}
 use Rattle.hk_register.specs.Facts.{Covers, Complete}
 use Rattle.hk_register.specs.Runs.{is_in}
 use Rattle.hk_register.specs.Printed.{is_mark, all_cover, completes_by, is_complete}
@@ -22,7 +22,7 @@ is_mark_from : (n e s : ℕ) (k : Mark) → k.who ≡ n → k.epoch ≡ e → k.
 is_mark_from n e s k a b c =
     and_from (eqb k.who n) (eqb k.epoch e && eqb k.stamp s) (eq-eqb k.who n a) (and_from (eqb k.epoch e) (eqb k.stamp s) (eq-eqb k.epoch e b) (eq-eqb k.stamp s c))
 
-module _ (V : ℕ → List ℕ) (st : State) (s : ℕ) where
+module _ (V : ℕ → List ℕ) (st : RegisterState) (s : ℕ) where
   pub complete_is : is_complete V st s ≡ true → Complete V st s
   complete_is is =
       let t = any_in (completes_by V st.marks s) st.marks is in

@@ -12,7 +12,7 @@ use Rattle.hk_base.specs.Stamp.{tag_of}
 use Rattle.hk_base.specs.declared.view.View.{View}
 use Rattle.hk_copy.specs.Batches.{key_cmp}
 use Rattle.hk_base.specs.View.{member_numbers}
-use Rattle.hk_key.specs.declared.row.Pending.{Pending as Waits}
+use Rattle.hk_key.specs.declared.row.Pending.{Pending}
 use Rattle.hk_key.specs.declared.row.Row.{Row}
 use Rattle.hk_key.specs.Sound.{IsUpdate}
 use Rattle.hk_node.specs.declared.report.PriorRow.{PriorRow}
@@ -241,13 +241,13 @@ module _ (v : View) (c : Cover) where
   }
 
 -- what waits has this tag
-pub waits_is : (o : Option Waits) (p : Waits) (tag : ℕ) → o ≡ Some p → tag_of p.stamp ≡ tag → (key : List ℕ) → wait_touches key o ≡ (key, tag) ∷ []
+pub waits_is : (o : Option Pending) (p : Pending) (tag : ℕ) → o ≡ Some p → tag_of p.stamp ≡ tag → (key : List ℕ) → wait_touches key o ≡ (key, tag) ∷ []
 waits_is o p tag some is key = ap (wait_touches key) some ∙ ap (λ (t : ℕ). (key, t) ∷ []) is
 
 pub waits_within : (x : NodeState) (key : List ℕ) (row : Row) → IsNode x → find_row key x.rows ≡ Some row → IfSome row.pending (λ p. IsWithin p.stamp)
 waits_within x key row ok found = within row.pending (found_sound x key row ok found).update
   where
-    within : (o : Option Waits) → IfSome o (IsUpdate x.id (members_of x)) → IfSome o (λ p. IsWithin p.stamp)
+    within : (o : Option Pending) → IfSome o (IsUpdate x.id (members_of x)) → IfSome o (λ p. IsWithin p.stamp)
     within None h = tt
     within (Some p) h = h.within
 

@@ -6,7 +6,7 @@ use Rattle.std.proofs.lemmas.List.{map-append, append_cancel_left}
 use Rattle.hk_base.specs.declared.call.CallNo.{CallNo}
 use Rattle.hk_base.specs.declared.stamp.NodeId.{NodeId}
 use Rattle.hk_history.specs.History.{is_reply}
-use Rattle.hk_register.specs.Machine.{In, Update, Item, State, call_of}
+use Rattle.hk_register.specs.Machine.{In, Update, Item, RegisterState, call_of}
 use Rattle.hk_register.specs.Facts.{Complete}
 use Rattle.hk_register.specs.Parts.{Parts}
 use Rattle.hk_register.specs.Calls.{IsReply, OneReply}
@@ -24,7 +24,7 @@ use Rattle.hk_effects.specs.Runs.{start_trace, IsKept}
 use Rattle.hk_effects.proofs.Legality.{own_agrees}
 use Rattle.hk_safety.specs.declared.evidence.Evidence.{Evidence}
 use Rattle.hk_safety.specs.declared.evidence.Evidence.TheVariants.{Covers}
-use Rattle.hk_safety.specs.declared.evidence.Evidence.TheVariants as E
+use Rattle.hk_safety.specs.declared.evidence.Evidence.TheVariants as Evidence
 use Rattle.hk_safety.specs.declared.key_run.ReadOnlyCall.{ReadOnlyCall}
 use Rattle.hk_safety.specs.Run.{RunState, world_of, trace_with, trace_from, trace_of}
 use Rattle.hk_safety.specs.Push.{with_event}
@@ -103,11 +103,11 @@ complete_of key t s e =
 since_next : (run : RunState) (key : List ℕ) (event : Event) → IsKept key (trace_of key (with_event run event)) → (s : ℕ) → 1 ≤ s → (old new : Evidence) → IsSince run key s old →
     IsSinceThen (length run.events + 1) old new → IsKnown (family (trace_of key (with_event run event)).world.views) (project key (trace_of key (with_event run event))) s new →
     IsSince (with_event run event) key s new
-since_next run key event kept s some (E.Complete at) new was same known = subst (IsSince (with_event run event) key s) (sym same) (
+since_next run key event kept s some (Evidence.Complete at) new was same known = subst (IsSince (with_event run event) key s) (sym same) (
   place_stays run key event (is_completed key s) (subst (λ (n : ℕ). n ≤ length run.events) (sym was.0) was.1) ∙ was.0,
   let long = one_more run event in let within = was.1 in omega (arith, long, within),
 )
-since_next run key event kept s some (Covers groups) (E.Complete at) was is known = (
+since_next run key event kept s some (Covers groups) (Evidence.Complete at) was is known = (
   place_last run key event (is_completed key s) was (completed key (trace_of key (with_event run event)) kept s some known) ∙ sym is,
   let long = one_more run event in omega (arith, long, is),
 )

@@ -4,8 +4,8 @@ use Rattle.std.specs.List.{find, list_all}
 use Rattle.std.specs.Option.{option_map, option_or}
 use Rattle.std.proofs.lemmas.List.Folds.{find-append}
 use Rattle.hk_base.specs.declared.call.CallNo.{CallNo}
-use Rattle.hk_history.specs.declared.event.Event.{Event as Line}
-use Rattle.hk_register.specs.Machine.{In, Mark, Update, Item, State}
+use Rattle.hk_history.specs.declared.event.Event.{Event as HistoryEvent}
+use Rattle.hk_register.specs.Machine.{In, Mark, Update, Item, RegisterState}
 use Rattle.hk_register.specs.Machine.Item.{Called, Answered, Dropped, ReadOnly, Rejected}
 use Rattle.hk_register.specs.Facts.{Complete}
 use Rattle.hk_register.specs.Parts.{Parts}
@@ -23,7 +23,7 @@ use Rattle.hk_effects.proofs.TwoEffects.{append_three}
 use Rattle.hk_effects.proofs.WorldKept.{next_kept}
 use Rattle.hk_safety.specs.declared.evidence.Evidence.{Evidence}
 use Rattle.hk_safety.specs.declared.evidence.Evidence.TheVariants.{Covers}
-use Rattle.hk_safety.specs.declared.evidence.Evidence.TheVariants as E
+use Rattle.hk_safety.specs.declared.evidence.Evidence.TheVariants as Evidence
 use Rattle.hk_safety.specs.Kept.{covers_in, is_ready_mark, call_of, update_at, looks_at, IsKnown}
 use Rattle.hk_safety.specs.Grown.{CompleteBy, IsKnownBy}
 use Rattle.hk_safety.proofs.Noting.{begun_at}
@@ -32,7 +32,7 @@ use Rattle.hk_safety.proofs.Touched.{named_by, ready_by, complete_by}
 -- ---- what stands newest first
 pub events_append : (xs ys : List Item) → events_of (xs ++ ys) ≡ events_of ys ++ events_of xs
 events_append [] ys = sym (append-nil (events_of ys))
-events_append (i ∷ xs) ys = ap (λ (l : List Line). l ++ item_events i) (events_append xs ys) ∙ append_three (events_of ys) (events_of xs) (item_events i)
+events_append (i ∷ xs) ys = ap (λ (l : List HistoryEvent). l ++ item_events i) (events_append xs ys) ∙ append_three (events_of ys) (events_of xs) (item_events i)
 
 pub looks_append : (s : ℕ) (xs ys : List Item) → looks_at s (xs ++ ys) ≡ looks_at s ys ++ looks_at s xs
 looks_append s [] ys = sym (append-nil (looks_at s ys))
@@ -53,7 +53,7 @@ update_append s us begun = ap (option_map call_of) (find-append (λ u. eqb u.sta
     by_found (Some u) = refl
 
 -- ---- complete by the marks, and complete
-module _ (V : ℕ → List ℕ) (st : State) (parts : Parts V st) (s : ℕ) where
+module _ (V : ℕ → List ℕ) (st : RegisterState) (parts : Parts V st) (s : ℕ) where
   complete_in : CompleteBy V st.marks s → Complete V st s
   complete_in (e, ready, all) =
       let f = any_in (is_ready_mark e s) st.marks ready in
@@ -74,11 +74,11 @@ module _ (V : ℕ → List ℕ) (st : State) (parts : Parts V st) (s : ℕ) wher
       )
 
   pub known_by : (ev : Evidence) → IsKnown V st s ev → IsKnownBy V st.marks s ev
-  known_by (E.Complete event) k = complete_by V st s k
+  known_by (Evidence.Complete event) k = complete_by V st s k
   known_by (Covers groups) k = (λ c. k.0 (complete_in c), k.1)
 
   pub known_of : (ev : Evidence) → IsKnownBy V st.marks s ev → IsKnown V st s ev
-  known_of (E.Complete event) k = complete_in k
+  known_of (Evidence.Complete event) k = complete_in k
   known_of (Covers groups) k = (λ c. k.0 (complete_by V st s c), k.1)
 
 -- ---- more agreed views tell nothing of the epochs in which nodes were before
@@ -92,7 +92,7 @@ module _ (U V : ℕ → List ℕ) (marks : List Mark) (same : (m : Mark) → In 
 
 pub known_also : (U V : ℕ → List ℕ) (marks : List Mark) (same : (m : Mark) → In marks m → U m.epoch ≡ V m.epoch) (s : ℕ) (ev : Evidence) →
     IsKnownBy U marks s ev → IsKnownBy V marks s ev
-known_also U V marks same s (E.Complete event) k = complete_also U V marks same s k
+known_also U V marks same s (Evidence.Complete event) k = complete_also U V marks same s k
 known_also U V marks same s (Covers groups) k = (λ c. k.0 (complete_also V U marks (λ m h. sym (same m h)) s c), k.1)
 
 abbrev pub Before : Trace → ℕ → List ℕ

@@ -2,7 +2,7 @@
 use Rattle.std.proofs.Common.{◌≡◌, ◌≢◌, ℕ, Bool, true, false, List, [], ◌∷◌, ◌++◌, Option, Some, None, is_some, ◌∙◌, sym, refl, ap, subst, ⊎_elim, eqb}
 use Rattle.std.proofs.lemmas.Bool.{eqb-true}
 use Rattle.hk_base.specs.declared.call.CallNo.{CallNo}
-use Rattle.hk_base.specs.declared.letter.Letter.{Letter as Wire}
+use Rattle.hk_base.specs.declared.letter.Letter.{Letter}
 use Rattle.hk_base.specs.declared.view.View.{View}
 use Rattle.hk_register.specs.Machine.{In}
 use Rattle.hk_node.specs.Node.{NodeState}
@@ -13,7 +13,7 @@ use Rattle.hk_world.specs.declared.shown.Shown.{Shown}
 use Rattle.hk_world.specs.World.{WorldState}
 use Rattle.hk_effects.specs.Projection.{node_at}
 use Rattle.hk_effects.proofs.Order.{cases_key, same_not}
-use Rattle.hk_history.specs.declared.event.Event.{Event as Line}
+use Rattle.hk_history.specs.declared.event.Event.{Event as HistoryEvent}
 use Rattle.hk_safety.specs.declared.evidence.Cover.{Cover}
 use Rattle.hk_safety.specs.declared.key_run.AtStamp.{AtStamp}
 use Rattle.hk_safety.specs.declared.key_run.ReadOnlyCall.{ReadOnlyCall}
@@ -63,7 +63,7 @@ goes_called n keys named w (Call id k op) shown call key = ⊎_elim
 goes_called n keys named w event shown same key = goes_same n (key_at key keys) (key_at key named) (ap (key_at key) same)
 
 -- ---- replies
-goes_told : (n : ℕ) (named told : Keys) (lines : List ℕ → List Line) → AreTold named told lines → (key : List ℕ) → is_some (find_key key told) ≡ true →
+goes_told : (n : ℕ) (named told : Keys) (lines : List ℕ → List HistoryEvent) → AreTold named told lines → (key : List ℕ) → is_some (find_key key told) ≡ true →
     GoesAt n (key_at key named) (key_at key told)
 goes_told n named told lines are key there =
     goes_stamps n (key_at key named) (key_at key told) (ap (λ (k : KeyState). k.stamps) (are.each key (sym (are.there key) ∙ there)))
@@ -76,7 +76,7 @@ goes_covered v c old new tags covered = record {
 }
 
 module _ (n : ℕ) (told new : Keys) (key : List ℕ) (there : is_some (find_key key told) ≡ true) where
-  goes_viewed : (x : NodeState) (v : View) (r : Acted) (letters : List Wire) → AreTouched n told new x v r letters → GoesAt n (key_at key told) (key_at key new)
+  goes_viewed : (x : NodeState) (v : View) (r : Acted) (letters : List Letter) → AreTouched n told new x v r letters → GoesAt n (key_at key told) (key_at key new)
   goes_viewed x v r letters touched =
       let changed = touched.of_changed.there key ∙ there in
       let opened = touched.of_open.covered.there key ∙ changed in
@@ -86,15 +86,15 @@ module _ (n : ℕ) (told new : Keys) (key : List ℕ) (there : is_some (find_key
       (goes_covered v _ (key_at key touched.changed) (key_at key touched.opened) _ (touched.of_open.covered.each key changed)))
       (goes_covered v _ (key_at key touched.opened) (key_at key new) _ (touched.of_acks.each key opened))
 
-  goes_in : (x : NodeState) (o : Option View) (r : Acted) (letters : List Wire) → AreTouchedIn n o told new x r letters → GoesAt n (key_at key told) (key_at key new)
+  goes_in : (x : NodeState) (o : Option View) (r : Acted) (letters : List Letter) → AreTouchedIn n o told new x r letters → GoesAt n (key_at key told) (key_at key new)
   goes_in x None r letters same = goes_same n (key_at key told) (key_at key new) (ap (key_at key) same)
   goes_in x (Some v) r letters touched = goes_viewed x v r letters touched
 
-  goes_by : (o : Option NodeState) (r : Acted) (letters : List Wire) → AreTouchedBy n o told new r letters → GoesAt n (key_at key told) (key_at key new)
+  goes_by : (o : Option NodeState) (r : Acted) (letters : List Letter) → AreTouchedBy n o told new r letters → GoesAt n (key_at key told) (key_at key new)
   goes_by None r letters same = goes_same n (key_at key told) (key_at key new) (ap (key_at key) same)
   goes_by (Some x) r letters touched = goes_in x x.view r letters touched
 
-  goes_touched : (by : Option Acted) (w : WorldState) (letters : List Wire) → AreTouchedAt n by told new w letters → GoesAt n (key_at key told) (key_at key new)
+  goes_touched : (by : Option Acted) (w : WorldState) (letters : List Letter) → AreTouchedAt n by told new w letters → GoesAt n (key_at key told) (key_at key new)
   goes_touched None w letters same = goes_same n (key_at key told) (key_at key new) (ap (key_at key) same)
   goes_touched (Some r) w letters touched = goes_by (node_at r.node.0 w.processes) r letters touched
 

@@ -7,7 +7,7 @@ use Rattle.std.proofs.lemmas.List.Sums.{sum_by-cons}
 use Rattle.hk_history.specs.declared.event.Event.{Event}
 use Rattle.hk_history.specs.declared.event.Event.TheVariants.{Call, Reply}
 use Rattle.hk_history.specs.History.{is_call, is_reply, IsHistory}
-use Rattle.hk_register.specs.Machine.{In, Item, State, call_of}
+use Rattle.hk_register.specs.Machine.{In, Item, RegisterState, call_of}
 use Rattle.hk_register.specs.Machine.Item.{Called, Answered, Dropped, ReadOnly, Rejected}
 use Rattle.hk_register.specs.Calls.{IsStart, IsReply, OneStart, OneReply, CallParts}
 use Rattle.hk_register.specs.Printed.{item_events, events_of}
@@ -313,7 +313,7 @@ module _ (n : ℕ) where
       by_old false none more = by_item i refl none (sym (any_right (is_reply n) (events_of items) (item_events i) none) ∙ h)
 
 -- ---- what holds of calls gives each reply its call
-module _ (st : State) (calls : CallParts st) where
+module _ (st : RegisterState) (calls : CallParts st) where
   starts : (i : Item) → In st.history i → Starts st.history i
   starts (Called c s op) h replies = absurd replies
   starts (Answered c s a) h replies =

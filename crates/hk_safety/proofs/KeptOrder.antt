@@ -14,9 +14,9 @@ use Rattle.std.proofs.lemmas.List.{map-append}
 use Rattle.std.proofs.lemmas.Map.Keys.{sorted_head, sorted_tail}
 use Rattle.hk_base.specs.declared.call.CallNo.{CallNo}
 use Rattle.hk_base.specs.declared.stamp.Kind.{Kind}
-use Rattle.hk_base.specs.declared.stamp.Kind.TheVariants.{Write as Plain, Rmw}
+use Rattle.hk_base.specs.declared.stamp.Kind.TheVariants as Kind
 use Rattle.hk_history.specs.declared.event.Entry.{Entry}
-use Rattle.hk_register.specs.Machine.{In, Update, Item, State}
+use Rattle.hk_register.specs.Machine.{In, Update, Item, RegisterState}
 use Rattle.hk_register.specs.Machine.Item.{Called, Answered, Dropped, ReadOnly, Rejected}
 use Rattle.hk_register.specs.Facts.{Complete}
 use Rattle.hk_register.specs.Parts.{Parts}
@@ -29,7 +29,7 @@ use Rattle.hk_effects.specs.Orders.{family, order_of}
 use Rattle.hk_effects.proofs.Legality.{own_agrees}
 use Rattle.hk_safety.specs.declared.evidence.Evidence.{Evidence}
 use Rattle.hk_safety.specs.declared.evidence.Evidence.TheVariants.{Covers}
-use Rattle.hk_safety.specs.declared.evidence.Evidence.TheVariants as E
+use Rattle.hk_safety.specs.declared.evidence.Evidence.TheVariants as Evidence
 use Rattle.hk_safety.specs.declared.key_run.AtStamp.{AtStamp}
 use Rattle.hk_safety.specs.declared.key_run.ReadOnlyCall.{ReadOnlyCall}
 use Rattle.hk_safety.specs.Kept.{KeyState, no_stamp, at_stamp, looks_at, calls_in, call_of, update_at, IsKnown, IsKeyOf}
@@ -194,8 +194,8 @@ module _ (us : List Update) (items : List Item) where
 
 -- ---- the rows of a key's stamps are its rows
 pub some_stamp : (kind : Kind) (base n : ℕ) → 1 ≤ next_stamp kind base n
-some_stamp Plain base n = omega arith
-some_stamp Rmw base n = omega arith
+some_stamp Kind.Write base n = omega arith
+some_stamp Kind.Rmw base n = omega arith
 
 no_entry : (slots : List Slot) (x : Slot) → entries slots ≡ [] → In slots x → ⊥
 no_entry [] x e h = h
@@ -205,21 +205,21 @@ no_entry (s ∷ slots) x e h = clash (entry_of s) (entries slots) e
     clash a es e = cc
 
 -- what is kept is what the state of the key has
-record IsOf (V : ℕ → List ℕ) (k : KeyState) (st : State) : Type 0 where
+record IsOf (V : ℕ → List ℕ) (k : KeyState) (st : RegisterState) : Type 0 where
   ordered : Ordered k.stamps
   update : (s : ℕ) → (at_stamp s k).update ≡ update_at s st.begun
   read_only : (s : ℕ) → calls_in (at_stamp s k).read_only ≡ looks_at s st.history
   known : (s : ℕ) → 1 ≤ s → IsKnown V st s (at_stamp s k).evidence
 
-complete_of : (V : ℕ → List ℕ) (st : State) (s : ℕ) (ev : Evidence) → IsKnown V st s ev → is_complete ev ≡ true → Complete V st s
-complete_of V st s (E.Complete event) k e = k
+complete_of : (V : ℕ → List ℕ) (st : RegisterState) (s : ℕ) (ev : Evidence) → IsKnown V st s ev → is_complete ev ≡ true → Complete V st s
+complete_of V st s (Evidence.Complete event) k e = k
 complete_of V st s (Covers groups) k e = absurd (false≢true e)
 
-is_complete_by : (V : ℕ → List ℕ) (st : State) (s : ℕ) (ev : Evidence) → IsKnown V st s ev → Complete V st s → is_complete ev ≡ true
-is_complete_by V st s (E.Complete event) k c = refl
+is_complete_by : (V : ℕ → List ℕ) (st : RegisterState) (s : ℕ) (ev : Evidence) → IsKnown V st s ev → Complete V st s → is_complete ev ≡ true
+is_complete_by V st s (Evidence.Complete event) k c = refl
 is_complete_by V st s (Covers groups) k c = absurd (k.0 c)
 
-module _ (V : ℕ → List ℕ) (st : State) (parts : Parts V st) (k : KeyState) (is : IsOf V k st) where
+module _ (V : ℕ → List ℕ) (st : RegisterState) (parts : Parts V st) (k : KeyState) (is : IsOf V k st) where
   here : (p : Kept) → In k.stamps p → at_stamp p.0 k ≡ p.1
   here p h = ap (λ (o : Option AtStamp). unwrap_or o no_stamp) (found_at k.stamps is.ordered p h)
 

@@ -11,7 +11,7 @@ use Rattle.hk_register.proofs.Tests.{all_in, in_all}
 use Rattle.hk_safety.specs.declared.evidence.Cover.{Cover}
 use Rattle.hk_safety.specs.declared.evidence.Evidence.{Evidence}
 use Rattle.hk_safety.specs.declared.evidence.Evidence.TheVariants.{Covers}
-use Rattle.hk_safety.specs.declared.evidence.Evidence.TheVariants as E
+use Rattle.hk_safety.specs.declared.evidence.Evidence.TheVariants as Evidence
 use Rattle.hk_safety.specs.Kept.{Groups, group_at, is_among, covers_in, is_ready_mark, ready_in, AreToldBy}
 use Rattle.hk_safety.specs.Grown.{IsGroupPut, completes, IsShown, CompleteBy, IsKnownBy, mark_by}
 
@@ -49,7 +49,7 @@ pub same_back : (ms ns : List Mark) (s : ℕ) → TellSame ms ns s → TellSame 
 same_back ms ns s same = record { covers = λ n e. sym (same.covers n e); ready = λ e. sym (same.ready e) }
 
 pub same_known : (V : ℕ → List ℕ) (ms ns : List Mark) (s : ℕ) (ev : Evidence) → TellSame ms ns s → IsKnownBy V ms s ev → IsKnownBy V ns s ev
-same_known V ms ns s (E.Complete event) same k = more_complete V ms ns s (same_less ms ns s same) k
+same_known V ms ns s (Evidence.Complete event) same k = more_complete V ms ns s (same_less ms ns s same) k
 same_known V ms ns s (Covers groups) same k = (
   λ c. k.0 (more_complete V ns ms s (same_less ns ms s (same_back ms ns s same)) c),
   record { nodes = λ n e. k.1.nodes n e ∙ same.covers n e; ready = λ e. k.1.ready e ∙ same.ready e },
@@ -168,8 +168,8 @@ module _ (V : ℕ → List ℕ) (v : View) (c : Cover) (fits : member_numbers v.
       )
 
   pub shown_known : (old new : Evidence) → IsShown old new v c → IsKnownBy V marks s old → IsKnownBy V now s new
-  shown_known (E.Complete event) new shown k = subst (IsKnownBy V now s) (sym shown) (more_complete V marks now s (more_marks (mark_by c v s) marks s) k)
-  shown_known (Covers old) (E.Complete event) shown k = whole_all shown.0 (put_told old shown.0 k.1 shown.1) shown.2
+  shown_known (Evidence.Complete event) new shown k = subst (IsKnownBy V now s) (sym shown) (more_complete V marks now s (more_marks (mark_by c v s) marks s) k)
+  shown_known (Covers old) (Evidence.Complete event) shown k = whole_all shown.0 (put_told old shown.0 k.1 shown.1) shown.2
   shown_known (Covers old) (Covers new) shown k =
       let told = put_told old new k.1 shown.0 in
       (all_whole new told shown.1 k.0, told)

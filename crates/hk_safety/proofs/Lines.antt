@@ -5,15 +5,15 @@ use Rattle.hk_base.specs.declared.stamp.NodeId.{NodeId}
 use Rattle.hk_base.specs.declared.call.CallNo.{CallNo}
 use Rattle.hk_base.specs.declared.call.Op.{Op}
 use Rattle.hk_base.specs.declared.call.Reply.{Reply}
-use Rattle.hk_history.specs.declared.event.Event.{Event as Line}
-use Rattle.hk_history.specs.declared.event.Event.TheVariants as L
+use Rattle.hk_history.specs.declared.event.Event.{Event as HistoryEvent}
+use Rattle.hk_history.specs.declared.event.Event.TheVariants as HistoryEvent
 use Rattle.hk_history.specs.History.{is_void}
 use Rattle.hk_register.specs.Machine.{In, Node, Item}
 use Rattle.hk_register.specs.Machine.Item.{Called, ReadOnly, Rejected}
 use Rattle.hk_register.specs.Printed.{item_events, events_of}
 use Rattle.hk_node.specs.Node.{NodeState}
 use Rattle.hk_node.specs.Sound.{IsNode}
-use Rattle.hk_node.specs.declared.event.NodeEvent.TheVariants as N
+use Rattle.hk_node.specs.declared.event.NodeEvent.TheVariants as NodeEvent
 use Rattle.hk_node.specs.Steps.{node_step}
 use Rattle.hk_node.specs.Stepped.{Stepped}
 use Rattle.hk_node.specs.Calls.{called}
@@ -44,15 +44,15 @@ use Rattle.hk_safety.proofs.Traces.{world_then, step_at, trace_then, run_kept, r
 
 -- ---- the items of one event
 looked : (was : Node) (call : CallNo) (op : Op) (r : Reply) → r.call ≡ call →
-    events_of (read_only_item call.0 op was r ∷ []) ≡ L.Call call op ∷ map reply_line (r ∷ [])
-looked was call op r own = by_void (is_void (Some r.answer)) ∙ ap (λ (c : CallNo). L.Call call op ∷ L.Reply c r.answer ∷ []) (sym own)
+    events_of (read_only_item call.0 op was r ∷ []) ≡ HistoryEvent.Call call op ∷ map reply_line (r ∷ [])
+looked was call op r own = by_void (is_void (Some r.answer)) ∙ ap (λ (c : CallNo). HistoryEvent.Call call op ∷ HistoryEvent.Reply c r.answer ∷ []) (sym own)
   where
-    by_void : (b : Bool) → item_events (cond b (Rejected call.0 op r.answer) (ReadOnly call.0 was.stamp op was.content r.answer)) ≡ L.Call call op ∷ L.Reply call r.answer ∷ []
+    by_void : (b : Bool) → item_events (cond b (Rejected call.0 op r.answer) (ReadOnly call.0 was.stamp op was.content r.answer)) ≡ HistoryEvent.Call call op ∷ HistoryEvent.Reply call r.answer ∷ []
     by_void true = refl
     by_void false = refl
 
 call_events : (was now : Node) (call : CallNo) (op : Op) (rs : List Reply) → IsToldOf rs call was now →
-    events_of (call_items (eqb now.stamp was.stamp) call.0 op was now rs) ≡ L.Call call op ∷ map reply_line rs
+    events_of (call_items (eqb now.stamp was.stamp) call.0 op was now rs) ≡ HistoryEvent.Call call op ∷ map reply_line rs
 call_events was now call op rs told = by_same (eqb now.stamp was.stamp) refl told
   where
     lone : IsToldOf rs call was now → IsLone rs
@@ -60,8 +60,8 @@ call_events was now call op rs told = by_same (eqb now.stamp was.stamp) refl tol
     lone (inr q) = subst IsLone (sym q.0) tt
 
     by_same : (b : Bool) → eqb now.stamp was.stamp ≡ b → IsToldOf rs call was now →
-        events_of (call_items b call.0 op was now rs) ≡ L.Call call op ∷ map reply_line rs
-    by_same true e (inl t) = subst (λ (l : List Reply). events_of (call_items true call.0 op was now l) ≡ L.Call call op ∷ map reply_line l) (sym t.1)
+        events_of (call_items b call.0 op was now rs) ≡ HistoryEvent.Call call op ∷ map reply_line rs
+    by_same true e (inl t) = subst (λ (l : List Reply). events_of (call_items true call.0 op was now l) ≡ HistoryEvent.Call call op ∷ map reply_line l) (sym t.1)
         (looked was call op t.0 t.2)
     by_same true e (inr q) = absurd (q.1 (eqb-true now.stamp was.stamp e))
     by_same false e told = said_behind now.stamp rs (Called call.0 now.stamp op ∷ []) (lone told)
@@ -94,7 +94,7 @@ module _ (key : List ℕ) (t : Trace) (event : Event) (within : IsEvent event) (
         let rs : List Reply = told_at k (called st.x (next_call t.world) k op).told in
         ap (λ (b : Bool). events_of (cond b (call_items (eqb now.stamp was.stamp) (t.world.calls + 1) op was now rs) [])) (same_of k k refl)
         ∙ call_events was now (next_call t.world) op rs (call_at_most t.world id.0 st.x k op kept.own (found t.world event a id st) ok)
-        ∙ ap (λ (b : Bool). cond b (L.Call (next_call t.world) op ∷ []) [] ++ map reply_line rs) (sym (same_of k k refl))
+        ∙ ap (λ (b : Bool). cond b (HistoryEvent.Call (next_call t.world) op ∷ []) [] ++ map reply_line rs) (sym (same_of k k refl))
 
     own_lines : (i : NodeId) (k : List ℕ) (op : Op) → key ≡ k → SaidLines (Call i k op) (called st.x (next_call t.world) k op)
     own_lines i k op same = subst (λ (j : List ℕ). SaidOf j i k op) (sym same) (here_lines i k op)
@@ -106,11 +106,11 @@ module _ (key : List ℕ) (t : Trace) (event : Event) (within : IsEvent event) (
         let rs : List Reply = told_at key (called st.x (next_call t.world) k op).told in
         ap (λ (b : Bool). events_of (cond b (call_items (eqb now.stamp was.stamp) (t.world.calls + 1) op was now rs) [])) (same_not key k ne)
         ∙ ap (map reply_line) (sym (call_elsewhere t.world id.0 st.x key k op kept.own (found t.world event a id st) ok ne))
-        ∙ ap (λ (b : Bool). cond b (L.Call (next_call t.world) op ∷ []) [] ++ map reply_line rs) (sym (same_not key k ne))
+        ∙ ap (λ (b : Bool). cond b (HistoryEvent.Call (next_call t.world) op ∷ []) [] ++ map reply_line rs) (sym (same_not key k ne))
 
     said_lines : (d : Event) → IsEvent d → IsStepOf t.world st.x st.o d → SaidLines d st.o
     said_lines (Call i k op) within how =
-        let same : N.Call (next_call t.world) k op ≡ how.0 = the_some _ _ how.1 in
+        let same : NodeEvent.Call (next_call t.world) k op ≡ how.0 = the_some _ _ how.1 in
         subst (λ (o : Stepped). SaidLines (Call i k op) o) (ap (node_step st.x) same ∙ sym how.2)
         (⊎_elim (λ (e : key ≡ k). own_lines i k op e) (λ (ne : key ≢ k). other_lines i k op ne) (cases_key key k))
     said_lines d within how = reply_events (pending_stamp (key_node key (Some st.x)).phase) (told_at key st.o.told)
@@ -134,9 +134,9 @@ module _ (key : List ℕ) (t : Trace) (event : Event) (within : IsEvent event) (
         let lines : events_of said ≡ event_lines key calls event a.shown =
         ap events_of items ∙ said_lines event within st.how
         ∙ ap (λ (c : Option CallNo). call_line key event c ++ map reply_line (told_at key told)) (sym (ap (λ (b : Accepted). b.shown.call) st.is))
-        ∙ ap (λ (l : List Line). call_line key event a.shown.call ++ l) (sym replied) in
+        ∙ ap (λ (l : List HistoryEvent). call_line key event a.shown.call ++ l) (sym replied) in
         ap (λ (o : Option NodeId). history_of (traced_by key t event a o)) (acting_is t.world event a id st) ∙ events_append said t.history
-        ∙ ap (λ (l : List Line). history_of t ++ l) lines
+        ∙ ap (λ (l : List HistoryEvent). history_of t ++ l) lines
 
   no_lines : (o : Option CallNo) (d : Event) → IsNoCall d → call_line key d o ≡ []
   no_lines o (Call id k op) none = absurd none
@@ -145,9 +145,9 @@ module _ (key : List ℕ) (t : Trace) (event : Event) (within : IsEvent event) (
   beside_lines : IsBeside t.world event a → history_of (traced key t event a) ≡ history_of t ++ event_lines key calls event a.shown
   beside_lines b =
       let nothing : event_lines key calls event a.shown ≡ [] =
-      ap (λ (l : List Line). l ++ lines_at key calls a.shown.replies) (no_lines a.shown.call event b.no_call) ∙ ap (lines_at key calls) b.replies in
+      ap (λ (l : List HistoryEvent). l ++ lines_at key calls a.shown.replies) (no_lines a.shown.call event b.no_call) ∙ ap (lines_at key calls) b.replies in
       ap (λ (o : Option NodeId). history_of (traced_by key t event a o)) b.acting ∙ sym (append-nil (history_of t))
-      ∙ ap (λ (l : List Line). history_of t ++ l) (sym nothing)
+      ∙ ap (λ (l : List HistoryEvent). history_of t ++ l) (sym nothing)
 
   pub lines_then : history_of (traced key t event a) ≡ history_of t ++ event_lines key calls event a.shown
   lines_then = by_way (is_made_by t.world a event e)
@@ -184,9 +184,9 @@ module _ (runs : RunsKeepParts) (key : List ℕ) where
       ap (λ (w : WorldState). lines_from key w (called_from one.events) events) world
       ∙ ap (λ (l : List (List ℕ)). lines_from key a.world l events) (called_append run.events (event ∷ [])) in
       ap (λ (l : List Event). history (record { header = run.header; events = l }) key) (sym (append_assoc run.events (event ∷ []) events)) ∙ rest
-      ∙ ap (λ (l : List Line). l ++ lines_from key (world_of one) (called_from one.events) events) (run_lines run event a run_ok all.0 all.2)
+      ∙ ap (λ (l : List HistoryEvent). l ++ lines_from key (world_of one) (called_from one.events) events) (run_lines run event a run_ok all.0 all.2)
       ∙ append_assoc (history run key) (event_lines key calls event a.shown) (lines_from key (world_of one) (called_from one.events) events)
-      ∙ ap (λ (l : List Line). history run key ++ (event_lines key calls event a.shown ++ l)) there ∙ ap (λ (l : List Line). history run key ++ l) (sym here)
+      ∙ ap (λ (l : List HistoryEvent). history run key ++ (event_lines key calls event a.shown ++ l)) there ∙ ap (λ (l : List HistoryEvent). history run key ++ l) (sym here)
 
   pub history_shown : (run : RunState) → IsRun run → history run key ≡ shown_lines run key
   history_shown run ok = lines_on (record { header = run.header; events = [] }) run.events (record { header = ok.header; accepted = tt }) ok.accepted

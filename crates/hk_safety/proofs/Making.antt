@@ -8,12 +8,12 @@ use Rattle.hk_base.specs.declared.stamp.NodeId.{NodeId}
 use Rattle.hk_base.specs.declared.call.CallNo.{CallNo}
 use Rattle.hk_base.specs.declared.call.Op.{Op}
 use Rattle.hk_base.specs.declared.call.Reply.{Reply}
-use Rattle.hk_base.specs.declared.letter.Letter.{Letter as Wire}
+use Rattle.hk_base.specs.declared.letter.Letter.{Letter}
 use Rattle.hk_base.specs.declared.view.View.{View}
 use Rattle.hk_base.specs.Range.{IsLetter, IsWithin}
 use Rattle.hk_base.specs.Stamp.{tag_of}
-use Rattle.hk_history.specs.declared.event.Event.{Event as Line}
-use Rattle.hk_history.specs.declared.event.Event.TheVariants as L
+use Rattle.hk_history.specs.declared.event.Event.{Event as HistoryEvent}
+use Rattle.hk_history.specs.declared.event.Event.TheVariants as HistoryEvent
 use Rattle.hk_key.specs.declared.row.Row.{Row}
 use Rattle.hk_key.specs.Table.{first_row}
 use Rattle.hk_register.specs.Machine.{In, Node, Item}
@@ -23,7 +23,7 @@ use Rattle.hk_node.specs.declared.report.PriorRow.{PriorRow}
 use Rattle.hk_node.specs.Rows.{find_row, row_at}
 use Rattle.hk_node.specs.Node.{NodeState, epoch_in}
 use Rattle.hk_node.specs.Sound.{IsNode}
-use Rattle.hk_node.specs.declared.event.NodeEvent.TheVariants as N
+use Rattle.hk_node.specs.declared.event.NodeEvent.TheVariants as NodeEvent
 use Rattle.hk_node.specs.Report.{report}
 use Rattle.hk_node.specs.Steps.{node_step}
 use Rattle.hk_node.proofs.Again.{found_sound}
@@ -93,7 +93,7 @@ priors_within x ok (f ∷ rows) each = (by_row f.row (each f (inl refl)), priors
     by_row None e = tt
     by_row (Some row) e = ((found_sound x f.key row ok (sym e)).within, waits_within x f.key row ok (sym e))
 
-behind : (xs ys : List Wire) → AllByRecursion IsLetter (xs ++ ys) → AllByRecursion IsLetter ys
+behind : (xs ys : List Letter) → AllByRecursion IsLetter (xs ++ ys) → AllByRecursion IsLetter ys
 behind [] ys all = all
 behind (x ∷ xs) ys all = behind xs ys all.1
 
@@ -244,8 +244,8 @@ module _ (w : WorldState) (own : IsOwn w) (a : Accepted) (id : NodeId) (x : Node
       let began : is_new a.shown.acted k there.stamp ≡ not (eqb now.stamp was.stamp) =
       ap (λ (t : ℕ). is_new a.shown.acted k t) tag ∙ ap (λ (b : Option Acted). is_new b k now.stamp) s.acted ∙ new_is r x o.node k s.rows in
       let answered : is_answer a.shown.replies ≡ is_answer rs = ap is_answer (s.replies ∙ call_only w id.0 x k op own found ok) in
-      let items : (key_at k named).items ≡ (key_at k keys).items ++ L.Call (next_call w) op ∷ [] = call.here.items
-      ∙ ap (λ (c : CallNo). (key_at k keys).items ++ L.Call c op ∷ []) number in
+      let items : (key_at k named).items ≡ (key_at k keys).items ++ HistoryEvent.Call (next_call w) op ∷ [] = call.here.items
+      ∙ ap (λ (c : CallNo). (key_at k keys).items ++ HistoryEvent.Call c op ∷ []) number in
       let turned : IsTurned (not (eqb now.stamp was.stamp)) (is_answer rs) (key_at k keys).stamps (key_at k named).stamps now.stamp (next_call w) n =
       subst (λ (c : CallNo). IsTurned (not (eqb now.stamp was.stamp)) (is_answer rs) (key_at k keys).stamps (key_at k named).stamps now.stamp c n) number
       (subst (λ (t : ℕ). IsTurned (not (eqb now.stamp was.stamp)) (is_answer rs) (key_at k keys).stamps (key_at k named).stamps t (record { 0 = a.world.calls }) n) tag
@@ -286,7 +286,7 @@ module _ (w : WorldState) (own : IsOwn w) (a : Accepted) (id : NodeId) (ok : (ev
   pub said_at : (event : Event) → IsEvent event → (st : IsStep w event a id) → is_at event id → IsCallKept n keys named a.world event a.shown →
       SaidBy w own a id st.x (ok event st) (found w event a id st) n keys named key event st.o
   said_at (Call i k op) within st named_at call =
-      let e : N.Call (next_call w) k op ≡ st.how.0 = the_some _ _ st.how.1 in
+      let e : NodeEvent.Call (next_call w) k op ≡ st.how.0 = the_some _ _ st.how.1 in
       let mine : IsNamed keys named k (turn_of n a.world id k a.shown) op = subst (λ (j : NodeId). IsNamed keys named k (turn_of n a.world j k a.shown) op) named_at call in
       called_said w own a id st.x (ok (Call i k op) st) (found w (Call i k op) a id st) n keys named key i k op st.o (acted_by w (Call i k op) a id st)
       (record {
@@ -322,7 +322,7 @@ same_but old new e = record {
   read_only = λ s. ap (λ (k : KeyState). (at_stamp s k).read_only) e;
 }
 
-module _ (key : List ℕ) (t : Trace) (event : Event) (a : Accepted) (id : NodeId) (was x : Node) (k0 k1 k2 k3 : KeyState) (lines : List Line)
+module _ (key : List ℕ) (t : Trace) (event : Event) (a : Accepted) (id : NodeId) (was x : Node) (k0 k1 k2 k3 : KeyState) (lines : List HistoryEvent)
     (is : IsKeyOf key k0 t) where
   abbrev said : List Item
   said = items_of key event (t.world.calls + 1) was x (told_at key a.told)
@@ -332,7 +332,7 @@ module _ (key : List ℕ) (t : Trace) (event : Event) (a : Accepted) (id : NodeI
       ((s : ℕ) → 1 ≤ s → IsKnown (After a) (project key (added key t event a id.0 was x)) s (at_stamp s k3).evidence) →
       IsKeyOf key k3 (added key t event a id.0 was x)
   followed_by s e same known = record {
-    items = same.items ∙ ap (λ (k : KeyState). k.items) e ∙ s.items ∙ ap (λ (l : List Line). l ++ events_of said) is.items ∙ sym (events_append said t.history);
+    items = same.items ∙ ap (λ (k : KeyState). k.items) e ∙ s.items ∙ ap (λ (l : List HistoryEvent). l ++ events_of said) is.items ∙ sym (events_append said t.history);
     update = λ u. same.update u ∙ ap (λ (k : KeyState). (at_stamp u k).update) e ∙ s.update u
         ∙ ap (begun_at u (updates_of id.0 was said)) (is.update u) ∙ sym (update_append u (updates_of id.0 was said) t.begun);
     read_only = λ u. ap calls_in (same.read_only u) ∙ ap (λ (k : KeyState). calls_in (at_stamp u k).read_only) e ∙ s.read_only u
@@ -341,7 +341,7 @@ module _ (key : List ℕ) (t : Trace) (event : Event) (a : Accepted) (id : NodeI
   }
 
 -- the keys that are kept stay so
-touched_there : (n : ℕ) (by : Option Acted) (told new : Keys) (w : WorldState) (letters : List Wire) → AreTouchedAt n by told new w letters → (key : List ℕ) →
+touched_there : (n : ℕ) (by : Option Acted) (told new : Keys) (w : WorldState) (letters : List Letter) → AreTouchedAt n by told new w letters → (key : List ℕ) →
     is_some (find_key key new) ≡ is_some (find_key key told)
 touched_there n None told new w letters h key = ap (λ (ks : Keys). is_some (find_key key ks)) h
 touched_there n (Some r) told new w letters h key = by_node (node_at r.node.0 w.processes) h
@@ -354,7 +354,7 @@ touched_there n (Some r) told new w letters h key = by_node (node_at r.node.0 w.
     by_node None h = ap (λ (ks : Keys). is_some (find_key key ks)) h
     by_node (Some x) h = by_view x x.view h
 
-touched_keys : (n : ℕ) (by : Option Acted) (told new : Keys) (w : WorldState) (letters : List Wire) → AreTouchedAt n by told new w letters →
+touched_keys : (n : ℕ) (by : Option Acted) (told new : Keys) (w : WorldState) (letters : List Letter) → AreTouchedAt n by told new w letters →
     keys_of new ≡ keys_of told
 touched_keys n None told new w letters h = ap keys_of h
 touched_keys n (Some r) told new w letters h = by_node (node_at r.node.0 w.processes) h
@@ -493,7 +493,7 @@ module _ (key : List ℕ) (t : Trace) (event : Event) (within : IsEvent event) (
 
 -- ---- no node acts
 with_none : (k : KeyState) → with_lines k [] ≡ k
-with_none k = ap (λ (l : List Line). record { items = l; stamps = k.stamps }) (append-nil k.items)
+with_none k = ap (λ (l : List HistoryEvent). record { items = l; stamps = k.stamps }) (append-nil k.items)
 
 beside_follows : (key : List ℕ) (t : Trace) (event : Event) (a : Accepted) (e : world_step t.world event ≡ Ok a) (kept : IsKept key t)
     (kept_now : IsKept key (traced_by key t event a None)) (old new : KeyState) → new ≡ old → IsKeyOf key old t → IsKeyOf key new (traced_by key t event a None)

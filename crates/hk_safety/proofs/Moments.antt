@@ -18,7 +18,7 @@ use Rattle.hk_effects.specs.Runs.{IsKept}
 use Rattle.hk_effects.proofs.Legality.{own_agrees}
 use Rattle.hk_safety.specs.declared.evidence.Evidence.{Evidence}
 use Rattle.hk_safety.specs.declared.evidence.Evidence.TheVariants.{Covers}
-use Rattle.hk_safety.specs.declared.evidence.Evidence.TheVariants as E
+use Rattle.hk_safety.specs.declared.evidence.Evidence.TheVariants as Evidence
 use Rattle.hk_safety.specs.declared.key_run.AtStamp.{AtStamp}
 use Rattle.hk_safety.specs.declared.key_run.ReadOnlyCall.{ReadOnlyCall}
 use Rattle.hk_safety.specs.declared.placed.Placed.{Placed}
@@ -103,7 +103,7 @@ module _ (run : RunState) (key : List ℕ) (k : KeyState) (trace : IsKept key (t
     where
       by_evidence : (ev : Evidence) → IsSince run key s ev → IsKnown V (project key t) s ev → completed_at run key s ≡ end + 1
       by_evidence (Covers groups) since known = since
-      by_evidence (E.Complete event) since known = ⊎_elim
+      by_evidence (Evidence.Complete event) since known = ⊎_elim
           (λ (zero_is : s ≡ 0). absurd (omega (arith, zero_is, some)))
           (λ (u : (u : Update) × In t.begun u × (u.stamp ≡ s)).
           let found = subst (λ (r : ℕ). update_at r t.begun ≡ Some (call_of u.0)) u.2 (ap (option_map call_of) (is_found t.begun u.0 parts.once u.1)) in
@@ -164,7 +164,7 @@ module _ (run : RunState) (key : List ℕ) (k : KeyState) (trace : IsKept key (t
     call : CallNo
     event : ℕ
     update : p.1.update ≡ Some call
-    evidence : p.1.evidence ≡ E.Complete event
+    evidence : p.1.evidence ≡ Evidence.Complete event
     at : completed_at run key p.0 ≡ event
     within : event ≤ end
 
@@ -185,9 +185,9 @@ module _ (run : RunState) (key : List ℕ) (k : KeyState) (trace : IsKept key (t
         no_entry = ap (update_entry (is_done p.1.evidence) p.0) e;
         never = λ some. lacks p.0 some (ap (λ (a : AtStamp). a.update) here ∙ e);
       })
-      by_both (Some call) e (E.Complete event) f =
+      by_both (Some call) e (Evidence.Complete event) f =
           let some = some_update p.0 call (ap (λ (a : AtStamp). a.update) here ∙ e) in
-          let since : IsSince run key p.0 (E.Complete event) = same (E.Complete event) f some in
+          let since : IsSince run key p.0 (Evidence.Complete event) = same (Evidence.Complete event) f some in
           inl (record { call = call; event = event; update = e; evidence = f; at = since.0; within = since.1 })
       by_both (Some call) e (Covers groups) f = inr (record {
         nothing = ap₂ (λ (o : Option CallNo) (ev : Evidence). change_placed ev p.0 o) e f;
@@ -297,7 +297,7 @@ module _ (run : RunState) (key : List ℕ) (k : KeyState) (trace : IsKept key (t
     where
       by_evidence : (ev : Evidence) → IsSince run key p.0 ev → ((n : ℕ) → n ≤ end → earliest n rows ≡ min n (moment run key (p.0 + 1))) →
           earliest (earlier m ev) rows ≡ min m (moment run key b)
-      by_evidence (E.Complete event) since rest =
+      by_evidence (Evidence.Complete event) since rest =
           let at = gap b p rows from some in
           let follows = moments_follow run key p.0 in
           let more = rest (min m event) (omega (arith, l)) in

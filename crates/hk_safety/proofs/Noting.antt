@@ -6,8 +6,8 @@ use Rattle.std.proofs.lemmas.List.{map-append}
 use Rattle.hk_base.specs.declared.call.CallNo.{CallNo}
 use Rattle.hk_base.specs.declared.call.Op.{Op}
 use Rattle.hk_base.specs.declared.call.Reply.{Reply}
-use Rattle.hk_history.specs.declared.event.Event.{Event as Line}
-use Rattle.hk_history.specs.declared.event.Event.TheVariants as L
+use Rattle.hk_history.specs.declared.event.Event.{Event as HistoryEvent}
+use Rattle.hk_history.specs.declared.event.Event.TheVariants as Event
 use Rattle.hk_history.specs.History.{is_void, is_unsure}
 use Rattle.hk_register.specs.Machine.{Node, Item, Update}
 use Rattle.hk_register.specs.Machine.Item.{Called, Answered, Dropped, ReadOnly, Rejected}
@@ -48,7 +48,7 @@ replies_found_none t s (r ∷ rs) items = reply_found_none t s r (map (reply_ite
 -- one reply at most, behind what came before
 pub said_behind : (s : ℕ) (rs : List Reply) (items : List Item) → IsLone rs → events_of (map (reply_item s) rs ++ items) ≡ events_of items ++ map reply_line rs
 said_behind s [] items lone = sym (append-nil (events_of items))
-said_behind s (r ∷ []) items lone = ap (λ (l : List Line). events_of items ++ l) (reply_said s r)
+said_behind s (r ∷ []) items lone = ap (λ (l : List HistoryEvent). events_of items ++ l) (reply_said s r)
 said_behind s (r ∷ q ∷ rs) items lone = absurd lone
 
 -- the replies that the key's calls got
@@ -62,7 +62,7 @@ lines_told key calls (t ∷ told) named =
   where
     by_test : (b : Bool) → lines_at key calls (map (λ t. t.1) told) ≡ map reply_line (told_at key told) →
         cond b (reply_line t.1 ∷ []) [] ++ lines_at key calls (map (λ t. t.1) told) ≡ map reply_line (cond b (t.1 ∷ told_at key told) (told_at key told))
-    by_test true more = ap (λ (l : List Line). reply_line t.1 ∷ l) more
+    by_test true more = ap (λ (l : List HistoryEvent). reply_line t.1 ∷ l) more
     by_test false more = more
 
 -- ---- what is said at a key
@@ -70,7 +70,7 @@ lines_told key calls (t ∷ told) named =
 abbrev pub begun_at : ℕ → List Update → Option CallNo → Option CallNo
 begun_at s us old = elim (update_at s us) [ None ↦ old | Some call ↦ Some call ]
 
-pub record IsSaid (old new : KeyState) (lines : List Line) (said : List Item) (us : List Update) : Type 0 where
+pub record IsSaid (old new : KeyState) (lines : List HistoryEvent) (said : List Item) (us : List Update) : Type 0 where
   pub items : new.items ++ lines ≡ old.items ++ events_of said
   pub update : (s : ℕ) → (at_stamp s new).update ≡ begun_at s us (at_stamp s old).update
   pub read_only : (s : ℕ) → calls_in (at_stamp s new).read_only ≡ calls_in (at_stamp s old).read_only ++ looks_at s said
@@ -81,7 +81,7 @@ pub said_quiet : (old new : KeyState) (id : ℕ) (z : Node) (s : ℕ) (rs : List
     IsSaid old new (map reply_line rs) (map (reply_item s) rs) (updates_of id z (map (reply_item s) rs))
 said_quiet old new id z s rs lone same = record {
   items = ap (λ (k : KeyState). k.items ++ map reply_line rs) same
-      ∙ ap (λ (l : List Line). old.items ++ l) (sym (ap events_of (sym (append-nil (map (reply_item s) rs))) ∙ said_behind s rs [] lone));
+      ∙ ap (λ (l : List HistoryEvent). old.items ++ l) (sym (ap events_of (sym (append-nil (map (reply_item s) rs))) ∙ said_behind s rs [] lone));
   update = λ t. ap (λ (k : KeyState). (at_stamp t k).update) same ∙ ap (λ (us : List Update). begun_at t us (at_stamp t old).update) (sym none);
   read_only = λ t. ap (λ (k : KeyState). calls_in (at_stamp t k).read_only) same ∙ sym (append-nil (calls_in (at_stamp t old).read_only))
       ∙ ap (λ (l : List CallNo). calls_in (at_stamp t old).read_only ++ l) (sym (ap (looks_at t) (sym (append-nil (map (reply_item s) rs))) ∙ replies_found_none t s rs []));
@@ -109,11 +109,11 @@ picked o old = elim o [ None ↦ old | Some call ↦ Some call ]
 
 -- a call that began an update
 pub said_begun : (old new : KeyState) (id : ℕ) (z : Node) (s : ℕ) (call : CallNo) (op : Op) (rs : List Reply) → IsLone rs →
-    new.items ≡ old.items ++ L.Call call op ∷ [] → IsBegunAt old.stamps new.stamps s call →
+    new.items ≡ old.items ++ Event.Call call op ∷ [] → IsBegunAt old.stamps new.stamps s call →
     IsSaid old new (map reply_line rs) (map (reply_item s) rs ++ Called call.0 s op ∷ []) (updates_of id z (map (reply_item s) rs ++ Called call.0 s op ∷ []))
 said_begun old new id z s call op rs lone items begun = record {
-  items = ap (λ (l : List Line). l ++ map reply_line rs) items ∙ append_assoc old.items (L.Call call op ∷ []) (map reply_line rs)
-      ∙ ap (λ (l : List Line). old.items ++ l) (sym (said_behind s rs (Called call.0 s op ∷ []) lone));
+  items = ap (λ (l : List HistoryEvent). l ++ map reply_line rs) items ∙ append_assoc old.items (Event.Call call op ∷ []) (map reply_line rs)
+      ∙ ap (λ (l : List HistoryEvent). old.items ++ l) (sym (said_behind s rs (Called call.0 s op ∷ []) lone));
   update = λ t. by_stamp t (eqb s t) refl ∙ ap (λ (us : List Update). begun_at t us (at_stamp t old).update)
       (sym (replies_begin_none id z s rs (Called call.0 s op ∷ [])));
   read_only = λ t. ap calls_in (by_looks t (eqb t s) refl) ∙ sym (append-nil (calls_in (at_stamp t old).read_only))
@@ -143,11 +143,11 @@ said_begun old new id z s call op rs lone items begun = record {
 
 -- a call that was answered at once, and one that was refused
 module _ (old new : KeyState) (id : ℕ) (z was : Node) (call : CallNo) (op : Op) (r : Reply) (own : r.call ≡ call)
-    (items : new.items ≡ old.items ++ L.Call call op ∷ []) where
-  said_item : (i : Item) → item_events i ≡ L.Call call op ∷ L.Reply call r.answer ∷ [] → new.items ++ reply_line r ∷ [] ≡ old.items ++ ([] ++ item_events i)
+    (items : new.items ≡ old.items ++ Event.Call call op ∷ []) where
+  said_item : (i : Item) → item_events i ≡ Event.Call call op ∷ Event.Reply call r.answer ∷ [] → new.items ++ reply_line r ∷ [] ≡ old.items ++ ([] ++ item_events i)
   said_item i e =
-      ap (λ (l : List Line). l ++ reply_line r ∷ []) items ∙ append_assoc old.items (L.Call call op ∷ []) (reply_line r ∷ [])
-      ∙ ap (λ (c : CallNo). old.items ++ (L.Call call op ∷ L.Reply c r.answer ∷ [])) own ∙ ap (λ (l : List Line). old.items ++ l) (sym e)
+      ap (λ (l : List HistoryEvent). l ++ reply_line r ∷ []) items ∙ append_assoc old.items (Event.Call call op ∷ []) (reply_line r ∷ [])
+      ∙ ap (λ (c : CallNo). old.items ++ (Event.Call call op ∷ Event.Reply c r.answer ∷ [])) own ∙ ap (λ (l : List HistoryEvent). old.items ++ l) (sym e)
 
   said_rejected : new.stamps ≡ old.stamps → IsSaid old new (reply_line r ∷ []) (Rejected call.0 op r.answer ∷ []) []
   said_rejected same = record {
@@ -198,7 +198,7 @@ module _ (old new : KeyState) (id : ℕ) (z was : Node) (call : CallNo) (op : Op
 abbrev pub IsToldOf : List Reply → CallNo → Node → Node → Type 0
 IsToldOf rs call was now = ((r : Reply) × (rs ≡ r ∷ []) × (r.call ≡ call)) ⊎ ((rs ≡ []) × (now.stamp ≢ was.stamp))
 
-pub said_call : (old new : KeyState) (id : ℕ) (was now : Node) (n : ℕ) (call : CallNo) (op : Op) (rs : List Reply) → new.items ≡ old.items ++ L.Call call op ∷ [] →
+pub said_call : (old new : KeyState) (id : ℕ) (was now : Node) (n : ℕ) (call : CallNo) (op : Op) (rs : List Reply) → new.items ≡ old.items ++ Event.Call call op ∷ [] →
     IsTurned (not (eqb now.stamp was.stamp)) (is_answer rs) old.stamps new.stamps now.stamp call n → IsToldOf rs call was now →
     IsSaid old new (map reply_line rs) (call_items (eqb now.stamp was.stamp) call.0 op was now rs)
     (updates_of id was (call_items (eqb now.stamp was.stamp) call.0 op was now rs))

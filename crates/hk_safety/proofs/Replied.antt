@@ -3,8 +3,8 @@ use Rattle.std.proofs.Common.{◌≡◌, ℕ, true, List, [], ◌∷◌, ◌++�
 use Rattle.std.specs.List.{list_any}
 use Rattle.std.proofs.lemmas.Bool.{false≢true, eqb-true, eq-eqb}
 use Rattle.hk_base.specs.declared.call.CallNo.{CallNo}
-use Rattle.hk_history.specs.declared.event.Event.{Event as Line}
-use Rattle.hk_history.specs.declared.event.Event.TheVariants as L
+use Rattle.hk_history.specs.declared.event.Event.{Event as HistoryEvent}
+use Rattle.hk_history.specs.declared.event.Event.TheVariants as Event
 use Rattle.hk_history.specs.History.{is_reply}
 use Rattle.hk_register.specs.Machine.{In, Item, call_of}
 use Rattle.hk_register.specs.Machine.Item.{Called, Answered, Dropped, ReadOnly, Rejected}
@@ -15,18 +15,18 @@ use Rattle.hk_register.proofs.Tests.{any_in, in_any}
 use Rattle.hk_safety.specs.Kept.{looks_at}
 
 -- ---- from replies to items
-item_replies : (i : Item) (c : ℕ) (line : Line) → In (item_events i) line → is_reply c line ≡ true → IsReply i × (call_of i ≡ c)
-item_replies (Called d s op) c line (inl e) r = absurd (false≢true (subst (λ (l : Line). is_reply c l ≡ true) e r))
+item_replies : (i : Item) (c : ℕ) (line : HistoryEvent) → In (item_events i) line → is_reply c line ≡ true → IsReply i × (call_of i ≡ c)
+item_replies (Called d s op) c line (inl e) r = absurd (false≢true (subst (λ (l : HistoryEvent). is_reply c l ≡ true) e r))
 item_replies (Called d s op) c line (inr h) r = absurd h
-item_replies (Answered d s a) c line (inl e) r = (tt, eqb-true d c (subst (λ (l : Line). is_reply c l ≡ true) e r))
+item_replies (Answered d s a) c line (inl e) r = (tt, eqb-true d c (subst (λ (l : HistoryEvent). is_reply c l ≡ true) e r))
 item_replies (Answered d s a) c line (inr h) r = absurd h
-item_replies (Dropped d s a) c line (inl e) r = (tt, eqb-true d c (subst (λ (l : Line). is_reply c l ≡ true) e r))
+item_replies (Dropped d s a) c line (inl e) r = (tt, eqb-true d c (subst (λ (l : HistoryEvent). is_reply c l ≡ true) e r))
 item_replies (Dropped d s a) c line (inr h) r = absurd h
-item_replies (ReadOnly d s op held a) c line (inl e) r = absurd (false≢true (subst (λ (l : Line). is_reply c l ≡ true) e r))
-item_replies (ReadOnly d s op held a) c line (inr (inl e)) r = (tt, eqb-true d c (subst (λ (l : Line). is_reply c l ≡ true) e r))
+item_replies (ReadOnly d s op held a) c line (inl e) r = absurd (false≢true (subst (λ (l : HistoryEvent). is_reply c l ≡ true) e r))
+item_replies (ReadOnly d s op held a) c line (inr (inl e)) r = (tt, eqb-true d c (subst (λ (l : HistoryEvent). is_reply c l ≡ true) e r))
 item_replies (ReadOnly d s op held a) c line (inr (inr h)) r = absurd h
-item_replies (Rejected d op a) c line (inl e) r = absurd (false≢true (subst (λ (l : Line). is_reply c l ≡ true) e r))
-item_replies (Rejected d op a) c line (inr (inl e)) r = (tt, eqb-true d c (subst (λ (l : Line). is_reply c l ≡ true) e r))
+item_replies (Rejected d op a) c line (inl e) r = absurd (false≢true (subst (λ (l : HistoryEvent). is_reply c l ≡ true) e r))
+item_replies (Rejected d op a) c line (inr (inl e)) r = (tt, eqb-true d c (subst (λ (l : HistoryEvent). is_reply c l ≡ true) e r))
 item_replies (Rejected d op a) c line (inr (inr h)) r = absurd h
 
 pub record RepliedBy (items : List Item) (c : ℕ) : Type 0 where
@@ -38,7 +38,7 @@ pub record RepliedBy (items : List Item) (c : ℕ) : Type 0 where
 pub replied_is : (items : List Item) (c : ℕ) → list_any (is_reply c) (events_of items) ≡ true → RepliedBy items c
 replied_is items c e = let t = any_in (is_reply c) (events_of items) e in by_items items t.0 t.1 t.2
   where
-    by_items : (items : List Item) (line : Line) → In (events_of items) line → is_reply c line ≡ true → RepliedBy items c
+    by_items : (items : List Item) (line : HistoryEvent) → In (events_of items) line → is_reply c line ≡ true → RepliedBy items c
     by_items [] line h r = absurd h
     by_items (i ∷ items) line h r = ⊎_elim
         (λ (k : In (events_of items) line). let t = by_items items line k r in record { item = t.item; there = inr t.there; reply = t.reply; call = t.call })
@@ -46,12 +46,12 @@ replied_is items c e = let t = any_in (is_reply c) (events_of items) e in by_ite
         (in_either (events_of items) (item_events i) line h)
 
 -- ---- from items to replies
-replies_of : (i : Item) → IsReply i → (line : Line) × In (item_events i) line × (is_reply (call_of i) line ≡ true)
+replies_of : (i : Item) → IsReply i → (line : HistoryEvent) × In (item_events i) line × (is_reply (call_of i) line ≡ true)
 replies_of (Called c s op) reply = absurd reply
-replies_of (Answered c s a) reply = (L.Reply (record { 0 = c }) a, inl refl, eq-eqb c c refl)
-replies_of (Dropped c s a) reply = (L.Reply (record { 0 = c }) a, inl refl, eq-eqb c c refl)
-replies_of (ReadOnly c s op held a) reply = (L.Reply (record { 0 = c }) a, inr (inl refl), eq-eqb c c refl)
-replies_of (Rejected c op a) reply = (L.Reply (record { 0 = c }) a, inr (inl refl), eq-eqb c c refl)
+replies_of (Answered c s a) reply = (Event.Reply (record { 0 = c }) a, inl refl, eq-eqb c c refl)
+replies_of (Dropped c s a) reply = (Event.Reply (record { 0 = c }) a, inl refl, eq-eqb c c refl)
+replies_of (ReadOnly c s op held a) reply = (Event.Reply (record { 0 = c }) a, inr (inl refl), eq-eqb c c refl)
+replies_of (Rejected c op a) reply = (Event.Reply (record { 0 = c }) a, inr (inl refl), eq-eqb c c refl)
 
 pub replied_by : (items : List Item) (i : Item) → In items i → IsReply i → list_any (is_reply (call_of i)) (events_of items) ≡ true
 replied_by [] i h reply = absurd h

@@ -6,28 +6,28 @@ use Rattle.hk_register.proofs.Grow.{in_either}
 use Rattle.hk_safety.specs.declared.evidence.Cover.{Cover}
 use Rattle.hk_safety.specs.declared.evidence.Evidence.{Evidence}
 use Rattle.hk_safety.specs.declared.evidence.Evidence.TheVariants.{Covers}
-use Rattle.hk_safety.specs.declared.evidence.Evidence.TheVariants as E
+use Rattle.hk_safety.specs.declared.evidence.Evidence.TheVariants as Evidence
 use Rattle.hk_safety.specs.declared.key_run.ReadOnlyCall.{ReadOnlyCall}
 use Rattle.hk_safety.specs.Kept.{KeyState, at_stamp}
 use Rattle.hk_safety.specs.Grown.{IsShown, IsSinceThen, AreLooked, GoesAt}
 
 -- ---- evidence
 pub since_itself : (n : ℕ) (ev : Evidence) → IsSinceThen n ev ev
-since_itself n (E.Complete event) = refl
+since_itself n (Evidence.Complete event) = refl
 since_itself n (Covers groups) = tt
 
 pub since_same : (n : ℕ) (old new : Evidence) → new ≡ old → IsSinceThen n old new
 since_same n old new same = subst (IsSinceThen n old) (sym same) (since_itself n old)
 
 pub since_both : (n : ℕ) (old mid new : Evidence) → IsSinceThen n old mid → IsSinceThen n mid new → IsSinceThen n old new
-since_both n (E.Complete event) mid new first second = subst (λ (ev : Evidence). IsSinceThen n ev new) first second
-since_both n (Covers groups) (E.Complete event) new first second = subst (IsSinceThen n (Covers groups)) (sym second) first
-since_both n (Covers groups) (Covers more) (E.Complete event) first second = second
+since_both n (Evidence.Complete event) mid new first second = subst (λ (ev : Evidence). IsSinceThen n ev new) first second
+since_both n (Covers groups) (Evidence.Complete event) new first second = subst (IsSinceThen n (Covers groups)) (sym second) first
+since_both n (Covers groups) (Covers more) (Evidence.Complete event) first second = second
 since_both n (Covers groups) (Covers more) (Covers most) first second = tt
 
 pub since_shown : (v : View) (c : Cover) (old new : Evidence) → IsShown old new v c → IsSinceThen c.event old new
-since_shown v c (E.Complete event) new shown = shown
-since_shown v c (Covers groups) (E.Complete event) shown = shown.3
+since_shown v c (Evidence.Complete event) new shown = shown
+since_shown v c (Covers groups) (Evidence.Complete event) shown = shown.3
 since_shown v c (Covers groups) (Covers more) shown = tt
 
 -- ---- looks

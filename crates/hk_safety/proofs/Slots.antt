@@ -4,7 +4,7 @@ use Rattle.std.proofs.Common.{◌≡◌, ◌⊎◌, ℕ, Bool, true, false, cond
 use Rattle.std.proofs.Common.{Option, Some, None, eqb, length, eq-zero-or-pos, find, is_some}
 use Rattle.std.specs.Prelude.{if◌then◌else◌, ◌==◌, ⊤}
 use Rattle.std.proofs.lemmas.Bool.{false≢true, eqb-true, eqb-false, eq-eqb}
-use Rattle.hk_register.specs.Machine.{In, Update, Item, State}
+use Rattle.hk_register.specs.Machine.{In, Update, Item, RegisterState}
 use Rattle.hk_register.specs.Machine.Item.{Called, Answered, Dropped, ReadOnly, Rejected}
 use Rattle.hk_register.specs.Facts.{Complete}
 use Rattle.hk_register.specs.Parts.{Parts}
@@ -248,13 +248,13 @@ module _ (us : List Update) (items : List Item) where
       inl (omega (arith, up, mine, its)))
 
 -- ---- what the rows must say of a key, so that theirs are its slots
-pub record AreRows (V : ℕ → List ℕ) (st : State) (rows : List Row) : Type 0 where
+pub record AreRows (V : ℕ → List ℕ) (st : RegisterState) (rows : List Row) : Type 0 where
   pub rising : Rising rows
   pub complete : (r : Row) → In rows r → r.complete ≡ true → (u : Update) → In st.begun u → u.stamp ≡ r.stamp → Complete V st u.stamp
   pub updates : (u : Update) → In st.begun u → Complete V st u.stamp → In rows (record { stamp = u.stamp; complete = true })
   pub read_only : (x : Slot) → StandsAt st.history x.place (look_of x) → (b : Bool) × In rows (record { stamp = x.stamp; complete = b })
 
-module _ (V : ℕ → List ℕ) (st : State) (parts : Parts V st) (rows : List Row) (are : AreRows V st rows) where
+module _ (V : ℕ → List ℕ) (st : RegisterState) (parts : Parts V st) (rows : List Row) (are : AreRows V st rows) where
   abbrev by_rows : List Slot
   by_rows = slots_of st.begun st.history rows
 
@@ -269,7 +269,7 @@ module _ (V : ℕ → List ℕ) (st : State) (parts : Parts V st) (rows : List R
       let u = updates_are st.begun st.history at.0 x a in
       subst (In (printed V st)) (sym u.slot) (sorted_printed.updates u.update u.begun (are.complete at.0 at.1 u.complete u.update u.begun u.stamp)))
       (λ (b : In (look_part st.history at.0) x).
-      sorted_printed.read_only x.place x.call x.stamp x.op x.content x.answer (looks_are at.0.stamp st.history x b).2)
+      sorted_printed.looks x.place x.call x.stamp x.op x.content x.answer (looks_are at.0.stamp st.history x b).2)
       (in_either (update_part st.begun at.0) (look_part st.history at.0) x at.2)
 
   update_in : (u : Update) → In st.begun u → Complete V st u.stamp → In by_rows (update_slot u)

@@ -17,7 +17,7 @@ use Rattle.hk_effects.proofs.Legality.{own_agrees}
 use Rattle.hk_effects.proofs.Rests.{row_sound, node_holds}
 use Rattle.hk_safety.specs.declared.evidence.Evidence.{Evidence}
 use Rattle.hk_safety.specs.declared.evidence.Evidence.TheVariants.{Covers}
-use Rattle.hk_safety.specs.declared.evidence.Evidence.TheVariants as E
+use Rattle.hk_safety.specs.declared.evidence.Evidence.TheVariants as Evidence
 use Rattle.hk_safety.specs.Run.{RunState, trace_of}
 use Rattle.hk_safety.specs.Moment.{is_completed, moment, moment_of}
 use Rattle.hk_safety.specs.Kept.{KeyState, IsKnown, IsKeyOf, HasEvents, IsSince, at_stamp}
@@ -86,7 +86,7 @@ module _ (run : RunState) (key : List ℕ) (trace : IsKept key (trace_of key run
           told ≡ option_map (λ event. earliest event (stamps_from s k.stamps)) (completion ev) → told ≡ moment_of run key s
       by_evidence (Covers groups) e some known since none =
           none ∙ none_told s (false_from_ne_true (is_completed key s t) (λ c. known.0 (complete_of key t s c).3))
-      by_evidence (E.Complete event) e some known since found =
+      by_evidence (Evidence.Complete event) e some known since found =
           let rise : Ordered k.stamps = subst (λ (o : Option ℕ). IfSome o (λ event. Ordered k.stamps)) found ordered in
           let whole = earliest_whole run key k trace is had rise s some event since.0 since.1 in
           found ∙ ap Some whole ∙ sym (ap (λ (b : Bool). cond b (Some (moment run key s)) None) (completed key t trace s some known))

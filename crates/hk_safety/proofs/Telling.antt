@@ -7,7 +7,7 @@ use Rattle.hk_base.specs.declared.call.Reply.{Reply}
 use Rattle.hk_register.specs.Machine.{In, Node, Update, Item}
 use Rattle.hk_register.specs.Machine.Item.{Called}
 use Rattle.hk_register.proofs.Grow.{in_left, in_either}
-use Rattle.hk_node.specs.declared.event.NodeEvent.TheVariants as N
+use Rattle.hk_node.specs.declared.event.NodeEvent.TheVariants as NodeEvent
 use Rattle.hk_node.specs.Node.{NodeState}
 use Rattle.hk_node.specs.Steps.{node_step}
 use Rattle.hk_node.specs.Stepped.{Stepped}
@@ -190,7 +190,7 @@ replied_call key w own id k op a calls r e count told = by_made (is_made_by w a 
     by_made : IsMadeBy w (Call id k op) a → numbered r.call.0 (calls ++ k ∷ []) ≡ Some key
     by_made (inl s) =
         let x : NodeState = s.1.x in
-        let ev : N.Call (next_call w) k op ≡ s.1.how.0 = the_some _ _ s.1.how.1 in
+        let ev : NodeEvent.Call (next_call w) k op ≡ s.1.how.0 = the_some _ _ s.1.how.1 in
         let mine : In (called x (record { 0 = w.calls + 1 }) k op).told (key, r) =
         subst (λ (o : Stepped). In o.told (key, r)) (s.1.how.2 ∙ ap (node_step x) (sym ev)) (subst (λ (b : Accepted). In b.told (key, r)) s.1.is told) in
         by_way (called x (record { 0 = w.calls + 1 }) k op) mine

@@ -2,21 +2,20 @@
 use Rattle.std.proofs.Common.{◌≡◌, ◌≢◌, ◌⊎◌, ℕ, Bool, true, false, cond, not, ◌&&◌, List, [], ◌∷◌, ◌++◌, ◌<◌, ◌≤◌, ◌∙◌, sym, refl, ap, ap₂, subst, inl, inr, ⊎_elim, arith, Option, Some, None, unwrap_or, is_some, eqb, eq-zero-or-pos, rules, ltb, leb}
 use Rattle.std.specs.List.{AllByRecursion, flat_map, list_any}
 use Rattle.std.proofs.lemmas.Bool.{false≢true, eqb-true, eq-eqb, and_parts, and_from, or_parts, or_from, ltb-false}
-use Rattle.hk_base.specs.declared.call.State.{State as RowState}
-use Rattle.hk_base.specs.declared.call.State.TheVariants.{Valid as IsValid, Invalid as IsInvalid, Write as IsWrite, Replay as IsReplay, Trans as IsTrans}
+use Rattle.hk_base.specs.declared.call.State.{State}
+use Rattle.hk_base.specs.declared.call.State.TheVariants as State
 use Rattle.hk_base.specs.declared.letter.Body.{Body}
-use Rattle.hk_base.specs.declared.letter.Body.TheVariants.{Inv as InvBody, Ack as AckBody, Val as ValBody, CopyGive}
-use Rattle.hk_base.specs.declared.letter.Letter.{Letter as Wire}
+use Rattle.hk_base.specs.declared.letter.Body.TheVariants as Body
+use Rattle.hk_base.specs.declared.letter.Letter.{Letter}
 use Rattle.hk_base.specs.declared.stamp.Stamp.{Stamp}
 use Rattle.hk_base.specs.declared.view.View.{View}
 use Rattle.hk_base.specs.View.{member_numbers}
 use Rattle.hk_base.specs.Stamp.{tag_of}
-use Rattle.hk_key.specs.declared.row.Pending.{Pending as Waits}
+use Rattle.hk_key.specs.declared.row.Pending.{Pending}
 use Rattle.hk_key.specs.declared.row.Row.{Row}
 use Rattle.hk_key.specs.Sound.{Holds}
-use Rattle.hk_register.specs.Machine.{In, Weaker, Marked, Mark, Node, Phase, Pending, Letter, State}
+use Rattle.hk_register.specs.Machine.{In, Weaker, Marked, Mark, Node, Phase, WaitingUpdate, Message, RegisterState}
 use Rattle.hk_register.specs.Machine.Phase.{Valid, Invalid, Write, Replay, Trans}
-use Rattle.hk_register.specs.Machine.Letter.{Inv, Ack as AckL, Val, Give}
 use Rattle.hk_register.specs.Effects.{Has, row_mark, cover_mark}
 use Rattle.hk_register.specs.Facts.{Complete, Settled, Rests, ReadyCovers}
 use Rattle.hk_register.specs.Parts.{Parts, PhaseOk}
@@ -42,7 +41,7 @@ use Rattle.hk_world.specs.declared.shown.Acted.{Acted}
 use Rattle.hk_safety.specs.declared.evidence.Cover.{Cover}
 use Rattle.hk_safety.specs.declared.evidence.Evidence.{Evidence}
 use Rattle.hk_safety.specs.declared.evidence.Evidence.TheVariants.{Covers}
-use Rattle.hk_safety.specs.declared.evidence.Evidence.TheVariants as E
+use Rattle.hk_safety.specs.declared.evidence.Evidence.TheVariants as Evidence
 use Rattle.hk_safety.specs.Kept.{covers_in, is_ready_mark, ready_in}
 use Rattle.hk_safety.specs.Grown.{CompleteBy, IsKnownBy, mark_by, with_mark, Touch, tags_at, wait_touches, touches_now, prior_waits, changed_touches, ack_touches, letter_touches, has_risen, has_moved, is_open}
 use Rattle.hk_safety.proofs.Known.{TellNoLess, TellSame, same_of_both, same_known, more_complete}
@@ -104,7 +103,7 @@ told_no_less few more s told = record { covers = covers; ready = ready }
         in_any (is_ready_mark e s) more j.0 j.2 (by_ready e s j.0 (j.1.ready is.0) (sym j.1.epoch ∙ is.1) (sym j.1.stamp ∙ is.2))
 
 -- what is complete is so by the marks
-pub complete_by : (V : ℕ → List ℕ) (st : State) (s : ℕ) → Complete V st s → CompleteBy V st.marks s
+pub complete_by : (V : ℕ → List ℕ) (st : RegisterState) (s : ℕ) → Complete V st s → CompleteBy V st.marks s
 complete_by V st s (e, c) =
     let r = c.one_ready in
     let w = r.marked.1 in (
@@ -151,14 +150,14 @@ module _ (id : ℕ) (x : Node) where
       by_test false h = absurd h
       by_test true h = pending_by was.phase m h
 
-  ack_by : (ls : List Letter) (m : Mark) → In (ack_marks id x ls) m → IsBy id x m
+  ack_by : (ls : List Message) (m : Mark) → In (ack_marks id x ls) m → IsBy id x m
   ack_by [] m h = absurd h
-  ack_by (AckL from epoch s top ∷ ls) m h = ⊎_elim (λ (e : m ≡ cover_mark id x s). cover_by s m (inl e)) (λ (t : In (ack_marks id x ls) m). ack_by ls m t) h
-  ack_by (Inv from epoch s kind content ∷ ls) m h = ack_by ls m h
-  ack_by (Val from epoch s ∷ ls) m h = ack_by ls m h
-  ack_by (Give from epoch s kind content valid ∷ ls) m h = ack_by ls m h
+  ack_by (Message.Ack from epoch s top ∷ ls) m h = ⊎_elim (λ (e : m ≡ cover_mark id x s). cover_by s m (inl e)) (λ (t : In (ack_marks id x ls) m). ack_by ls m t) h
+  ack_by (Message.Inv from epoch s kind content ∷ ls) m h = ack_by ls m h
+  ack_by (Message.Val from epoch s ∷ ls) m h = ack_by ls m h
+  ack_by (Message.Give from epoch s kind content valid ∷ ls) m h = ack_by ls m h
 
-  pub step_by : (was : Node) (ls : List Letter) (m : Mark) → In (step_marks id was x ls) m → IsBy id x m
+  pub step_by : (was : Node) (ls : List Message) (m : Mark) → In (step_marks id was x ls) m → IsBy id x m
   step_by was ls m h = ⊎_elim (λ (a : In (moment_marks id x) m). moment_by m a)
       (λ (b : In (install_marks id was x ++ ack_marks id x ls) m). ⊎_elim (λ (i : In (install_marks id was x) m). install_by was m i)
       (λ (k : In (ack_marks id x ls) m). ack_by ls m k) (in_either (install_marks id was x) (ack_marks id x ls) m b))
@@ -197,62 +196,62 @@ flat_has f (z ∷ xs) x y (inl e) g = in_left (f z) (flat_map f xs) y (subst (λ
 flat_has f (z ∷ xs) x y (inr h) g = in_right (f z) (flat_map f xs) y (flat_has f xs x y h g)
 
 -- what waits, in the words of the key's node
-wait_marks : (key q : List ℕ) (o : Option Waits) (s : ℕ) → In (wait_touches q o) (key, s) → (key ≡ q) × (p : Waits) × (o ≡ Some p) × (s ≡ tag_of p.stamp)
+wait_marks : (key q : List ℕ) (o : Option Pending) (s : ℕ) → In (wait_touches q o) (key, s) → (key ≡ q) × (p : Pending) × (o ≡ Some p) × (s ≡ tag_of p.stamp)
 wait_marks key q None s h = absurd h
 wait_marks key q (Some p) s h = ⊎_elim
     (λ (e : ◌≡◌ {A = Touch} (key, s) (q, tag_of p.stamp)). (ap (λ (t : Touch). t.0) e, p, refl, ap (λ (t : Touch). t.1) e))
     (λ (n : ⊥). absurd n) h
 
-abbrev waiting_mark : ℕ → Node → Option Waits → Mark
+abbrev waiting_mark : ℕ → Node → Option Pending → Mark
 waiting_mark id z None = cover_mark id z 0
 waiting_mark id z (Some w) = cover_mark id z (tag_of w.stamp)
 
-pending_has : (id : ℕ) (z : Node) (st : RowState) (o : Option Waits) (at : Stamp) (p : Waits) → Holds st o at → o ≡ Some p →
+pending_has : (id : ℕ) (z : Node) (st : State) (o : Option Pending) (at : Stamp) (p : Pending) → Holds st o at → o ≡ Some p →
     In (pending_marks id z (phase_of st o)) (cover_mark id z (tag_of p.stamp))
-pending_has id z IsValid o at p h e = absurd (false≢true (ap is_some (sym h ∙ e)))
-pending_has id z IsInvalid o at p h e = absurd (false≢true (ap is_some (sym h ∙ e)))
-pending_has id z IsWrite None at p h e = absurd h
-pending_has id z IsWrite (Some q) at p h e = inl (ap (waiting_mark id z) (sym e))
-pending_has id z IsReplay None at p h e = absurd h
-pending_has id z IsReplay (Some q) at p h e = inl (ap (waiting_mark id z) (sym e))
-pending_has id z IsTrans None at p h e = absurd h
-pending_has id z IsTrans (Some q) at p h e = inl (ap (waiting_mark id z) (sym e))
+pending_has id z State.Valid o at p h e = absurd (false≢true (ap is_some (sym h ∙ e)))
+pending_has id z State.Invalid o at p h e = absurd (false≢true (ap is_some (sym h ∙ e)))
+pending_has id z State.Write None at p h e = absurd h
+pending_has id z State.Write (Some q) at p h e = inl (ap (waiting_mark id z) (sym e))
+pending_has id z State.Replay None at p h e = absurd h
+pending_has id z State.Replay (Some q) at p h e = inl (ap (waiting_mark id z) (sym e))
+pending_has id z State.Trans None at p h e = absurd h
+pending_has id z State.Trans (Some q) at p h e = inl (ap (waiting_mark id z) (sym e))
 
 -- a pending mark is of what waits
-pending_is : (id : ℕ) (z : Node) (st : RowState) (o : Option Waits) (m : Mark) → In (pending_marks id z (phase_of st o)) m →
-    (p : Waits) × (o ≡ Some p) × (m ≡ cover_mark id z (tag_of p.stamp))
-pending_is id z IsValid o m h = absurd h
-pending_is id z IsInvalid o m h = absurd h
-pending_is id z IsWrite None m h = absurd h
-pending_is id z IsWrite (Some p) m h = ⊎_elim (λ (e : m ≡ cover_mark id z (tag_of p.stamp)). (p, refl, e)) (λ (n : ⊥). absurd n) h
-pending_is id z IsReplay None m h = absurd h
-pending_is id z IsReplay (Some p) m h = ⊎_elim (λ (e : m ≡ cover_mark id z (tag_of p.stamp)). (p, refl, e)) (λ (n : ⊥). absurd n) h
-pending_is id z IsTrans None m h = absurd h
-pending_is id z IsTrans (Some p) m h = ⊎_elim (λ (e : m ≡ cover_mark id z (tag_of p.stamp)). (p, refl, e)) (λ (n : ⊥). absurd n) h
+pending_is : (id : ℕ) (z : Node) (st : State) (o : Option Pending) (m : Mark) → In (pending_marks id z (phase_of st o)) m →
+    (p : Pending) × (o ≡ Some p) × (m ≡ cover_mark id z (tag_of p.stamp))
+pending_is id z State.Valid o m h = absurd h
+pending_is id z State.Invalid o m h = absurd h
+pending_is id z State.Write None m h = absurd h
+pending_is id z State.Write (Some p) m h = ⊎_elim (λ (e : m ≡ cover_mark id z (tag_of p.stamp)). (p, refl, e)) (λ (n : ⊥). absurd n) h
+pending_is id z State.Replay None m h = absurd h
+pending_is id z State.Replay (Some p) m h = ⊎_elim (λ (e : m ≡ cover_mark id z (tag_of p.stamp)). (p, refl, e)) (λ (n : ⊥). absurd n) h
+pending_is id z State.Trans None m h = absurd h
+pending_is id z State.Trans (Some p) m h = ⊎_elim (λ (e : m ≡ cover_mark id z (tag_of p.stamp)). (p, refl, e)) (λ (n : ⊥). absurd n) h
 
 -- ---- acknowledgements
-acks_append : (id : ℕ) (z : Node) (a b : List Letter) → ack_marks id z (a ++ b) ≡ ack_marks id z a ++ ack_marks id z b
+acks_append : (id : ℕ) (z : Node) (a b : List Message) → ack_marks id z (a ++ b) ≡ ack_marks id z a ++ ack_marks id z b
 acks_append id z [] b = refl
-acks_append id z (AckL from epoch s top ∷ a) b = ap (λ (l : List Mark). cover_mark id z s ∷ l) (acks_append id z a b)
-acks_append id z (Inv from epoch s kind content ∷ a) b = acks_append id z a b
-acks_append id z (Val from epoch s ∷ a) b = acks_append id z a b
-acks_append id z (Give from epoch s kind content valid ∷ a) b = acks_append id z a b
+acks_append id z (Message.Ack from epoch s top ∷ a) b = ap (λ (l : List Mark). cover_mark id z s ∷ l) (acks_append id z a b)
+acks_append id z (Message.Inv from epoch s kind content ∷ a) b = acks_append id z a b
+acks_append id z (Message.Val from epoch s ∷ a) b = acks_append id z a b
+acks_append id z (Message.Give from epoch s kind content valid ∷ a) b = acks_append id z a b
 
 -- the letter acknowledges the stamp at the key
 ack_touched : (key : List ℕ) (b : Body) (s : ℕ) → In (ack_touches b) (key, s) →
-    (k : List ℕ) × (st : Stamp) × (top : Stamp) × (b ≡ AckBody k st top) × (key ≡ k) × (s ≡ tag_of st)
-ack_touched key (AckBody k st top) s h = ⊎_elim
+    (k : List ℕ) × (st : Stamp) × (top : Stamp) × (b ≡ Body.Ack k st top) × (key ≡ k) × (s ≡ tag_of st)
+ack_touched key (Body.Ack k st top) s h = ⊎_elim
     (λ (e : ◌≡◌ {A = Touch} (key, s) (k, tag_of st)). (k, st, top, refl, ap (λ (t : Touch). t.0) e, ap (λ (t : Touch). t.1) e)) (λ (n : ⊥). absurd n) h
 ack_touched key body s h = absurd h
 
 module _ (id : ℕ) (z : Node) (key : List ℕ) where
-  letter_acks : (l : Wire) (b : Body) (k : List ℕ) (st top : Stamp) → b ≡ AckBody k st top → key ≡ k →
+  letter_acks : (l : Letter) (b : Body) (k : List ℕ) (st top : Stamp) → b ≡ Body.Ack k st top → key ≡ k →
       In (ack_marks id z (letter_of key l b)) (cover_mark id z (tag_of st))
   letter_acks l b k st top is same = subst (λ (c : Body). In (ack_marks id z (letter_of key l c)) (cover_mark id z (tag_of st))) (sym is)
-      (subst (λ (t : Bool). In (ack_marks id z (cond t (AckL (number_of l.from) l.epoch (tag_of st) (tag_of top) ∷ []) [])) (cover_mark id z (tag_of st)))
+      (subst (λ (t : Bool). In (ack_marks id z (cond t (Message.Ack (number_of l.from) l.epoch (tag_of st) (tag_of top) ∷ []) [])) (cover_mark id z (tag_of st)))
       (sym (same_of key k same)) (inl refl))
 
-  pub acks_marked : (ls : List Wire) (s : ℕ) → In (flat_map letter_touches ls) (key, s) → In (ack_marks id z (letters_of key ls)) (cover_mark id z s)
+  pub acks_marked : (ls : List Letter) (s : ℕ) → In (flat_map letter_touches ls) (key, s) → In (ack_marks id z (letters_of key ls)) (cover_mark id z s)
   acks_marked [] s h = absurd h
   acks_marked (l ∷ ls) s h = subst (λ (ms : List Mark). In ms (cover_mark id z s)) (sym (acks_append id z (letter_of key l l.body) (letters_of key ls)))
       (⊎_elim
@@ -264,33 +263,33 @@ module _ (id : ℕ) (z : Node) (key : List ℕ) where
       (cover_mark id z s) (acks_marked ls s b))
       (in_either (ack_touches l.body) (flat_map letter_touches ls) (key, s) h))
 
-  letter_marks : (l : Wire) (b : Body) (m : Mark) → In (ack_marks id z (letter_of key l b)) m → In (ack_touches b) (key, m.stamp)
-  letter_marks l (AckBody k st top) m h = by_test (is_same_key key k) refl h
+  letter_marks : (l : Letter) (b : Body) (m : Mark) → In (ack_marks id z (letter_of key l b)) m → In (ack_touches b) (key, m.stamp)
+  letter_marks l (Body.Ack k st top) m h = by_test (is_same_key key k) refl h
     where
-      by_test : (t : Bool) → is_same_key key k ≡ t → In (ack_marks id z (cond t (AckL (number_of l.from) l.epoch (tag_of st) (tag_of top) ∷ []) [])) m →
-          In (ack_touches (AckBody k st top)) (key, m.stamp)
+      by_test : (t : Bool) → is_same_key key k ≡ t → In (ack_marks id z (cond t (Message.Ack (number_of l.from) l.epoch (tag_of st) (tag_of top) ∷ []) [])) m →
+          In (ack_touches (Body.Ack k st top)) (key, m.stamp)
       by_test true is (inl e) = inl (ap₂ (λ (q : List ℕ) (n : ℕ). (q, n)) (same_true key k is) (ap (λ (j : Mark). j.stamp) e))
       by_test true is (inr n) = absurd n
       by_test false is h = absurd h
-  letter_marks l (InvBody k st kind content) m h = absurd (by_test (is_same_key key k) h)
+  letter_marks l (Body.Inv k st kind content) m h = absurd (by_test (is_same_key key k) h)
     where
-      by_test : (t : Bool) → In (ack_marks id z (cond t (Inv (number_of l.from) l.epoch (tag_of st) kind content ∷ []) [])) m → ⊥
+      by_test : (t : Bool) → In (ack_marks id z (cond t (Message.Inv (number_of l.from) l.epoch (tag_of st) kind content ∷ []) [])) m → ⊥
       by_test true h = h
       by_test false h = h
-  letter_marks l (ValBody k st) m h = absurd (by_test (is_same_key key k) h)
+  letter_marks l (Body.Val k st) m h = absurd (by_test (is_same_key key k) h)
     where
-      by_test : (t : Bool) → In (ack_marks id z (cond t (Val (number_of l.from) l.epoch (tag_of st) ∷ []) [])) m → ⊥
+      by_test : (t : Bool) → In (ack_marks id z (cond t (Message.Val (number_of l.from) l.epoch (tag_of st) ∷ []) [])) m → ⊥
       by_test true h = h
       by_test false h = h
-  letter_marks l (CopyGive after done items) m h = absurd (by_test (covers key after done items) h)
+  letter_marks l (Body.CopyGive after done items) m h = absurd (by_test (covers key after done items) h)
     where
-      by_test : (t : Bool) → In (ack_marks id z (cond t (Give (number_of l.from) l.epoch (tag_of (item_at key items).stamp) (item_at key items).kind (item_at key items).content
+      by_test : (t : Bool) → In (ack_marks id z (cond t (Message.Give (number_of l.from) l.epoch (tag_of (item_at key items).stamp) (item_at key items).kind (item_at key items).content
           (item_at key items).valid ∷ []) [])) m → ⊥
       by_test true h = h
       by_test false h = h
   letter_marks l body m h = absurd h
 
-  pub acks_touched : (ls : List Wire) (m : Mark) → In (ack_marks id z (letters_of key ls)) m → In (flat_map letter_touches ls) (key, m.stamp)
+  pub acks_touched : (ls : List Letter) (m : Mark) → In (ack_marks id z (letters_of key ls)) m → In (flat_map letter_touches ls) (key, m.stamp)
   acks_touched [] m h = absurd h
   acks_touched (l ∷ ls) m h = ⊎_elim
       (λ (a : In (ack_marks id z (letter_of key l l.body)) m). in_left (ack_touches l.body) (flat_map letter_touches ls) (key, m.stamp) (letter_marks l l.body m a))
@@ -333,7 +332,7 @@ from_one : (e : ℕ) → 1 ≤ e → leb 1 e ≡ true
 from_one e some = search (rules)
 
 -- ---- a step, seen from the key
-pub record IsSeen (V : ℕ → List ℕ) (key : List ℕ) (st new : State) (id : ℕ) (acted : Acted) (n x : NodeState) (v : View) (letters : List Wire) : Type 0 where
+pub record IsSeen (V : ℕ → List ℕ) (key : List ℕ) (st new : RegisterState) (id : ℕ) (acted : Acted) (n x : NodeState) (v : View) (letters : List Letter) : Type 0 where
   pub parts : Parts V st
   pub parts_now : Parts V new
   pub was : st.node id ≡ key_node key (Some n)
@@ -348,11 +347,11 @@ pub record IsSeen (V : ℕ → List ℕ) (key : List ℕ) (st new : State) (id :
   pub rows : AreChanges acted.report.rows n.rows x.rows
   pub fits : member_numbers v.members ≡ V v.epoch
 
-abbrev pub touches_of : NodeState → View → Acted → List (List ℕ) → List Wire → List Touch
+abbrev pub touches_of : NodeState → View → Acted → List (List ℕ) → List Letter → List Touch
 touches_of x v acted seen letters =
     (flat_map (changed_touches x (has_risen acted v)) acted.report.rows ++ flat_map (touches_now x) seen) ++ flat_map letter_touches letters
 
-module _ (V : ℕ → List ℕ) (key : List ℕ) (st new : State) (id : ℕ) (acted : Acted) (n x : NodeState) (v : View) (letters : List Wire)
+module _ (V : ℕ → List ℕ) (key : List ℕ) (st new : RegisterState) (id : ℕ) (acted : Acted) (n x : NodeState) (v : View) (letters : List Letter)
     (seen : List (List ℕ)) (is : IsSeen V key st new id acted n x v letters)
     (all : has_moved acted v ≡ true → (q : List ℕ) → is_open q x ≡ true → In seen q) where
   abbrev before : Node
@@ -470,22 +469,22 @@ module _ (V : ℕ → List ℕ) (key : List ℕ) (st new : State) (id : ℕ) (ac
   now_touched m (inl e) = inl (ap (λ (j : Mark). (key, j.stamp)) e)
   now_touched m (inr h) =
       let p = pending_is id after (row_at key x.rows).state (row_at key x.rows).pending m h in
-      inr (subst (λ (o : Option Waits). In (wait_touches key o) (key, m.stamp)) (sym p.1) (inl (ap (λ (j : Mark). (key, j.stamp)) p.2)))
+      inr (subst (λ (o : Option Pending). In (wait_touches key o) (key, m.stamp)) (sym p.1) (inl (ap (λ (j : Mark). (key, j.stamp)) p.2)))
 
-  open_not : (state : RowState) → (row_at key x.rows).state ≡ state → is_open key x ≡ false → not (is_valid state) ≡ true → ⊥
-  open_not state e closed shut = false≢true (sym (subst (λ (w : RowState). not (is_valid w) ≡ false) e closed) ∙ shut)
+  open_not : (state : State) → (row_at key x.rows).state ≡ state → is_open key x ≡ false → not (is_valid state) ≡ true → ⊥
+  open_not state e closed shut = false≢true (sym (subst (λ (w : State). not (is_valid w) ≡ false) e closed) ∙ shut)
 
   -- a Valid row's stamp is complete
   valid_case : (m : Mark) → 1 ≤ m.stamp → Unchanged → is_open key x ≡ false → In (row_mark id after ∷ pending_marks id after after.phase) m →
       IsSettledBefore m.stamp
   valid_case m some same closed h = by_state (row_at key x.rows).state refl closed h
     where
-      by_state : (state : RowState) → (row_at key x.rows).state ≡ state → is_open key x ≡ false →
+      by_state : (state : State) → (row_at key x.rows).state ≡ state → is_open key x ≡ false →
           In (row_mark id after ∷ pending_marks id after (phase_of (row_at key x.rows).state (row_at key x.rows).pending)) m → IsSettledBefore m.stamp
-      by_state IsValid e closed h =
-          let stamp : m.stamp ≡ before.stamp = valid_mark m (subst (λ (w : RowState). In (row_mark id after ∷ pending_marks id after (phase_of w (row_at key x.rows).pending)) m) e h)
+      by_state State.Valid e closed h =
+          let stamp : m.stamp ≡ before.stamp = valid_mark m (subst (λ (w : State). In (row_mark id after ∷ pending_marks id after (phase_of w (row_at key x.rows).pending)) m) e h)
           ∙ ap (λ (r : Row). tag_of r.stamp) (row_same same) in
-          let phase : before.phase ≡ Valid = ap (λ (r : Row). phase_of r.state r.pending) (sym (row_same same)) ∙ ap (λ (w : RowState). phase_of w (row_at key x.rows).pending) e in
+          let phase : before.phase ≡ Valid = ap (λ (r : Row). phase_of r.state r.pending) (sym (row_same same)) ∙ ap (λ (w : State). phase_of w (row_at key x.rows).pending) e in
           let rests : Rests V st before.stamp = subst (λ (ph : Phase). PhaseOk V st id before ph) phase (subst (λ (z : Node). PhaseOk V st id z z.phase) is.was (is.parts.nodes id).phase) in
           ⊎_elim
           (λ (zero : before.stamp ≡ 0). absurd (omega (arith, stamp, zero, some)))
@@ -494,13 +493,13 @@ module _ (V : ℕ → List ℕ) (key : List ℕ) (st new : State) (id : ℕ) (ac
           valid_mark : (m : Mark) → In (row_mark id after ∷ []) m → m.stamp ≡ after.stamp
           valid_mark m (inl e) = ap (λ (j : Mark). j.stamp) e
           valid_mark m (inr none) = absurd none
-      by_state IsInvalid e closed h = absurd (open_not IsInvalid e closed refl)
-      by_state IsWrite e closed h = absurd (open_not IsWrite e closed refl)
-      by_state IsReplay e closed h = absurd (open_not IsReplay e closed refl)
-      by_state IsTrans e closed h = absurd (open_not IsTrans e closed refl)
+      by_state State.Invalid e closed h = absurd (open_not State.Invalid e closed refl)
+      by_state State.Write e closed h = absurd (open_not State.Write e closed refl)
+      by_state State.Replay e closed h = absurd (open_not State.Replay e closed refl)
+      by_state State.Trans e closed h = absurd (open_not State.Trans e closed refl)
 
   -- ---- where the node stayed in its epoch, and as ready
-  phase_pends : (ph : Phase) (m : Mark) → In (pending_marks id after ph) m → (p : Pending) × Has ph p × (m ≡ cover_mark id after p.stamp)
+  phase_pends : (ph : Phase) (m : Mark) → In (pending_marks id after ph) m → (p : WaitingUpdate) × Has ph p × (m ≡ cover_mark id after p.stamp)
   phase_pends Valid m h = absurd h
   phase_pends Invalid m h = absurd h
   phase_pends (Write p) m h = ⊎_elim (λ (e : m ≡ cover_mark id after p.stamp). (p, refl, e)) (λ (n : ⊥). absurd n) h
@@ -580,7 +579,7 @@ module _ (V : ℕ → List ℕ) (key : List ℕ) (st new : State) (id : ℕ) (ac
       risen : ltb before.epoch after.epoch ≡ true → has_risen acted v ≡ true
       risen e = ap₂ (λ (a b : ℕ). ltb a b) is.epoch (sym epoch_is) ∙ e
 
-      pended : (p : Waits) → (row_at key n.rows).pending ≡ Some p → m ≡ cover_mark id after (tag_of p.stamp) → has_risen acted v ≡ true →
+      pended : (p : Pending) → (row_at key n.rows).pending ≡ Some p → m ≡ cover_mark id after (tag_of p.stamp) → has_risen acted v ≡ true →
           (f : PriorRow) → In acted.report.rows f → f.key ≡ key → IsCase m
       pended p waits e rose f h same = inl (in_changes f (key, m.stamp) h (in_right (touches_now x f.key) _ (key, m.stamp)
           (subst (λ (b : Bool). In (cond b (prior_waits f.key f.row) []) (key, m.stamp)) (sym rose)
@@ -590,7 +589,7 @@ module _ (V : ℕ → List ℕ) (key : List ℕ) (st new : State) (id : ℕ) (ac
         where
           by_found : (o : Option Row) → (unwrap_or o first_row).pending ≡ Some p → In (prior_waits key o) (key, m.stamp)
           by_found None e = absurd (false≢true (ap is_some e))
-          by_found (Some r) w = subst (λ (o : Option Waits). In (wait_touches key o) (key, m.stamp)) (sym w) (inl (ap (λ (j : Mark). (key, j.stamp)) e))
+          by_found (Some r) w = subst (λ (o : Option Pending). In (wait_touches key o) (key, m.stamp)) (sym w) (inl (ap (λ (j : Mark). (key, j.stamp)) e))
 
       by_test : (b : Bool) → ltb before.epoch after.epoch ≡ b → In (cond b (pending_marks id after before.phase) []) m → IsCase m
       by_test false e h = absurd h
@@ -665,7 +664,7 @@ module _ (V : ℕ → List ℕ) (key : List ℕ) (st new : State) (id : ℕ) (ac
             (λ (b : In st.marks m). (m, under_itself m, b)) (in_either steps st.marks m g)
 
     untouched_known : (ev : Evidence) → (In touches (key, s) → ⊥) → IsKnownBy V st.marks s ev → IsKnownBy V all_now s ev
-    untouched_known (E.Complete event) none k = more_complete V st.marks all_now s old_less k
+    untouched_known (Evidence.Complete event) none k = more_complete V st.marks all_now s old_less k
     untouched_known (Covers groups) none k = same_known V st.marks all_now s (Covers groups) (untouched_same none k.0) k
 
     pub seen_known : (ev : Evidence) → IsKnownBy V (with_mark (is_in s (tags_at key touches)) own st.marks) s ev → IsKnownBy V new.marks s ev
@@ -676,7 +675,7 @@ module _ (V : ℕ → List ℕ) (key : List ℕ) (st new : State) (id : ℕ) (ac
         by_test false e k = untouched_known ev (λ h. false≢true (sym e ∙ is_in_from s (tags_at key touches) (tags_have key touches s h))) k
 
 -- a node with no view marks nothing
-pub unseen_known : (V : ℕ → List ℕ) (new : State) (id : ℕ) (was x : Node) (ls : List Letter) (marks : List Mark) → Parts V new →
+pub unseen_known : (V : ℕ → List ℕ) (new : RegisterState) (id : ℕ) (was x : Node) (ls : List Message) (marks : List Mark) → Parts V new →
     new.marks ≡ step_marks id was x ls ++ marks → x.epoch ≡ 0 → (s : ℕ) (ev : Evidence) → IsKnownBy V marks s ev → IsKnownBy V new.marks s ev
 unseen_known V new id was x ls marks parts is zero s ev k = subst (λ (ms : List Mark). IsKnownBy V ms s ev) (sym is) (same_known V marks (steps ++ marks) s ev same k)
   where

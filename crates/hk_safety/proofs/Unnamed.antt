@@ -3,7 +3,7 @@ use Rattle.std.proofs.Common.{◌≡◌, ℕ, Bool, true, false, cond, ◌+◌, 
 use Rattle.hk_base.specs.declared.stamp.NodeId.{NodeId}
 use Rattle.hk_base.specs.declared.call.Reply.{Reply}
 use Rattle.hk_history.specs.History.{is_unsure}
-use Rattle.hk_register.specs.Machine.{In, Mark, Node, Update, Item, State}
+use Rattle.hk_register.specs.Machine.{In, Mark, Node, Update, Item, RegisterState}
 use Rattle.hk_register.specs.Machine.Item.{Answered, Dropped}
 use Rattle.hk_register.specs.Parts.{Parts, MarkBegun}
 use Rattle.hk_register.specs.Calls.{CallItem}
@@ -32,7 +32,7 @@ pub replies_begin : (id : ℕ) (z : Node) (s : ℕ) (rs : List Reply) → update
 replies_begin id z s rs = ap (updates_of id z) (sym (append-nil (map (reply_item s) rs))) ∙ replies_begin_none id z s rs []
 
 -- a reply is that of an update that was begun
-pub replied_update : (st : State) (s : ℕ) (r : Reply) → CallItem st (reply_item s r) → (u : Update) × In st.begun u × (u.call ≡ r.call.0)
+pub replied_update : (st : RegisterState) (s : ℕ) (r : Reply) → CallItem st (reply_item s r) → (u : Update) × In st.begun u × (u.call ≡ r.call.0)
 replied_update st s r = by_test (is_unsure (Some r.answer))
   where
     by_test : (b : Bool) → CallItem st (cond b (Dropped r.call.0 s r.answer) (Answered r.call.0 s r.answer)) →
@@ -51,7 +51,7 @@ nil_of (x ∷ xs) none = absurd (none x (inl refl))
 
 module _ (key : List ℕ) (t : Trace) (event : Event) (a : Accepted) (kept : IsKept key (traced key t event a)) (history : t.history ≡ []) (begun : t.begun ≡ [])
     (other : In (called_from (event ∷ [])) key → ⊥) where
-  abbrev St : State
+  abbrev St : RegisterState
   St = project key (traced key t event a)
 
   -- no update is begun, so no mark is of one

@@ -1,6 +1,6 @@
 -- What is made again of a run.
 use Rattle.std.specs.Prelude.{◌≡◌, ℕ, List, [], ◌∷◌, ◌++◌, Ok}
-use Rattle.hk_history.specs.declared.event.Event.{Event as Line}
+use Rattle.hk_history.specs.declared.event.Event.{Event as HistoryEvent}
 use Rattle.hk_world.specs.declared.event.Event.{Event}
 use Rattle.hk_world.specs.declared.shown.Shown.{Shown}
 use Rattle.hk_world.specs.World.{WorldState}
@@ -17,7 +17,7 @@ abbrev pub IsRemade : WorldState → WorldState → Event → Shown → Type 0
 IsRemade old new event shown = (a : Accepted) × (world_step old event ≡ Ok a) × (a.shown ≡ shown) × (a.world ≡ new)
 
 -- the world made the event, and what it says of the key stands behind the rest
-pub record IsTakenAgain (old new : WorldState) (before after : List (List ℕ)) (said lines : List Line) (key : List ℕ) (event : Event) : Type 0 where
+pub record IsTakenAgain (old new : WorldState) (before after : List (List ℕ)) (said lines : List HistoryEvent) (key : List ℕ) (event : Event) : Type 0 where
   pub a : Accepted
   pub made : world_step old event ≡ Ok a
   pub world : a.world ≡ new

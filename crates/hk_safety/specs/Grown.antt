@@ -10,14 +10,14 @@ use Rattle.hk_base.specs.declared.call.CallNo.{CallNo}
 use Rattle.hk_base.specs.declared.call.Op.{Op}
 use Rattle.hk_base.specs.declared.call.Reply.{Reply}
 use Rattle.hk_base.specs.declared.letter.Body.{Body}
-use Rattle.hk_base.specs.declared.letter.Body.TheVariants.{Ack as AckBody}
-use Rattle.hk_base.specs.declared.letter.Letter.{Letter as Wire}
+use Rattle.hk_base.specs.declared.letter.Body.TheVariants as Body
+use Rattle.hk_base.specs.declared.letter.Letter.{Letter}
 use Rattle.hk_base.specs.declared.view.View.{View}
 use Rattle.hk_base.specs.Range.{IsWithin}
 use Rattle.hk_base.specs.Stamp.{tag_of}
 use Rattle.hk_base.specs.View.{member_numbers}
-use Rattle.hk_history.specs.declared.event.Event.{Event as Line}
-use Rattle.hk_history.specs.declared.event.Event.TheVariants as L
+use Rattle.hk_history.specs.declared.event.Event.{Event as HistoryEvent}
+use Rattle.hk_history.specs.declared.event.Event.TheVariants as HistoryEvent
 use Rattle.hk_history.specs.History.{is_void}
 use Rattle.hk_key.specs.declared.row.Pending.{Pending}
 use Rattle.hk_key.specs.declared.row.Row.{Row}
@@ -38,7 +38,7 @@ use Rattle.hk_safety.specs.declared.evidence.Cover.{Cover}
 use Rattle.hk_safety.specs.declared.evidence.Group.{Group}
 use Rattle.hk_safety.specs.declared.evidence.Evidence.{Evidence}
 use Rattle.hk_safety.specs.declared.evidence.Evidence.TheVariants.{Covers}
-use Rattle.hk_safety.specs.declared.evidence.Evidence.TheVariants as E
+use Rattle.hk_safety.specs.declared.evidence.Evidence.TheVariants as Evidence
 use Rattle.hk_safety.specs.declared.key_run.AtStamp.{AtStamp}
 use Rattle.hk_safety.specs.declared.key_run.ReadOnlyCall.{ReadOnlyCall}
 use Rattle.hk_safety.specs.declared.key_run.CallEffect.{CallEffect}
@@ -69,8 +69,8 @@ completes groups v = is_whole (group_at v.epoch groups) v.members
 
 -- what is known once a node has covered the stamp in the view's epoch
 abbrev pub IsShown : Evidence → Evidence → View → Cover → Type 0
-IsShown (E.Complete event) new v c = new ≡ E.Complete event
-IsShown (Covers old) (E.Complete event) v c = (put : Groups) × IsGroupPut old put v.epoch c × (completes put v ≡ true) × (event ≡ c.event)
+IsShown (Evidence.Complete event) new v c = new ≡ Evidence.Complete event
+IsShown (Covers old) (Evidence.Complete event) v c = (put : Groups) × IsGroupPut old put v.epoch c × (completes put v ≡ true) × (event ≡ c.event)
 IsShown (Covers old) (Covers new) v c = IsGroupPut old new v.epoch c × (completes new v ≡ false)
 
 -- ---- what evidence tells of some marks
@@ -79,7 +79,7 @@ abbrev pub CompleteBy : (ℕ → List ℕ) → List Mark → ℕ → Type 0
 CompleteBy V marks s = (e : ℕ) × (ready_in marks s e ≡ true) × (list_all (λ n. covers_in marks s n e) (V e) ≡ true)
 
 abbrev pub IsKnownBy : (ℕ → List ℕ) → List Mark → ℕ → Evidence → Type 0
-IsKnownBy V marks s (E.Complete event) = CompleteBy V marks s
+IsKnownBy V marks s (Evidence.Complete event) = CompleteBy V marks s
 IsKnownBy V marks s (Covers groups) = (CompleteBy V marks s → ⊥) × AreToldBy marks s groups
 
 abbrev pub mark_by : Cover → View → ℕ → Mark
@@ -91,8 +91,8 @@ with_mark b m marks = if b then m ∷ marks else marks
 -- ---- what event n makes of the events that are kept
 -- what is complete stays so, and what becomes complete does so at this event
 abbrev pub IsSinceThen : ℕ → Evidence → Evidence → Type 0
-IsSinceThen n (E.Complete event) new = new ≡ E.Complete event
-IsSinceThen n (Covers old) (E.Complete event) = event ≡ n
+IsSinceThen n (Evidence.Complete event) new = new ≡ Evidence.Complete event
+IsSinceThen n (Covers old) (Evidence.Complete event) = event ≡ n
 IsSinceThen n (Covers old) (Covers new) = ⊤
 
 -- looks more, which were answered at this event
@@ -177,10 +177,10 @@ abbrev pub changed_touches : NodeState → Bool → PriorRow → List Touch
 changed_touches x rose f = touches_now x f.key ++ (if rose then prior_waits f.key f.row else [])
 
 abbrev pub ack_touches : Body → List Touch
-ack_touches (AckBody key s top) = (key, tag_of s) ∷ []
+ack_touches (Body.Ack key s top) = (key, tag_of s) ∷ []
 ack_touches body = []
 
-abbrev pub letter_touches : Wire → List Touch
+abbrev pub letter_touches : Letter → List Touch
 letter_touches letter = ack_touches letter.body
 
 abbrev pub has_risen : Acted → View → Bool
@@ -203,22 +203,22 @@ abbrev pub cover_by : ℕ → Acted → NodeState → Cover
 cover_by n acted x = record { node = acted.node; ready = x.ready; event = n }
 
 -- all that event n covers, one after the other
-pub record AreTouched (n : ℕ) (old new : Keys) (x : NodeState) (v : View) (acted : Acted) (letters : List Wire) : Type 0 where
+pub record AreTouched (n : ℕ) (old new : Keys) (x : NodeState) (v : View) (acted : Acted) (letters : List Letter) : Type 0 where
   pub changed : Keys
   pub opened : Keys
   pub of_changed : AreCovered v (cover_by n acted x) old changed (flat_map (changed_touches x (has_risen acted v)) acted.report.rows)
   pub of_open : AreOpenCovered v (cover_by n acted x) changed opened x (has_moved acted v)
   pub of_acks : AreCovered v (cover_by n acted x) opened new (flat_map letter_touches letters)
 
-abbrev pub AreTouchedIn : ℕ → Option View → Keys → Keys → NodeState → Acted → List Wire → Type 0
+abbrev pub AreTouchedIn : ℕ → Option View → Keys → Keys → NodeState → Acted → List Letter → Type 0
 AreTouchedIn n None old new x acted letters = new ≡ old
 AreTouchedIn n (Some v) old new x acted letters = AreTouched n old new x v acted letters
 
-abbrev pub AreTouchedBy : ℕ → Option NodeState → Keys → Keys → Acted → List Wire → Type 0
+abbrev pub AreTouchedBy : ℕ → Option NodeState → Keys → Keys → Acted → List Letter → Type 0
 AreTouchedBy n None old new acted letters = new ≡ old
 AreTouchedBy n (Some x) old new acted letters = AreTouchedIn n x.view old new x acted letters
 
-abbrev pub AreTouchedAt : ℕ → Option Acted → Keys → Keys → WorldState → List Wire → Type 0
+abbrev pub AreTouchedAt : ℕ → Option Acted → Keys → Keys → WorldState → List Letter → Type 0
 AreTouchedAt n None old new w letters = new ≡ old
 AreTouchedAt n (Some acted) old new w letters = AreTouchedBy n (node_at acted.node.0 w.processes) old new acted letters
 
@@ -237,7 +237,7 @@ IsTurned false true old new s call n = IsLookedAt old new s (record { call = cal
 IsTurned false false old new s call n = new ≡ old
 
 pub record IsTaken (old new : KeyState) (turn : CallEffect) (op : Op) : Type 0 where
-  pub items : new.items ≡ old.items ++ L.Call turn.call op ∷ []
+  pub items : new.items ≡ old.items ++ HistoryEvent.Call turn.call op ∷ []
   pub stamps : IsTurned turn.began turn.answered old.stamps new.stamps turn.tag turn.call turn.event
 
 -- the call stands in the items of its key, which is kept from then on
@@ -252,11 +252,11 @@ abbrev pub is_answer : List Reply → Bool
 is_answer [] = false
 is_answer (r ∷ replies) = not (is_void (Some r.answer))
 
-abbrev pub with_lines : KeyState → List Line → KeyState
+abbrev pub with_lines : KeyState → List HistoryEvent → KeyState
 with_lines k lines = record { items = k.items ++ lines; stamps = k.stamps }
 
 -- lines behind the items of the keys, and nothing else
-pub record AreTold (old new : Keys) (lines : List ℕ → List Line) : Type 0 where
+pub record AreTold (old new : Keys) (lines : List ℕ → List HistoryEvent) : Type 0 where
   pub keys : keys_of new ≡ keys_of old
   pub there : (key : List ℕ) → is_some (find_key key new) ≡ is_some (find_key key old)
   pub each : (key : List ℕ) → is_some (find_key key old) ≡ true → key_at key new ≡ with_lines (key_at key old) (lines key)

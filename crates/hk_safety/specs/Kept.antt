@@ -9,9 +9,9 @@ use Rattle.std.specs.Map.{lookup, keys_of}
 use Rattle.hk_base.specs.declared.stamp.NodeId.{NodeId}
 use Rattle.hk_base.specs.declared.call.CallNo.{CallNo}
 use Rattle.hk_copy.specs.Batches.{key_cmp}
-use Rattle.hk_history.specs.declared.event.Event.{Event as Line}
+use Rattle.hk_history.specs.declared.event.Event.{Event as HistoryEvent}
 use Rattle.hk_history.specs.declared.event.Entry.{Entry}
-use Rattle.hk_register.specs.Machine.{In, Mark, Update, Item, State}
+use Rattle.hk_register.specs.Machine.{In, Mark, Update, Item, RegisterState}
 use Rattle.hk_register.specs.Machine.Item.{Called, Answered, Dropped, ReadOnly, Rejected}
 use Rattle.hk_register.specs.Facts.{Complete}
 use Rattle.hk_register.specs.Printed.{is_mark}
@@ -23,7 +23,7 @@ use Rattle.hk_effects.specs.Orders.{family, history_of}
 use Rattle.hk_safety.specs.declared.evidence.Group.{Group}
 use Rattle.hk_safety.specs.declared.evidence.Evidence.{Evidence}
 use Rattle.hk_safety.specs.declared.evidence.Evidence.TheVariants.{Covers}
-use Rattle.hk_safety.specs.declared.evidence.Evidence.TheVariants as E
+use Rattle.hk_safety.specs.declared.evidence.Evidence.TheVariants as Evidence
 use Rattle.hk_safety.specs.declared.key_run.AtStamp.{AtStamp}
 use Rattle.hk_safety.specs.declared.key_run.ReadOnlyCall.{ReadOnlyCall}
 use Rattle.hk_safety.specs.Run.{RunState, world_of, trace_of, named}
@@ -32,7 +32,7 @@ use Rattle.hk_safety.specs.Moment.{completed_at, replied_at}
 -- ---- one key
 -- its history, the first item first, and what is kept of each stamp, by tag
 pub record KeyState : Type 0 where
-  pub items : List Line
+  pub items : List HistoryEvent
   pub stamps : List (ℕ × AtStamp)
 
 -- who covered a stamp, by epoch
@@ -89,8 +89,8 @@ pub record AreToldBy (marks : List Mark) (s : ℕ) (groups : Groups) : Type 0 wh
   pub ready : (e : ℕ) → (group_at e groups).ready ≡ ready_in marks s e
 
 -- An update is kept as complete just where it is; until then there is who covered it.
-abbrev pub IsKnown : (ℕ → List ℕ) → State → ℕ → Evidence → Type 0
-IsKnown V st s (E.Complete event) = Complete V st s
+abbrev pub IsKnown : (ℕ → List ℕ) → RegisterState → ℕ → Evidence → Type 0
+IsKnown V st s (Evidence.Complete event) = Complete V st s
 IsKnown V st s (Covers groups) = (Complete V st s → ⊥) × AreToldBy st.marks s groups
 
 abbrev pub calls_in : List ReadOnlyCall → List CallNo
@@ -107,7 +107,7 @@ pub record IsKeyOf (key : List ℕ) (k : KeyState) (t : Trace) : Type 0 where
 -- ---- its events
 -- An update is kept with the event that completed it; where none did, its place is behind all moments.
 abbrev pub IsSince : RunState → List ℕ → ℕ → Evidence → Type 0
-IsSince run key s (E.Complete event) = (completed_at run key s ≡ event) × (event ≤ length run.events)
+IsSince run key s (Evidence.Complete event) = (completed_at run key s ≡ event) × (event ≤ length run.events)
 IsSince run key s (Covers groups) = completed_at run key s ≡ length run.events + 1
 
 -- and a look with the event that replied to it
@@ -152,7 +152,7 @@ pub record IsKeptOf (k : KeptState) (run : RunState) : Type 0 where
 
 -- ---- the order, by what is kept
 abbrev pub is_complete : Evidence → Bool
-is_complete (E.Complete event) = true
+is_complete (Evidence.Complete event) = true
 is_complete (Covers groups) = false
 
 abbrev pub update_entry : Bool → ℕ → Option CallNo → List Entry

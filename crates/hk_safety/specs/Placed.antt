@@ -6,7 +6,7 @@ use Rattle.hk_base.specs.declared.call.CallNo.{CallNo}
 use Rattle.hk_history.specs.declared.event.Entry.{Entry}
 use Rattle.hk_safety.specs.declared.evidence.Evidence.{Evidence}
 use Rattle.hk_safety.specs.declared.evidence.Evidence.TheVariants.{Covers}
-use Rattle.hk_safety.specs.declared.evidence.Evidence.TheVariants as E
+use Rattle.hk_safety.specs.declared.evidence.Evidence.TheVariants as Evidence
 use Rattle.hk_safety.specs.declared.key_run.AtStamp.{AtStamp}
 use Rattle.hk_safety.specs.declared.key_run.ReadOnlyCall.{ReadOnlyCall}
 use Rattle.hk_safety.specs.declared.placed.Placed.{Placed}
@@ -30,7 +30,7 @@ placed run key = map (entry_placed run key) (printed run key)
 -- the update of a stamp, if it is complete, at the event that completed it
 abbrev pub change_placed : Evidence → ℕ → Option CallNo → List Placed
 change_placed evidence s None = []
-change_placed (E.Complete event) s (Some call) = record { event = event; entry = record { call = call; tag = Some s } } ∷ []
+change_placed (Evidence.Complete event) s (Some call) = record { event = event; entry = record { call = call; tag = Some s } } ∷ []
 change_placed (Covers groups) s (Some call) = []
 
 abbrev pub look_placed : ReadOnlyCall → Placed
@@ -55,11 +55,11 @@ at_moments last (p ∷ placed) = (if is_some p.entry.tag then record { event = m
 -- ---- one stamp, by what is kept
 -- the event that completed the update
 abbrev pub completion : Evidence → Option ℕ
-completion (E.Complete event) = Some event
+completion (Evidence.Complete event) = Some event
 completion (Covers groups) = None
 
 abbrev pub earlier : ℕ → Evidence → ℕ
-earlier event (E.Complete other) = min event other
+earlier event (Evidence.Complete other) = min event other
 earlier event (Covers groups) = event
 
 -- the earliest of an event and of those that completed the updates of these stamps

@@ -10,7 +10,7 @@ use Rattle.hk_base.specs.declared.letter.Actor.{Actor}
 use Rattle.hk_base.specs.declared.letter.Actor.TheVariants.{Node, Manager}
 use Rattle.hk_base.specs.declared.letter.Letter.{Letter}
 use Rattle.hk_base.specs.declared.letter.Body.{Body}
-use Rattle.hk_base.specs.declared.letter.Body.TheVariants.{Inv, Ack, Val, CopyAsk, CopyGive, LeaseAsk, LeaseGive, Prepare, Promise as PromiseBody, Accept, Accepted, Chosen, Activate as ActivateBody}
+use Rattle.hk_base.specs.declared.letter.Body.TheVariants as Body
 use Rattle.hk_base.specs.Range.{IsLetter}
 use Rattle.hk_frame.specs.Laws.{KeepsBatchLimit}
 use Rattle.hk_lease.specs.declared.grants.NotPast.{NotPast as StillRuns}
@@ -26,19 +26,19 @@ use Rattle.hk_manager.specs.declared.instance.TheConstants.{MAX_EPOCH, MAX_ROUND
 use Rattle.hk_manager.specs.Manager.{ManagerState, instance_at}
 use Rattle.hk_manager.specs.Changes.{change_fault}
 use Rattle.hk_manager.specs.Sends.{told_all}
-use Rattle.hk_manager.specs.Steps.{Stepped, sends, idle, learns, promise_body, counts_promise, reports, counts_acceptance, proposal_in, at_proposal, is_too_late, from_node, from_manager, is_addressed, receives_from, begins, begins_unless, proposes, activates_by, manager_step}
+use Rattle.hk_manager.specs.Steps.{ManagerStepped, sends, idle, learns, promise_body, counts_promise, reports, counts_acceptance, proposal_in, at_proposal, is_too_late, from_node, from_manager, is_addressed, receives_from, begins, begins_unless, proposes, activates_by, manager_step}
 use Rattle.hk_manager.specs.Laws.{OfStep, LettersInRange}
 use Rattle.hk_sent.specs.Sent.{IsSent, ManagersSend}
 use Rattle.hk_sent.proofs.Nodes.{AllKeep, all_sent}
 
-abbrev Keep : Stepped → Type 0
+abbrev Keep : ManagerStepped → Type 0
 Keep stepped = AllKeep stepped.letters
 
-by_if : (b : Bool) (m : ManagerState) (stepped : Stepped) → Keep stepped → Keep (if b then stepped else idle m)
+by_if : (b : Bool) (m : ManagerState) (stepped : ManagerStepped) → Keep stepped → Keep (if b then stepped else idle m)
 by_if true m stepped keep = keep
 by_if false m stepped keep = tt
 
-by_else : (b : Bool) (m : ManagerState) (stepped : Stepped) → Keep stepped → Keep (if b then idle m else stepped)
+by_else : (b : Bool) (m : ManagerState) (stepped : ManagerStepped) → Keep stepped → Keep (if b then idle m else stepped)
 by_else true m stepped keep = tt
 by_else false m stepped keep = keep
 
@@ -62,47 +62,47 @@ reports_keep : (m : ManagerState) (answer : Option View) → Keep (reports m ans
 reports_keep m None = tt
 reports_keep m (Some view) = learns_keep m view _ (each_keep _ _ (λ to. tt))
 
-at_keep : (o : Option Proposer) (m : ManagerState) (step : Proposer → Stepped) → ((proposer : Proposer) → Keep (step proposer)) → Keep (at_proposal o m step)
+at_keep : (o : Option Proposer) (m : ManagerState) (step : Proposer → ManagerStepped) → ((proposer : Proposer) → Keep (step proposer)) → Keep (at_proposal o m step)
 at_keep None m step keep = tt
 at_keep (Some proposer) m step keep = keep proposer
 
 promised_keep : (proposer : Proposer) (m : ManagerState) (from : ℕ) (promise : Promise) → Keep (counts_promise proposer m from promise)
-promised_keep proposer m from promise = told_keep m proposer.epoch (λ view. Accept proposer.ballot view) (λ view. tt) (proposer_on_promise proposer from promise).answer
+promised_keep proposer m from promise = told_keep m proposer.epoch (λ view. Body.Accept proposer.ballot view) (λ view. tt) (proposer_on_promise proposer from promise).answer
 
 accepted_keep : (proposer : Proposer) (m : ManagerState) (from : ℕ) (ballot : Ballot) → Keep (counts_acceptance proposer m from ballot)
 accepted_keep proposer m from ballot = reports_keep (record m { proposal = Some (proposer_on_accepted proposer from ballot).after }) (proposer_on_accepted proposer from ballot).answer
 
 node_keep : (body : Body) (m : ManagerState) (from : NodeId) → Keep (from_node body m from)
-node_keep (LeaseAsk asked) m from = by_if (is_member m.held from) m _ (tt, tt)
-node_keep (Inv key s kind content) m from = tt
-node_keep (Ack key s top) m from = tt
-node_keep (Val key s) m from = tt
-node_keep (CopyAsk after room) m from = tt
-node_keep (CopyGive after done items) m from = tt
-node_keep (LeaseGive end) m from = tt
-node_keep (Prepare ballot) m from = tt
-node_keep (PromiseBody ballot vote) m from = tt
-node_keep (Accept ballot view) m from = tt
-node_keep (Accepted ballot) m from = tt
-node_keep (Chosen view) m from = tt
-node_keep (ActivateBody view) m from = tt
+node_keep (Body.LeaseAsk asked) m from = by_if (is_member m.held from) m _ (tt, tt)
+node_keep (Body.Inv key s kind content) m from = tt
+node_keep (Body.Ack key s top) m from = tt
+node_keep (Body.Val key s) m from = tt
+node_keep (Body.CopyAsk after room) m from = tt
+node_keep (Body.CopyGive after done items) m from = tt
+node_keep (Body.LeaseGive end) m from = tt
+node_keep (Body.Prepare ballot) m from = tt
+node_keep (Body.Promise ballot vote) m from = tt
+node_keep (Body.Accept ballot view) m from = tt
+node_keep (Body.Accepted ballot) m from = tt
+node_keep (Body.Chosen view) m from = tt
+node_keep (Body.Activate view) m from = tt
 
 manager_keep : (body : Body) (m : ManagerState) (epoch from : ℕ) → Keep (from_manager body m epoch from)
-manager_keep (Prepare ballot) m epoch from = by_else (is_too_late ballot) m _
+manager_keep (Body.Prepare ballot) m epoch from = by_else (is_too_late ballot) m _
     (told_keep m epoch promise_body (λ promise. tt) (acceptor_on_prepare (instance_at epoch m.instances).acceptor ballot).answer)
-manager_keep (PromiseBody ballot vote) m epoch from = at_keep (proposal_in m.proposal epoch) m _ (λ proposer. promised_keep proposer m from (record { ballot = ballot; accepted = vote }))
-manager_keep (Accept ballot view) m epoch from = by_else (is_too_late ballot) m _
-    (told_keep m epoch (λ at. Accepted at) (λ at. tt) (acceptor_on_accept (instance_at epoch m.instances).acceptor ballot view).answer)
-manager_keep (Accepted ballot) m epoch from = at_keep (proposal_in m.proposal epoch) m _ (λ proposer. accepted_keep proposer m from ballot)
-manager_keep (Chosen view) m epoch from = learns_keep m view [] tt
-manager_keep (LeaseAsk asked) m epoch from = tt
-manager_keep (Inv key s kind content) m epoch from = tt
-manager_keep (Ack key s top) m epoch from = tt
-manager_keep (Val key s) m epoch from = tt
-manager_keep (CopyAsk after room) m epoch from = tt
-manager_keep (CopyGive after done items) m epoch from = tt
-manager_keep (LeaseGive end) m epoch from = tt
-manager_keep (ActivateBody view) m epoch from = tt
+manager_keep (Body.Promise ballot vote) m epoch from = at_keep (proposal_in m.proposal epoch) m _ (λ proposer. promised_keep proposer m from (record { ballot = ballot; accepted = vote }))
+manager_keep (Body.Accept ballot view) m epoch from = by_else (is_too_late ballot) m _
+    (told_keep m epoch (λ at. Body.Accepted at) (λ at. tt) (acceptor_on_accept (instance_at epoch m.instances).acceptor ballot view).answer)
+manager_keep (Body.Accepted ballot) m epoch from = at_keep (proposal_in m.proposal epoch) m _ (λ proposer. accepted_keep proposer m from ballot)
+manager_keep (Body.Chosen view) m epoch from = learns_keep m view [] tt
+manager_keep (Body.LeaseAsk asked) m epoch from = tt
+manager_keep (Body.Inv key s kind content) m epoch from = tt
+manager_keep (Body.Ack key s top) m epoch from = tt
+manager_keep (Body.Val key s) m epoch from = tt
+manager_keep (Body.CopyAsk after room) m epoch from = tt
+manager_keep (Body.CopyGive after done items) m epoch from = tt
+manager_keep (Body.LeaseGive end) m epoch from = tt
+manager_keep (Body.Activate view) m epoch from = tt
 
 from_keep : (actor : Actor) (m : ManagerState) (letter : Letter) → Keep (receives_from actor m letter)
 from_keep (Node from) m letter = node_keep letter.body m from
@@ -135,6 +135,6 @@ step_keep m (Tick now) = tt
 pub managers_send : LettersInRange → ManagersSend
 managers_send within m event is may = at (manager_step m event) (within m event is may) (step_keep m event)
   where
-    at : (r : Result Stepped ManagerFault) → OfStep (λ stepped. AllByRecursion IsLetter stepped.letters × (length stepped.letters ≤ 16)) r → OfStep Keep r → OfStep (λ stepped. AllByRecursion IsSent stepped.letters) r
+    at : (r : Result ManagerStepped ManagerFault) → OfStep (λ stepped. AllByRecursion IsLetter stepped.letters × (length stepped.letters ≤ 16)) r → OfStep Keep r → OfStep (λ stepped. AllByRecursion IsSent stepped.letters) r
     at (Ok stepped) range keep = all_sent stepped.letters range.0 keep
     at (Err fault) range keep = tt

@@ -4,7 +4,7 @@ use Rattle.std.specs.List.{AllByRecursion}
 use Rattle.hk_base.specs.declared.call.CallNo.{CallNo}
 use Rattle.hk_base.specs.declared.call.Op.{Op}
 use Rattle.hk_base.specs.declared.call.State.{State}
-use Rattle.hk_base.specs.declared.call.State.TheVariants.{Valid, Invalid, Write, Replay as ReplayState, Trans}
+use Rattle.hk_base.specs.declared.call.State.TheVariants as State
 use Rattle.hk_base.specs.declared.stamp.Stamp.{Stamp}
 use Rattle.hk_base.specs.declared.stamp.NodeId.{NodeId}
 use Rattle.hk_base.specs.declared.view.View.{View}
@@ -20,7 +20,7 @@ use Rattle.hk_copy.specs.declared.given.TheConstants.{MAX_BATCH_BYTES}
 use Rattle.hk_frame.specs.Laws.{KeepsBatchLimit, AllFit}
 use Rattle.hk_key.specs.declared.out.Sending.{Sending}
 use Rattle.hk_key.specs.declared.out.What.{What}
-use Rattle.hk_key.specs.declared.out.What.TheVariants.{InvRow, InvPending, Ack as AckOf, Val as ValOf}
+use Rattle.hk_key.specs.declared.out.What.TheVariants as What
 use Rattle.hk_key.specs.declared.row.Pending.{Pending}
 use Rattle.hk_key.specs.declared.row.Row.{Row}
 use Rattle.hk_key.specs.Table.{Done, on_inv, on_ack, on_val, resend, replay, still}
@@ -65,10 +65,10 @@ pending_keeps key row None = tt
 pending_keeps key row (Some p) = tt
 
 body_keeps : (key : List ℕ) (row : Row) (what : What) → KeepsBatchLimit (body_of key row what)
-body_keeps key row InvRow = tt
-body_keeps key row InvPending = pending_keeps key row row.pending
-body_keeps key row (AckOf s top) = tt
-body_keeps key row (ValOf s) = tt
+body_keeps key row What.InvRow = tt
+body_keeps key row What.InvPending = pending_keeps key row row.pending
+body_keeps key row (What.Ack s top) = tt
+body_keeps key row (What.Val s) = tt
 
 sent_keep : (node : NodeState) (key : List ℕ) (row : Row) (send : Option Sending) → AllKeep (sent node key row send)
 sent_keep node key row None = tt
@@ -112,11 +112,11 @@ call_keep node call key op = by_lease (nat_lt (lease_end node) (node.clock + nod
     by_turn true = by_limit (next_stamp (kind_of op) the_row.stamp node.id)
 
     by_state : (state : State) → AllKeep (at_state state node call key op the_row).letters
-    by_state Valid = by_turn (act op (register_in the_row) 0).changed
-    by_state Invalid = tt
-    by_state Write = tt
-    by_state ReplayState = tt
-    by_state Trans = tt
+    by_state State.Valid = by_turn (act op (register_in the_row) 0).changed
+    by_state State.Invalid = tt
+    by_state State.Write = tt
+    by_state State.Replay = tt
+    by_state State.Trans = tt
 
     by_lease : (b : Bool) → AllKeep (at_lease b node call key op).letters
     by_lease true = tt

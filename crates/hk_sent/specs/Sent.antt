@@ -8,12 +8,12 @@ use Rattle.hk_frame.specs.Sendable.{IsLetterValue}
 use Rattle.hk_manager.specs.declared.event.ManagerEvent.{ManagerEvent}
 use Rattle.hk_manager.specs.Manager.{ManagerState}
 use Rattle.hk_manager.specs.Steps.{manager_step}
-use Rattle.hk_manager.specs.Sound.{IsManager, IsEvent as IsManagerEvent}
+use Rattle.hk_manager.specs.Sound.{IsManager, IsManagerEvent}
 use Rattle.hk_manager.specs.Laws.{OfStep}
 use Rattle.hk_node.specs.declared.event.NodeEvent.{NodeEvent}
 use Rattle.hk_node.specs.Node.{NodeState}
 use Rattle.hk_node.specs.Steps.{node_step}
-use Rattle.hk_node.specs.Sound.{IsNode, IsEvent as IsNodeEvent}
+use Rattle.hk_node.specs.Sound.{IsNode, IsNodeEvent}
 
 -- a letter as it is sent: its parts are in range, and the keys and data of a batch are at most 2,097,152 bytes together
 pub record IsSent (letter : Letter) : Type 0 where

@@ -9,7 +9,7 @@ use Rattle.hk_base.specs.declared.stamp.NodeId.{NodeId}
 use Rattle.hk_base.specs.declared.call.CallNo.{CallNo}
 use Rattle.hk_base.specs.declared.call.Content.{Content}
 use Rattle.hk_base.specs.declared.call.State.{State}
-use Rattle.hk_base.specs.declared.call.State.TheVariants.{Valid, Invalid, Write as Writing, Replay, Trans}
+use Rattle.hk_base.specs.declared.call.State.TheVariants as State
 use Rattle.hk_base.specs.declared.call.Op.{Op}
 use Rattle.hk_base.specs.declared.call.Op.TheVariants.{Read, Write, Cas, Incr, Decr, Add, Replace, Delete}
 use Rattle.hk_base.specs.declared.call.Answer.{Answer}
@@ -94,11 +94,11 @@ module _ (node : NodeState) (lone : IsLone node) (call : CallNo) (key : List ℕ
   turn true row e = limit (next_stamp (kind_of op) row.stamp node.id) row e
 
   state : (s : State) (row : Row) → IsAnswered node call key op (at_state s node call key op row)
-  state Valid row = turn (act op (register_in row) 0).changed row refl
-  state Invalid row = record { answer = _; told = refl; suits = refl; id = refl; view = refl; skew = refl }
-  state Writing row = record { answer = _; told = refl; suits = refl; id = refl; view = refl; skew = refl }
-  state Replay row = record { answer = _; told = refl; suits = refl; id = refl; view = refl; skew = refl }
-  state Trans row = record { answer = _; told = refl; suits = refl; id = refl; view = refl; skew = refl }
+  state State.Valid row = turn (act op (register_in row) 0).changed row refl
+  state State.Invalid row = record { answer = _; told = refl; suits = refl; id = refl; view = refl; skew = refl }
+  state State.Write row = record { answer = _; told = refl; suits = refl; id = refl; view = refl; skew = refl }
+  state State.Replay row = record { answer = _; told = refl; suits = refl; id = refl; view = refl; skew = refl }
+  state State.Trans row = record { answer = _; told = refl; suits = refl; id = refl; view = refl; skew = refl }
 
   lease : (over : Bool) → IsAnswered node call key op (at_lease over node call key op)
   lease true = record { answer = _; told = refl; suits = refl; id = refl; view = refl; skew = refl }

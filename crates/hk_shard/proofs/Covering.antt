@@ -14,7 +14,7 @@ use Rattle.hk_node.specs.declared.report.PriorRow.{PriorRow}
 use Rattle.hk_node.specs.Rows.{Rows, find_row}
 use Rattle.hk_node.specs.Report.{is_changed, prior_at, changed_rows}
 use Rattle.hk_node.specs.Node.{NodeState}
-use Rattle.hk_node.specs.Sound.{IsNode, IsEvent}
+use Rattle.hk_node.specs.Sound.{IsNode, IsNodeEvent}
 use Rattle.hk_node.proofs.Order.{same_key, same_true, find_here, find_next, lt_ne_back}
 use Rattle.hk_node.proofs.KeepsMore.{step_keeps_node}
 use Rattle.hk_journal.specs.declared.step_entry.JournalEntry.{JournalEntry}
@@ -149,7 +149,7 @@ any_shown key ticket call [] = refl
 any_shown key ticket call (x ∷ xs) = ap (λ b. same_key key x.0 || b) (any_shown key ticket call xs)
 
 -- the front of a cell's list, one entry on
-covers_more : (cell : ℕ) (front : List Publication) (node : NodeState) (entry : JournalEntry) → IsNode node → IsEvent entry.event → Covers cell front node.rows
+covers_more : (cell : ℕ) (front : List Publication) (node : NodeState) (entry : JournalEntry) → IsNode node → IsNodeEvent entry.event → Covers cell front node.rows
     → Covers cell (front ++ shown_in cell node (entry ∷ [])) (after node entry).rows
 covers_more cell front node entry ok within covers key here =
     let new : Rows = (after node entry).rows in
@@ -167,7 +167,7 @@ covers_more cell front node entry ok within covers key here =
     (is_last key cell here new shown found row)
 
 -- and a whole journal on
-pub covers_over : (cell : ℕ) (front : List Publication) (base : NodeState) (journal : List JournalEntry) → IsNode base → AllByRecursion (λ e. IsEvent e.event) journal → Covers cell front base.rows
+pub covers_over : (cell : ℕ) (front : List Publication) (base : NodeState) (journal : List JournalEntry) → IsNode base → AllByRecursion (λ e. IsNodeEvent e.event) journal → Covers cell front base.rows
     → Covers cell (front ++ shown_in cell base journal) (replay base journal).rows
 covers_over cell front base [] ok all covers = subst (λ l. Covers cell l base.rows) (sym (append-nil front)) covers
 covers_over cell front base (x ∷ journal) ok all covers =

@@ -15,7 +15,7 @@ use Rattle.hk_node.specs.Outs.{IsOutOf}
 use Rattle.hk_node.specs.Node.{NodeState, members_of}
 use Rattle.hk_node.specs.Calls.{lease_end}
 use Rattle.hk_node.specs.Steps.{node_step}
-use Rattle.hk_node.specs.Sound.{IsNode, IsEvent}
+use Rattle.hk_node.specs.Sound.{IsNode, IsNodeEvent}
 use Rattle.hk_node.proofs.Order.{holds_at}
 use Rattle.hk_node.proofs.KeepsMore.{step_keeps_node}
 use Rattle.hk_journal.specs.declared.step_entry.JournalEntry.{JournalEntry}
@@ -35,7 +35,7 @@ use Rattle.hk_shard.proofs.Lasting.{leases_never_fall}
 use Rattle.hk_shard.proofs.Undoing.{back_at_first, none_replaced}
 use Rattle.hk_shard.proofs.Covering.{shown_of, step_shown, shown_joined, covers_over}
 
-replay_is_node : (base : NodeState) (journal : List JournalEntry) → IsNode base → AllByRecursion (λ e. IsEvent e.event) journal → IsNode (replay base journal)
+replay_is_node : (base : NodeState) (journal : List JournalEntry) → IsNode base → AllByRecursion (λ e. IsNodeEvent e.event) journal → IsNode (replay base journal)
 replay_is_node base [] ok all = ok
 replay_is_node base (x ∷ journal) ok all = replay_is_node (after base x) journal (step_keeps_node base x.event ok all.0) all.1
 
@@ -110,7 +110,7 @@ with_entry s ticket event ends =
       lease = raised s.lease (lease_end part) part.clock;
     }
 
-entry_kept : (s : ShardState) (ticket : ℕ) (event : NodeEvent) (ends : List End) → IsShard s → s.last < ticket → IsEvent event
+entry_kept : (s : ShardState) (ticket : ℕ) (event : NodeEvent) (ends : List End) → IsShard s → s.last < ticket → IsNodeEvent event
     → ((cell : ℕ) → seen_at ends cell ≡ seen_at s.ends cell ++ shown_in cell s.part (step_entry ticket s.part event ∷ [])) → names ends ≡ names s.ends
     → IsShard (with_entry s ticket event ends)
 entry_kept s ticket event ends is up within shown named = record {
@@ -123,7 +123,7 @@ entry_kept s ticket event ends is up within shown named = record {
       (shown cell ∙ ap (λ n. seen_at s.ends cell ++ shown_in cell n (entry ∷ [])) is.part);
   lease = lease_up s.lease (lease_end s.part) (lease_end new) s.part.clock new.clock is.lease (leases_never_fall s.part event).end (leases_never_fall s.part event).clock;
   cells = same_long ends s.ends named ∙ is.cells;
-  events = all_snoc (λ e. IsEvent e.event) s.journal entry is.events within;
+  events = all_snoc (λ e. IsNodeEvent e.event) s.journal entry is.events within;
   tickets = all_snoc (λ e. e.ticket ≤ ticket) s.journal entry (older s.journal s.last ticket is.tickets up) (le_refl ticket);
   shown_tickets = λ cell. subst (AllByRecursion (λ p. p.ticket ≤ ticket)) (sym (shown cell))
       (all_append (λ p. p.ticket ≤ ticket) (seen_at s.ends cell) (shown_in cell s.part (entry ∷ [])) (older_shown (seen_at s.ends cell) s.last ticket (is.shown_tickets cell) up)
@@ -146,7 +146,7 @@ applied_is s t ticket event is = λ i. record {
   lease = (is.lease ∙ ap (λ p. raised s.lease (lease_end p) p.clock) is.part) i;
 }
 
-pub applied_kept : (s t : ShardState) (ticket : ℕ) (event : NodeEvent) → IsShard s → s.last < ticket → IsEvent event → IsApplied s ticket event t → IsShard t
+pub applied_kept : (s t : ShardState) (ticket : ℕ) (event : NodeEvent) → IsShard s → s.last < ticket → IsNodeEvent event → IsApplied s ticket event t → IsShard t
 applied_kept s t ticket event is up within applied =
     subst IsShard (sym (applied_is s t ticket event applied)) (entry_kept s ticket event t.ends is up within applied.shown applied.names)
 
@@ -224,7 +224,7 @@ still_unseen reader ends ends' same is = is ∙ ap fresh (same_unseen ends ends'
 
 -- ---- an event, from what is known of each part of the shard
 pub applied_by : (old : ShardState) (ticket : ℕ) (event : NodeEvent) (out : NodeOut) (part : NodeState) (journal : List JournalEntry) (call : Option CallNo) (ends : List End) (lease : Lease)
-    → IsShard old → IsEvent event → IsOutOf out old.part (node_step old.part event) → part ≡ (node_step old.part event).node
+    → IsShard old → IsNodeEvent event → IsOutOf out old.part (node_step old.part event) → part ≡ (node_step old.part event).node
     → journal ≡ old.journal ++ step_entry ticket old.part event ∷ [] → call ≡ call_of event
     → ends ≡ with_all old.ends (publications part.rows ticket call out.report.rows) → lease ≡ raised old.lease (lease_end part) part.clock
     → IsApplied old ticket event (record { base = old.base; journal = journal; part = part; last = ticket; ends = ends; lease = lease })
@@ -253,7 +253,7 @@ applied_by old ticket event out part journal call ends lease is within told part
     same = λ i. publications (part_is i).rows ticket (call_is i) (ap (λ (r : Report). r.rows) told.reported i)
 
 -- what its step changed may be published
-pub next_by : (old : ShardState) (ticket : ℕ) (event : NodeEvent) (out : NodeOut) (part : NodeState) (call : Option CallNo) → IsShard old → old.last < ticket → IsEvent event
+pub next_by : (old : ShardState) (ticket : ℕ) (event : NodeEvent) (out : NodeOut) (part : NodeState) (call : Option CallNo) → IsShard old → old.last < ticket → IsNodeEvent event
     → IsOutOf out old.part (node_step old.part event) → part ≡ (node_step old.part event).node → MayBePublished old.ends (publications part.rows ticket call out.report.rows)
 next_by old ticket event out part call is up within told part_is =
     may_be_published part.rows ticket call old.ends old.last out.report.rows is.cells up is.shown_tickets told.changed.rising

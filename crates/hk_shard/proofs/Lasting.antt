@@ -6,7 +6,7 @@ use Rattle.hk_base.specs.declared.stamp.NodeId.{NodeId}
 use Rattle.hk_base.specs.declared.call.CallNo.{CallNo}
 use Rattle.hk_base.specs.declared.call.Op.{Op}
 use Rattle.hk_base.specs.declared.call.State.{State}
-use Rattle.hk_base.specs.declared.call.State.TheVariants.{Valid, Invalid, Write, Replay as ReplayState, Trans}
+use Rattle.hk_base.specs.declared.call.State.TheVariants as State
 use Rattle.hk_base.specs.declared.view.View.{View}
 use Rattle.hk_base.specs.declared.letter.Actor.{Actor}
 use Rattle.hk_base.specs.declared.letter.Actor.TheVariants.{Node, Manager}
@@ -108,11 +108,11 @@ by_turn false node call key op row = rests node
 by_turn true node call key op row = by_limit (next_stamp (kind_of op) row.stamp node.id) node call key op row
 
 by_state : (state : State) (node : NodeState) (call : CallNo) (key : List ℕ) (op : Op) (row : Row) → Rises node (at_state state node call key op row)
-by_state Valid node call key op row = by_turn (act op (register_in row) 0).changed node call key op row
-by_state Invalid node call key op row = rests node
-by_state Write node call key op row = rests node
-by_state ReplayState node call key op row = rests node
-by_state Trans node call key op row = rests node
+by_state State.Valid node call key op row = by_turn (act op (register_in row) 0).changed node call key op row
+by_state State.Invalid node call key op row = rests node
+by_state State.Write node call key op row = rests node
+by_state State.Replay node call key op row = rests node
+by_state State.Trans node call key op row = rests node
 
 by_lease : (b : Bool) (node : NodeState) (call : CallNo) (key : List ℕ) (op : Op) → Rises node (at_lease b node call key op)
 by_lease true node call key op = rests node

@@ -13,7 +13,7 @@ use Rattle.hk_base.specs.declared.call.State.TheVariants.{Valid, Invalid, Write,
 use Rattle.hk_base.specs.declared.call.Op.TheVariants.{Read}
 use Rattle.hk_base.specs.declared.call.Answer.{Answer}
 use Rattle.hk_base.specs.declared.call.Answer.TheVariants as told
-use Rattle.hk_base.specs.declared.call.Why.TheVariants.{Lease, Row as OfRow}
+use Rattle.hk_base.specs.declared.call.Why.TheVariants as Why
 use Rattle.hk_base.specs.Register.{act}
 use Rattle.hk_base.specs.Stamp.{tag_of}
 use Rattle.hk_key.specs.declared.row.Row.{Row}
@@ -27,7 +27,7 @@ use Rattle.hk_snap.specs.declared.rule.Publication.{Publication}
 use Rattle.hk_snap.specs.declared.snapshot.Snapshot.{Snapshot}
 use Rattle.hk_snap.specs.declared.local.Local.TheVariants as local
 use Rattle.hk_snap.specs.Snapshots.{cell_of, last_shown, snapshot_of, shape_of}
-use Rattle.hk_snap.specs.declared.snapshot.Shape.TheVariants.{Small, Large as LargeShape}
+use Rattle.hk_snap.specs.declared.snapshot.Shape.TheVariants as Shape
 use Rattle.hk_snap.specs.declared.snapshot.TheConstants.{MAX_SMALL_LEN}
 use Rattle.hk_snap.specs.Ends.{seen_at}
 use Rattle.hk_snap.specs.Locals.{local_of, of_row, of_shape}
@@ -60,7 +60,7 @@ last_is key (p ∷ q ∷ seen) shown row is same =
 
 -- ---- a Valid row
 module _ (node : NodeState) (call : CallNo) (key : List ℕ) (answer : Answer) where
-  large : (b : Bool) (stamp : Stamp) (ticket : ℕ) (content : Content) → answer_of (of_shape stamp ticket (cond b LargeShape (Small content))) ≡ Some answer → told.Found content (tag_of stamp) ≡ answer
+  large : (b : Bool) (stamp : Stamp) (ticket : ℕ) (content : Content) → answer_of (of_shape stamp ticket (cond b Shape.Large (Shape.Small content))) ≡ Some answer → told.Found content (tag_of stamp) ≡ answer
   large true stamp ticket content e = nothing answer e
   large false stamp ticket content e = inside (told.Found content (tag_of stamp)) answer e
 
@@ -69,8 +69,8 @@ module _ (node : NodeState) (call : CallNo) (key : List ℕ) (answer : Answer) w
   held None row ticket is e = rw is (ap (answers node key call) (inside told.Missing answer e))
   held (Some content) row ticket is e = rw is (ap (answers node key call) (large (nat_lt MAX_SMALL_LEN (length content.bytes)) row.stamp ticket content e))
 
-  busy : (state : State) (row : Row) → row.state ≡ state → Some (told.Busy (OfRow state row.stamp)) ≡ Some answer → answers node key call (told.Busy (OfRow row.state row.stamp)) ≡ answers node key call answer
-  busy state row is e = ap (answers node key call) (ap (λ s. told.Busy (OfRow s row.stamp)) is ∙ inside (told.Busy (OfRow state row.stamp)) answer e)
+  busy : (state : State) (row : Row) → row.state ≡ state → Some (told.Busy (Why.Row state row.stamp)) ≡ Some answer → answers node key call (told.Busy (Why.Row row.state row.stamp)) ≡ answers node key call answer
+  busy state row is e = ap (answers node key call) (ap (λ s. told.Busy (Why.Row s row.stamp)) is ∙ inside (told.Busy (Why.Row state row.stamp)) answer e)
 
   -- ---- a row in any state
   stands : (state : State) (row : Row) (ticket : ℕ) → row.state ≡ state → answer_of (of_row state row.stamp ticket (shape_of row.content)) ≡ Some answer
@@ -94,7 +94,7 @@ module _ (s : ShardState) (key : List ℕ) (end now : ℕ) (call : CallNo) (answ
       rw (shows.ends, is.part) (covers_over (cell_of key) shows.front s.base s.journal is.node is.events shows.covers key refl)
 
   abbrev Told : Type 0
-  Told = ((answer ≡ told.Busy (Lease end now)) × (end < now + s.part.skew)) ⊎ ((now + s.part.skew ≤ end) × (at_state (row_at key s.part.rows).state (at_clock now s.part) call key Read (row_at key s.part.rows) ≡ answers (at_clock now s.part) key call answer))
+  Told = ((answer ≡ told.Busy (Why.Lease end now)) × (end < now + s.part.skew)) ⊎ ((now + s.part.skew ≤ end) × (at_state (row_at key s.part.rows).state (at_clock now s.part) call key Read (row_at key s.part.rows) ≡ answers (at_clock now s.part) key call answer))
 
   by_row : (shown : Snapshot) → IsLast key seen shown None → answer_of (of_row shown.state shown.stamp shown.ticket shown.shape) ≡ Some answer
       → at_state (row_at key s.part.rows).state (at_clock now s.part) call key Read (row_at key s.part.rows) ≡ answers (at_clock now s.part) key call answer
@@ -105,13 +105,13 @@ module _ (s : ShardState) (key : List ℕ) (end now : ℕ) (call : CallNo) (answ
       (stands (at_clock now s.part) call key answer last.last.row.state last.last.row last.last.ticket refl shape)
 
   by_lease : (over : Bool) (shown : Snapshot) → nat_lt end (now + s.part.skew) ≡ over → IsLast key seen shown None
-      → answer_of (cond over (local.Busy (Lease end now)) (of_row shown.state shown.stamp shown.ticket shown.shape)) ≡ Some answer → Told
-  by_lease true shown past last e = inl (sym (inside (told.Busy (Lease end now)) answer e), ltb-true end (now + s.part.skew) past)
+      → answer_of (cond over (local.Busy (Why.Lease end now)) (of_row shown.state shown.stamp shown.ticket shown.shape)) ≡ Some answer → Told
+  by_lease true shown past last e = inl (sym (inside (told.Busy (Why.Lease end now)) answer e), ltb-true end (now + s.part.skew) past)
   by_lease false shown past last e =
       inr (ltb-false end (now + s.part.skew) past, by_row shown last e)
 
   by_key : (same : Bool) (shown : Snapshot) → bytes_eq shown.key key ≡ same → last_shown seen ≡ Some shown
-      → answer_of (cond same (cond (nat_lt end (now + s.part.skew)) (local.Busy (Lease end now)) (of_row shown.state shown.stamp shown.ticket shown.shape)) local.Elsewhere) ≡ Some answer → Told
+      → answer_of (cond same (cond (nat_lt end (now + s.part.skew)) (local.Busy (Why.Lease end now)) (of_row shown.state shown.stamp shown.ticket shown.shape)) local.Elsewhere) ≡ Some answer → Told
   by_key true shown same last e = by_lease (nat_lt end (now + s.part.skew)) shown refl (last_is key seen shown None last ((bytes_eq-Decides shown.key key).0 same)) e
   by_key false shown same last e = nothing answer e
 
@@ -126,7 +126,7 @@ module _ (s : ShardState) (key : List ℕ) (end now : ℕ) (call : CallNo) (answ
 abbrev asked : ShardState → List ℕ → ℕ → CallNo → Bool → Stepped
 asked s key now call over = at_lease over (at_clock now s.part) call key Read
 
-past_lease : (s : ShardState) (key : List ℕ) (now : ℕ) (call : CallNo) (answer : Answer) → answer ≡ told.Busy (Lease (lease_end s.part) now) → lease_end s.part < now + s.part.skew → ReadAs s key now call answer
+past_lease : (s : ShardState) (key : List ℕ) (now : ℕ) (call : CallNo) (answer : Answer) → answer ≡ told.Busy (Why.Lease (lease_end s.part) now) → lease_end s.part < now + s.part.skew → ReadAs s key now call answer
 past_lease s key now call answer busy over =
     ap (asked s key now call) (lt-ltb (lease_end s.part) (now + s.part.skew) over) ∙ ap (answers (at_clock now s.part) key call) (sym busy)
 

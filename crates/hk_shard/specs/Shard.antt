@@ -6,7 +6,7 @@ use Rattle.hk_node.specs.Node.{NodeState}
 use Rattle.hk_node.specs.Stepped.{replies_of}
 use Rattle.hk_node.specs.Steps.{node_step}
 use Rattle.hk_node.specs.Calls.{lease_end}
-use Rattle.hk_node.specs.Sound.{IsNode, IsEvent}
+use Rattle.hk_node.specs.Sound.{IsNode, IsNodeEvent}
 use Rattle.hk_journal.specs.declared.step_entry.JournalEntry.{JournalEntry}
 use Rattle.hk_journal.specs.Journal.{replay, IsReplay}
 use Rattle.hk_snap.specs.Ends.{End, names, seen_at, writing_end}
@@ -39,7 +39,7 @@ pub record IsShard (s : ShardState) : Type 0 where
   pub lease : s.lease ≡ kept_lease s.lease.name (lease_end s.part) s.part.clock
   pub cells : length s.ends ≡ 32
   -- the events were such as a node may be given, and no ticket is above the last
-  pub events : AllByRecursion (λ entry. IsEvent entry.event) s.journal
+  pub events : AllByRecursion (λ entry. IsNodeEvent entry.event) s.journal
   pub tickets : AllByRecursion (λ entry. entry.ticket ≤ s.last) s.journal
   pub shown_tickets : (cell : ℕ) → AllByRecursion (λ p. p.ticket ≤ s.last) (seen_at s.ends cell)
 

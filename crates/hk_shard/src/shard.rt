@@ -4,7 +4,7 @@ ghost use Rattle.std.specs.Prelude.{◌≡◌, ℕ, ◌<◌, ◌≤◌, ◌*◌,
 ghost use Rattle.hk_node.specs.Outs.{IsOutOf};
 ghost use Rattle.hk_node.specs.Steps.{node_step};
 ghost use Rattle.hk_node.specs.Calls.{lease_end};
-ghost use Rattle.hk_node.specs.Sound.{IsEvent};
+ghost use Rattle.hk_node.specs.Sound.{IsNodeEvent};
 ghost use mathlib.Core.List.{IsPrefix};
 ghost use Rattle.hk_snap.specs.Ends.{names, noted, seen_at, looked, Loads};
 ghost use Rattle.hk_snap.specs.Leases.{Looks};
@@ -115,7 +115,7 @@ impl Shard {
         event: NodeEvent,
     ) -> Result<NodeOut, Memory>
         requires ticket { self.old.last < ticket }
-        requires event { IsEvent event }
+        requires event { IsNodeEvent event }
         ensures out { IfOk result (λ out. IsOutOf out self.old.part (node_step self.old.part event)) }
         ensures applied { OnOk result (IsApplied self.old ticket event self.new) }
         ensures err { OnErr result (self.new ≡ self.old) }

@@ -4,7 +4,7 @@ ghost use Rattle.std.specs.Prelude.{◌≡◌, ◌∷◌, ◌++◌, [], true, If
 ghost use Rattle.hk_node.specs.Node.{NodeState};
 ghost use Rattle.hk_node.specs.Outs.{IsOutOf};
 ghost use Rattle.hk_node.specs.Steps.{node_step};
-ghost use Rattle.hk_node.specs.Sound.{IsNode, IsEvent};
+ghost use Rattle.hk_node.specs.Sound.{IsNode, IsNodeEvent};
 ghost use Rattle.hk_node.specs.declared.report.Undo.TheVariants.{Nothing};
 ghost use Rattle.hk_journal.specs.Journal.{entry_of};
 ghost use Rattle.hk_shard.specs.Shard.{step_entry};
@@ -96,7 +96,7 @@ pub(crate) fn make(
     ticket: u64,
     event: NodeEvent,
 ) -> Result<NodeOut, Memory>
-    requires event { IsEvent event }
+    requires event { IsNodeEvent event }
     requires node { IsNode part.old }
     ensures out { IfOk result (λ out. IsOutOf out part.old (node_step part.old event)) }
     ensures part { OnOk result (part.new ≡ (node_step part.old event).node) }

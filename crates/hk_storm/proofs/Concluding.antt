@@ -5,7 +5,7 @@ use Rattle.std.proofs.lemmas.Bool.{false≢true}
 use Rattle.hk_base.specs.declared.stamp.NodeId.{NodeId}
 use Rattle.hk_base.specs.declared.letter.Letter.{Letter}
 use Rattle.hk_node.specs.declared.event.NodeEvent.{NodeEvent}
-use Rattle.hk_node.specs.declared.event.NodeEvent.TheVariants as N
+use Rattle.hk_node.specs.declared.event.NodeEvent.TheVariants as NodeEvent
 use Rattle.hk_world.specs.declared.event.Header.{Header}
 use Rattle.hk_world.specs.declared.event.Event.{Event}
 use Rattle.hk_world.specs.declared.shown.Shown.{Shown}
@@ -15,7 +15,7 @@ use Rattle.hk_world.specs.Sound.{IsHeader, IsEvent}
 use Rattle.hk_safety.specs.Run.{RunState, IsRun, AreAccepted, RunsAreLegal}
 use Rattle.hk_merge.specs.Merged.{Item, Step, LocalRead, IsOf, IsEventOf, tickets_after, Goes}
 use Rattle.hk_assemble.specs.declared.gap.Gap.{Gap}
-use Rattle.hk_assemble.specs.declared.gap.Gap.TheVariants as G
+use Rattle.hk_assemble.specs.declared.gap.Gap.TheVariants as Gap
 use Rattle.hk_assemble.specs.Assembled.{IsAssembled}
 use Rattle.hk_drill.specs.Generated.{group_of}
 use Rattle.hk_storm.specs.declared.groups.StormGroup.{StormGroup}
@@ -25,10 +25,10 @@ use Rattle.hk_storm.proofs.Lists.{one_more, split_at}
 
 -- ---- what is followed may happen
 event_of_ok : (node : NodeId) (letters : List Letter) (tickets : List ℕ) (ticket : ℕ) (e : NodeEvent) (event : Event) → IsEventOf letters tickets node ticket e event → IsEvent event
-event_of_ok node letters tickets ticket (N.Call call key op) event is = subst IsEvent (sym is) tt
-event_of_ok node letters tickets ticket (N.Receive letter) event is = subst IsEvent (sym is.1) tt
-event_of_ok node letters tickets ticket (N.Resend key) event is = subst IsEvent (sym is) tt
-event_of_ok node letters tickets ticket (N.Replay key) event is = subst IsEvent (sym is) tt
+event_of_ok node letters tickets ticket (NodeEvent.Call call key op) event is = subst IsEvent (sym is) tt
+event_of_ok node letters tickets ticket (NodeEvent.Receive letter) event is = subst IsEvent (sym is.1) tt
+event_of_ok node letters tickets ticket (NodeEvent.Resend key) event is = subst IsEvent (sym is) tt
+event_of_ok node letters tickets ticket (NodeEvent.Replay key) event is = subst IsEvent (sym is) tt
 event_of_ok node letters tickets ticket e event is = absurd is
 
 item_ok : (item : Item) (letters : List Letter) (tickets : List ℕ) (event : Event) (shown : Shown) → IsOf item letters tickets event shown → IsEvent event
@@ -82,7 +82,7 @@ module _ (header : Header) (groups : List StormGroup) (i : ℕ) (group : StormGr
   came_more run one = subst (λ (l : List StormGroup). AreAssembled header l (runs ++ run ∷ [])) (sym (one_more groups i group within is)) (assembled_more header (take i groups) runs group run came one)
 
   -- that memory was wanting behind it tells nothing
-  pub first_wanting : (run : RunState) → IsAssembled (Ok run) header group.journals group.notes → IsFirstUnfit header groups G.Memory
+  pub first_wanting : (run : RunState) → IsAssembled (Ok run) header group.journals group.notes → IsFirstUnfit header groups Gap.Memory
   first_wanting run (items, merged, one) = record {
     front = take i groups;
     group = group;

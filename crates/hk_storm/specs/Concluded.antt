@@ -2,7 +2,7 @@
 use Rattle.std.specs.Prelude.{◌≡◌, ℕ, ◌+◌, List, [], ◌∷◌, ◌++◌, take, Option, Ok, Err, ⊤}
 use Rattle.std.specs.Io.KnownBytes.{Appends}
 use Rattle.hk_outside.specs.declared.status.Status.{Status}
-use Rattle.hk_outside.specs.declared.status.Status.TheVariants as S
+use Rattle.hk_outside.specs.declared.status.Status.TheVariants as Status
 use Rattle.hk_world.specs.declared.event.Header.{Header}
 use Rattle.hk_safety.specs.Run.{RunState, IsRun}
 use Rattle.hk_assemble.specs.declared.gap.Gap.{Gap}
@@ -67,9 +67,9 @@ IsReport (Unfit gap) opts groups = IsTelling gap × IsFirstUnfit (group_of opts.
 IsReport (Unasked unlike) opts groups = AreUnasked opts groups unlike
 
 abbrev pub status_of : Report → Status
-status_of (Legal outcomes) = S.Done
-status_of (Unfit gap) = S.Gap
-status_of (Unasked unlike) = S.Gap
+status_of (Legal outcomes) = Status.Done
+status_of (Unfit gap) = Status.Gap
+status_of (Unasked unlike) = Status.Gap
 
 -- this is the status of what they come to, and this its text
 pub record IsText (status : Status) (text : List ℕ) (opts : StormOpts) (groups : List StormGroup) : Type 0 where
@@ -94,16 +94,16 @@ pub record HasBegun (opts : StormOpts) (groups : List StormGroup) (held held' : 
   pub front : Appends held held' (take count text)
 
 abbrev pub IsConcluded : Status → StormOpts → List StormGroup → Option (List ℕ) → Option (List ℕ) → Type 0
-IsConcluded S.Done opts groups held held' = HasTold S.Done opts groups held held'
-IsConcluded S.Gap opts groups held held' = HasTold S.Gap opts groups held held'
-IsConcluded S.WriteFault opts groups held held' = HasBegun opts groups held held'
-IsConcluded S.Memory opts groups held held' = Appends held held' []
+IsConcluded Status.Done opts groups held held' = HasTold Status.Done opts groups held held'
+IsConcluded Status.Gap opts groups held held' = HasTold Status.Gap opts groups held held'
+IsConcluded Status.WriteFault opts groups held held' = HasBegun opts groups held held'
+IsConcluded Status.Memory opts groups held held' = Appends held held' []
 IsConcluded status opts groups held held' = ⊥
 
 -- the statuses with which a storm may end
 abbrev pub EndsStorm : Status → Type 0
-EndsStorm S.Done = ⊤
-EndsStorm S.Gap = ⊤
-EndsStorm S.WriteFault = ⊤
-EndsStorm S.Memory = ⊤
+EndsStorm Status.Done = ⊤
+EndsStorm Status.Gap = ⊤
+EndsStorm Status.WriteFault = ⊤
+EndsStorm Status.Memory = ⊤
 EndsStorm status = ⊥

@@ -2,7 +2,7 @@
 use Rattle.std.specs.Prelude.{◌≡◌, ℕ, List, [], length, Option}
 use Rattle.std.specs.Io.KnownBytes.{Appends}
 use Rattle.hk_outside.specs.declared.status.Status.{Status}
-use Rattle.hk_outside.specs.declared.status.Status.TheVariants as S
+use Rattle.hk_outside.specs.declared.status.Status.TheVariants as Status
 use Rattle.hk_storm.specs.declared.opts.StormOpts.{StormOpts}
 use Rattle.hk_storm.specs.declared.groups.StormGroup.{StormGroup}
 use Rattle.hk_storm.specs.Storm.{AreGroups}
@@ -17,5 +17,5 @@ pub record HasStormed (status : Status) (opts : StormOpts) (held held' : Option 
 
 -- or memory was wanting, and nothing was written
 abbrev pub IsStormed : Status → StormOpts → Option (List ℕ) → Option (List ℕ) → Type 0
-IsStormed S.Memory opts held held' = Appends held held' []
+IsStormed Status.Memory opts held held' = Appends held held' []
 IsStormed status opts held held' = HasStormed status opts held held'

@@ -2,7 +2,7 @@
 use Rattle.std.specs.Prelude.{ℕ, List, [], ◌++◌, Option, Some, None, codes, decimal}
 use Rattle.hk_base.specs.declared.call.Answer.{Answer}
 use Rattle.hk_assemble.specs.declared.gap.Gap.{Gap}
-use Rattle.hk_assemble.specs.declared.gap.Gap.TheVariants as G
+use Rattle.hk_assemble.specs.declared.gap.Gap.TheVariants as Gap
 use Rattle.hk_drill.specs.Text.{answer_text}
 use Rattle.hk_storm.specs.declared.opts.StormOpts.{StormOpts}
 use Rattle.hk_storm.specs.declared.compare.Unlike.{Unlike}
@@ -28,10 +28,10 @@ kept_text (Some answer) = answer_text answer
 
 -- an entry or a note that no run can have; want of memory has no line
 abbrev pub gap_line : Gap → List ℕ
-gap_line G.Memory = []
-gap_line (G.Letter taken sent) = codes "gap letter " ++ decimal taken ++ codes " " ++ sent_text sent ++ codes "\n"
-gap_line (G.Entry node ticket given) = codes "gap entry " ++ decimal node.0 ++ codes " " ++ decimal ticket ++ codes "\n"
-gap_line (G.Note call ticket told kept) =
+gap_line Gap.Memory = []
+gap_line (Gap.Letter taken sent) = codes "gap letter " ++ decimal taken ++ codes " " ++ sent_text sent ++ codes "\n"
+gap_line (Gap.Entry node ticket given) = codes "gap entry " ++ decimal node.0 ++ codes " " ++ decimal ticket ++ codes "\n"
+gap_line (Gap.Note call ticket told kept) =
     codes "gap note " ++ decimal call.0 ++ codes " " ++ decimal ticket ++ codes " " ++ answer_text told ++ codes " " ++ kept_text kept ++ codes "\n"
 
 abbrev pub unlike_line : Unlike → List ℕ

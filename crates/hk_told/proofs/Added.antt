@@ -17,7 +17,7 @@ use Rattle.hk_node.specs.declared.report.PriorRow.{PriorRow}
 use Rattle.hk_node.specs.Rows.{Rows, find_row, row_at}
 use Rattle.hk_node.specs.Report.{is_changed, changed_rows, AreChanged}
 use Rattle.hk_node.specs.Node.{NodeState}
-use Rattle.hk_node.specs.Sound.{IsNode, IsEvent}
+use Rattle.hk_node.specs.Sound.{IsNode, IsNodeEvent}
 use Rattle.hk_node.proofs.Order.{Rising, Lt, same_key, same_true, same_of, lt_ne_back}
 use Rattle.hk_node.proofs.Exact.{reports_are_exact}
 use Rattle.hk_node.proofs.KeepsMore.{step_keeps_node}
@@ -164,7 +164,7 @@ adds_rows key old new ticket call rising are = by (list_any (λ f. is_eq (key_cm
         (subst (λ (q : List ℕ). is_same_row (row_at q old) (row_at q new) ≡ false) (sym is.1) is.2.0.1))
 
 -- what the step of an entry adds
-pub adds : (node : NodeState) (entry : JournalEntry) (key : List ℕ) → IsNode node → IsEvent entry.event →
+pub adds : (node : NodeState) (entry : JournalEntry) (key : List ℕ) → IsNode node → IsNodeEvent entry.event →
     Adds key (find_row key node.rows) (find_row key (after node entry).rows) entry.ticket (call_of entry.event) (shown_at key node entry)
 adds node entry key ok within =
     subst (Adds key (find_row key node.rows) (find_row key (after node entry).rows) entry.ticket (call_of entry.event))

@@ -24,7 +24,7 @@ use Rattle.hk_node.specs.Node.{NodeState}
 use Rattle.hk_node.specs.Calls.{kind_of, answers, lease_end}
 use Rattle.hk_node.specs.Stepped.{Stepped, replies_of}
 use Rattle.hk_node.specs.Steps.{node_step}
-use Rattle.hk_node.specs.Sound.{IsNode, IsEvent}
+use Rattle.hk_node.specs.Sound.{IsNode, IsNodeEvent}
 use Rattle.hk_node.proofs.Order.{cases_key}
 use Rattle.hk_node.proofs.InOrder.{told_in_order}
 use Rattle.hk_snap.specs.declared.rule.Publication.{Publication}
@@ -92,8 +92,8 @@ module _ (node : NodeState) (entry : JournalEntry) (call : CallNo) (key : List �
   abbrev stepped : Stepped
   stepped = node_step node entry.event
 
-  pub within : IsEvent entry.event
-  within = subst IsEvent (sym is) tt
+  pub within : IsNodeEvent entry.event
+  within = subst IsNodeEvent (sym is) tt
 
   pub call_way : ((answer : Answer) × (stepped ≡ answers node key call answer) × AtOnce (lease_end node) node.clock node.skew (row_at key node.rows) op answer) ⊎ Starts node call key op stepped
   call_way = subst (λ (e : NodeEvent). ((answer : Answer) × (node_step node e ≡ answers node key call answer) × AtOnce (lease_end node) node.clock node.skew (row_at key node.rows) op answer)

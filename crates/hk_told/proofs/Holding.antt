@@ -7,7 +7,7 @@ use Rattle.std.specs.Map.{keys_of}
 use Rattle.std.proofs.lemmas.Option.{none-some}
 use Rattle.hk_base.specs.declared.stamp.Stamp.{Stamp}
 use Rattle.hk_base.specs.declared.stamp.Kind.{Kind}
-use Rattle.hk_base.specs.declared.stamp.Kind.TheVariants.{Write as Plain, Rmw}
+use Rattle.hk_base.specs.declared.stamp.Kind.TheVariants as Kind
 use Rattle.hk_base.specs.declared.call.CallNo.{CallNo}
 use Rattle.hk_base.specs.declared.call.Answer.{Answer}
 use Rattle.hk_base.specs.declared.call.Answer.TheVariants.{Aborted}
@@ -44,18 +44,18 @@ pub grows : (x : Publication) (later more : List Publication) (kept : Reply) (an
 grows x later more kept answer (inl d) = inl (record { same = d.same; follows = next_more_some _ is_open x.key later more d.follows })
 grows x later more kept answer (inr d) = inr (record { rmw = d.rmw; follows = next_more_some _ is_write x.key later more d.follows })
 
-plain_rmw : (k : Kind) → k ≡ Plain → k ≡ Rmw → ⊥
+plain_rmw : (k : Kind) → k ≡ Kind.Write → k ≡ Kind.Rmw → ⊥
 plain_rmw k a b = grind (arith, a, b)
 
 no_update : (s : Stamp) (k : Kind) (kept : Reply) (row : Row) → row.pending ≡ None → WaitsFor s k kept row → ⊥
 no_update s k kept row gone w = subst (λ (o : Option Pending). IsSomeAnd o (λ p. (p.stamp ≡ s) × (p.kind ≡ k) × (p.reply ≡ Some kept))) gone w.update
 
 module _ (x : Publication) (later more : List Publication) (kept : Reply) (old new : Row) (added : AddsRow x.key old new more) (yet : Open x later) where
-  opened : ((new.state ≡ Write) × (new.stamp ≡ x.row.stamp)) ⊎ ((new.state ≡ Trans) × (x.row.kind ≡ Plain)) → is_open new.state ≡ true
+  opened : ((new.state ≡ Write) × (new.stamp ≡ x.row.stamp)) ⊎ ((new.state ≡ Trans) × (x.row.kind ≡ Kind.Write)) → is_open new.state ≡ true
   opened (inl h) = ap is_open h.0
   opened (inr h) = ap is_open h.0
 
-  writes : x.row.kind ≡ Rmw → ((new.state ≡ Write) × (new.stamp ≡ x.row.stamp)) ⊎ ((new.state ≡ Trans) × (x.row.kind ≡ Plain)) → is_write new.state ≡ true
+  writes : x.row.kind ≡ Kind.Rmw → ((new.state ≡ Write) × (new.stamp ≡ x.row.stamp)) ⊎ ((new.state ≡ Trans) × (x.row.kind ≡ Kind.Write)) → is_write new.state ≡ true
   writes rmw (inl h) = ap is_write h.0
   writes rmw (inr h) = absurd (plain_rmw x.row.kind h.1 rmw)
 
@@ -87,7 +87,7 @@ module _ (x : Publication) (later more : List Publication) (kept : Reply) (old n
   done_by told w e =
       let s = changed w e.gone in record {
         same = refl;
-        follows = subst (λ (n : Option Publication). IsSomeAnd n (λ y. x.row.kind ≡ Rmw → y.row.stamp ≡ x.row.stamp))
+        follows = subst (λ (n : Option Publication). IsSomeAnd n (λ y. x.row.kind ≡ Kind.Rmw → y.row.stamp ≡ x.row.stamp))
             (sym (next_more_none is_open x.key later more yet.open_yet ∙ next_leaves is_open x.key s.0 more s.1 (ap (λ (r : Row). is_open r.state) s.2 ∙ closed e.state)))
             (λ rmw. ap (λ (r : Row). r.stamp) s.2 ∙ e.own rmw);
       }

@@ -10,7 +10,7 @@ use Rattle.hk_base.specs.declared.stamp.NodeId.{NodeId}
 use Rattle.hk_base.specs.declared.stamp.Kind.{Kind}
 use Rattle.hk_base.specs.declared.call.Content.{Content}
 use Rattle.hk_base.specs.declared.call.Answer.TheVariants.{Aborted}
-use Rattle.hk_base.specs.declared.stamp.Kind.TheVariants.{Write as Plain, Rmw}
+use Rattle.hk_base.specs.declared.stamp.Kind.TheVariants as Kind
 use Rattle.hk_base.specs.declared.call.State.{State}
 use Rattle.hk_base.specs.declared.call.State.TheVariants.{Valid, Invalid, Write, Replay, Trans}
 use Rattle.hk_base.specs.declared.call.Reply.{Reply}
@@ -59,10 +59,10 @@ completes own exact row p q e es ek er = record { goes = goes; waited = waited o
     now : (s : Stamp) (k : Kind) (kept : Reply) → WaitsFor s k kept row → (p.stamp ≡ s) × (p.kind ≡ k) × (p.reply ≡ Some kept)
     now s k kept w = subst (λ (o : Option Pending). IsSomeAnd o (λ p. (p.stamp ≡ s) × (p.kind ≡ k) × (p.reply ≡ Some kept))) e w.update
 
-    stays : (s : Stamp) (k : Kind) (kept : Reply) → WaitsFor s k kept row → k ≡ Rmw → row.stamp ≡ s
+    stays : (s : Stamp) (k : Kind) (kept : Reply) → WaitsFor s k kept row → k ≡ Kind.Rmw → row.stamp ≡ s
     stays s k kept w rmw = by w.state
       where
-        by : ((row.state ≡ Write) × (row.stamp ≡ s)) ⊎ ((row.state ≡ Trans) × (k ≡ Plain)) → row.stamp ≡ s
+        by : ((row.state ≡ Write) × (row.stamp ≡ s)) ⊎ ((row.state ≡ Trans) × (k ≡ Kind.Write)) → row.stamp ≡ s
         by (inl h) = h.1
         by (inr h) = grind (arith, h.1, rmw)
 
@@ -132,7 +132,7 @@ silent row new none after = record { goes = λ s k kept w. absurd (none s k kept
 pub waits_not : (row : Row) (state : State) → row.state ≡ state → (state ≡ Write → ⊥) → (state ≡ Trans → ⊥) → (s : Stamp) (k : Kind) (kept : Reply) → WaitsFor s k kept row → ⊥
 waits_not row state e a b s k kept w = by w.state
   where
-    by : ((row.state ≡ Write) × (row.stamp ≡ s)) ⊎ ((row.state ≡ Trans) × (k ≡ Plain)) → ⊥
+    by : ((row.state ≡ Write) × (row.stamp ≡ s)) ⊎ ((row.state ≡ Trans) × (k ≡ Kind.Write)) → ⊥
     by (inl h) = a (sym e ∙ h.0)
     by (inr h) = b (sym e ∙ h.0)
 
@@ -224,12 +224,12 @@ inv_moves row from s kind content = by_order (nat_cmp (tag_of row.stamp) (tag_of
 
     by_kind : (k : Kind) (p : Pending) → p.kind ≡ k → row.pending ≡ Some p → row.state ≡ Write →
         Moves row (record { state = (displaced_write k p).0; stamp = s; kind = kind; content = content; kept_val = false; pending = (displaced_write k p).1 }) (given_up_write k p.reply s)
-    by_kind Plain p ek e es = record {
+    by_kind Kind.Write p ek e es = record {
       goes = λ t k kept w. let n = subst (λ (o : Option Pending). IsSomeAnd o (λ p. (p.stamp ≡ t) × (p.kind ≡ k) × (p.reply ≡ Some kept))) e w.update in inl (record { update = n; state = inr (refl, sym n.1 ∙ ek) }, refl);
       waited = λ kept h. subst (λ (o : Option Pending). IsSomeAnd o (λ p. p.reply ≡ Some kept)) (sym e) h;
       answers = λ r t. absurd (none-some r t);
     }
-    by_kind Rmw p ek e es = record {
+    by_kind Kind.Rmw p ek e es = record {
       goes = λ t k kept w. let n = subst (λ (o : Option Pending). IsSomeAnd o (λ p. (p.stamp ≡ t) × (p.kind ≡ k) × (p.reply ≡ Some kept))) e w.update in
           inr (inr (record { tells = ap (λ (o : Option Reply). aborted o s) n.2; gone = refl; state = refl; rmw = sym n.1 ∙ ek }));
       waited = λ kept h. absurd h;
@@ -251,7 +251,7 @@ inv_moves row from s kind content = by_order (nat_cmp (tag_of row.stamp) (tag_of
       answers = λ r t. absurd (none-some r t);
     }
       where
-        plain : (t : Stamp) (k : Kind) → ((row.state ≡ Write) × (row.stamp ≡ t)) ⊎ ((row.state ≡ Trans) × (k ≡ Plain)) → ((Trans ≡ Write) × (s ≡ t)) ⊎ ((Trans ≡ Trans) × (k ≡ Plain))
+        plain : (t : Stamp) (k : Kind) → ((row.state ≡ Write) × (row.stamp ≡ t)) ⊎ ((row.state ≡ Trans) × (k ≡ Kind.Write)) → ((Trans ≡ Write) × (s ≡ t)) ⊎ ((Trans ≡ Trans) × (k ≡ Kind.Write))
         plain t k (inl h) = absurd (wrong (sym es ∙ h.0))
           where
             wrong : Trans ≡ Write → ⊥
@@ -266,5 +266,5 @@ inv_moves row from s kind content = by_order (nat_cmp (tag_of row.stamp) (tag_of
     by_order Greater = at kind
       where
         at : (k : Kind) → MovesTo row (on_inv_at Greater row from s k content)
-        at Plain = unmoved row row refl
-        at Rmw = unmoved row row refl
+        at Kind.Write = unmoved row row refl
+        at Kind.Rmw = unmoved row row refl

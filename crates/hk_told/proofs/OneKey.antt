@@ -6,7 +6,7 @@ use Rattle.hk_base.specs.declared.stamp.NodeId.{NodeId}
 use Rattle.hk_base.specs.declared.call.CallNo.{CallNo}
 use Rattle.hk_base.specs.declared.call.Op.{Op}
 use Rattle.hk_base.specs.declared.call.State.{State}
-use Rattle.hk_base.specs.declared.call.State.TheVariants.{Valid, Invalid, Write, Replay as ReplayState, Trans}
+use Rattle.hk_base.specs.declared.call.State.TheVariants as State
 use Rattle.hk_base.specs.declared.letter.Actor.{Actor}
 use Rattle.hk_base.specs.declared.letter.Actor.TheVariants.{Node, Manager}
 use Rattle.hk_base.specs.declared.letter.Letter.{Letter}
@@ -57,11 +57,11 @@ module _ (node : NodeState) where
       by_turn true = by_limit (next_stamp (kind_of op) the_row.stamp node.id)
 
       by_state : (state : State) → Keeps (at_state state node call key op the_row)
-      by_state Valid = by_turn (act op (register_in the_row) 0).changed
-      by_state Invalid = refl
-      by_state Write = refl
-      by_state ReplayState = refl
-      by_state Trans = refl
+      by_state State.Valid = by_turn (act op (register_in the_row) 0).changed
+      by_state State.Invalid = refl
+      by_state State.Write = refl
+      by_state State.Replay = refl
+      by_state State.Trans = refl
 
       by_lease : (b : Bool) → Keeps (at_lease b node call key op)
       by_lease true = refl

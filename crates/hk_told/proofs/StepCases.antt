@@ -31,7 +31,7 @@ use Rattle.hk_node.specs.Stepped.{Stepped, idle, row_step}
 use Rattle.hk_node.specs.Copies.{merged, is_next, batch_behind}
 use Rattle.hk_node.specs.Heard.{raised, is_greatest, has_majority}
 use Rattle.hk_node.specs.Steps.{on_found, viewed, installed_in, installs, installs_by_majority, heard, received, is_addressed, receives_from, receives, node_step}
-use Rattle.hk_node.specs.Sound.{IsNode, IsEvent}
+use Rattle.hk_node.specs.Sound.{IsNode, IsNodeEvent}
 use Rattle.hk_node.specs.Laws.{key_in, key_of, IsNoCall}
 use Rattle.hk_node.proofs.Order.{holds_found}
 use Rattle.hk_node.proofs.Keeps.{sound_at}
@@ -170,7 +170,7 @@ module _ (P : Stepped → Type 0) (node : NodeState) (ok : IsNode node) where
       by_sender (Node from) = by_if P (is_addressed node letter.to && ((letter.epoch == epoch_of node) && is_other node from)) node (received letter.body node from)
           (ways.quiet node.clock node.granted node.ends node.activated) (λ t. by_body letter.body from within.body ways)
 
-  pub by_event : (event : NodeEvent) → IsEvent event → IsNoCall event → StepCases P node (key_of event) → P (node_step node event)
+  pub by_event : (event : NodeEvent) → IsNodeEvent event → IsNoCall event → StepCases P node (key_of event) → P (node_step node event)
   by_event (Call call key op) within other ways = absurd other
   by_event (Receive letter) within other ways = by_letter letter within ways
   by_event (Resend key) within other ways = by_found (Some key) key resend ways refl (λ row sound. resend_does key node.id (members_of node) row sound)

@@ -9,7 +9,7 @@ use Rattle.std.proofs.lemmas.Option.{none-some}
 use Rattle.hk_base.specs.declared.stamp.Stamp.{Stamp}
 use Rattle.hk_base.specs.declared.call.Answer.{Answer}
 use Rattle.hk_base.specs.declared.call.Answer.TheVariants.{Found, Missing, Stored, Number, Exists, NotFound, NotNumber, NotStored, Deleted, Busy, Aborted, Exhausted}
-use Rattle.hk_base.specs.declared.call.Why.TheVariants.{Lease, Row as OfRow}
+use Rattle.hk_base.specs.declared.call.Why.TheVariants as Why
 use Rattle.hk_base.specs.declared.call.Op.{Op}
 use Rattle.hk_base.specs.declared.call.Op.TheVariants.{Read}
 use Rattle.hk_base.specs.declared.call.Reply.{Reply}
@@ -259,13 +259,13 @@ calls_answer_or_start node call key op ok = by_lease (nat_lt (lease_end node) (n
 
     by_state : (state : State) → node.clock + node.skew ≤ lease_end node → the_row.state ≡ state → Way (at_state state node call key op the_row)
     by_state Valid runs e = by_turn (act op (register_in the_row) 0).changed runs e refl
-    by_state Invalid runs e = inl (Busy (OfRow the_row.state the_row.stamp), refl, (runs, refl, refl, not_valid Invalid e (λ h. grind (arith, h))))
-    by_state Write runs e = inl (Busy (OfRow the_row.state the_row.stamp), refl, (runs, refl, refl, not_valid Write e (λ h. grind (arith, h))))
-    by_state Replay runs e = inl (Busy (OfRow the_row.state the_row.stamp), refl, (runs, refl, refl, not_valid Replay e (λ h. grind (arith, h))))
-    by_state Trans runs e = inl (Busy (OfRow the_row.state the_row.stamp), refl, (runs, refl, refl, not_valid Trans e (λ h. grind (arith, h))))
+    by_state Invalid runs e = inl (Busy (Why.Row the_row.state the_row.stamp), refl, (runs, refl, refl, not_valid Invalid e (λ h. grind (arith, h))))
+    by_state Write runs e = inl (Busy (Why.Row the_row.state the_row.stamp), refl, (runs, refl, refl, not_valid Write e (λ h. grind (arith, h))))
+    by_state Replay runs e = inl (Busy (Why.Row the_row.state the_row.stamp), refl, (runs, refl, refl, not_valid Replay e (λ h. grind (arith, h))))
+    by_state Trans runs e = inl (Busy (Why.Row the_row.state the_row.stamp), refl, (runs, refl, refl, not_valid Trans e (λ h. grind (arith, h))))
 
     by_lease : (b : Bool) → nat_lt (lease_end node) (node.clock + node.skew) ≡ b → Way (at_lease b node call key op)
-    by_lease true e = inl (Busy (Lease (lease_end node) node.clock), refl, (refl, refl, runs_out (lease_end node) (node.clock + node.skew) e))
+    by_lease true e = inl (Busy (Why.Lease (lease_end node) node.clock), refl, (refl, refl, runs_out (lease_end node) (node.clock + node.skew) e))
     by_lease false e = by_state the_row.state (runs_not (lease_end node) (node.clock + node.skew) e) refl
 
 -- ---- a read

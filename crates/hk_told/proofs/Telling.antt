@@ -4,15 +4,15 @@ use Rattle.std.specs.Option.{IsSomeAnd}
 use mathlib.Core.List.{IsPrefix}
 use Rattle.std.proofs.lemmas.Bool.{false≢true}
 use Rattle.hk_base.specs.declared.stamp.Kind.{Kind}
-use Rattle.hk_base.specs.declared.stamp.Kind.TheVariants.{Write as Plain, Rmw}
+use Rattle.hk_base.specs.declared.stamp.Kind.TheVariants as Kind
 use Rattle.hk_base.specs.declared.stamp.Stamp.{Stamp}
 use Rattle.hk_base.specs.declared.call.CallNo.{CallNo}
 use Rattle.hk_base.specs.declared.call.Op.{Op}
-use Rattle.hk_base.specs.declared.call.Op.TheVariants.{Read, Write as WriteOp, Cas, Incr, Decr, Add, Replace, Delete}
+use Rattle.hk_base.specs.declared.call.Op.TheVariants as Op
 use Rattle.hk_base.specs.declared.call.Answer.{Answer}
 use Rattle.hk_base.specs.declared.call.Answer.TheVariants.{Found, Missing, Stored, Number, Exists, NotFound, NotNumber, NotStored, Deleted, Busy, Aborted, Exhausted}
 use Rattle.hk_base.specs.declared.call.Why.{Why}
-use Rattle.hk_base.specs.declared.call.Why.TheVariants.{Lease, Row as OfRow}
+use Rattle.hk_base.specs.declared.call.Why.TheVariants as Why
 use Rattle.hk_base.specs.declared.call.Reply.{Reply}
 use Rattle.hk_base.specs.declared.call.State.TheVariants.{Valid, Invalid, Write}
 use Rattle.hk_base.specs.Register.{Register, Acted, act}
@@ -73,8 +73,8 @@ at_once_shown old grown call key op end now skew answer h = by answer h
     by NotFound h = h
     by NotNumber h = h
     by NotStored h = h
-    by (Busy (Lease e n)) h = h
-    by (Busy (OfRow state stamp)) h = h
+    by (Busy (Why.Lease e n)) h = h
+    by (Busy (Why.Row state stamp)) h = h
     by (Exhausted stamp) h = h
 
 changed_shown : (old grown : List Publication) (call : CallNo) (key : List ℕ) (op : Op) (end now skew : ℕ) (answer : Answer) (b : Begun old grown call key op) → b.answer ≡ answer →
@@ -290,8 +290,8 @@ shown_from old g first grown call key op end now skew answer e h = by answer h
     by NotFound r = at_once NotFound r
     by NotNumber r = at_once NotNumber r
     by NotStored r = at_once NotStored r
-    by (Busy (Lease a n)) r = at_once (Busy (Lease a n)) r
-    by (Busy (OfRow state stamp)) r = at_once (Busy (OfRow state stamp)) r
+    by (Busy (Why.Lease a n)) r = at_once (Busy (Why.Lease a n)) r
+    by (Busy (Why.Row state stamp)) r = at_once (Busy (Why.Row state stamp)) r
     by (Exhausted stamp) r = at_once (Exhausted stamp) r
 
 pub at_once_is_shown : AtOnceIsShown
@@ -367,7 +367,7 @@ after_looks_is_shown call key ticket op end now skew turns old mid new answer st
     t : Standing call key op old new (Some answer)
     t = standing call key ticket op end now skew old mid new (Some answer) starts w.0 w.2
 
-    given_up : t.b.x.row.kind ≡ Rmw → (o : Option Publication) → IsSomeAnd o (λ y. (y.row.state ≡ Invalid) × (answer ≡ Aborted y.row.stamp)) → next_past is_write t.b.x.key t.b.later ≡ o →
+    given_up : t.b.x.row.kind ≡ Kind.Rmw → (o : Option Publication) → IsSomeAnd o (λ y. (y.row.state ≡ Invalid) × (answer ≡ Aborted y.row.stamp)) → next_past is_write t.b.x.key t.b.later ≡ o →
         Shown old.seen t.grown call key op end now skew answer
     given_up rmw None h e = absurd h
     given_up rmw (Some y) h e = subst (Shown old.seen t.grown call key op end now skew) (sym h.1)
@@ -375,7 +375,7 @@ after_looks_is_shown call key ticket op end now skew turns old mid new answer st
 
     by : Followed t.b.x t.b.later t.kept (Some answer) → Shown old.seen t.grown call key op end now skew answer
     by (inl d) = changed_shown old.seen t.grown call key op end now skew answer t.b (t.same ∙ sym d.same)
-        (inr (t.writes, subst (λ (k : Kind). IsSomeAnd (next_past is_open t.b.x.key t.b.later) (λ y. k ≡ Rmw → y.row.stamp ≡ t.b.x.row.stamp)) t.kind d.follows))
+        (inr (t.writes, subst (λ (k : Kind). IsSomeAnd (next_past is_open t.b.x.key t.b.later) (λ y. k ≡ Kind.Rmw → y.row.stamp ≡ t.b.x.row.stamp)) t.kind d.follows))
     by (inr d) = given_up d.rmw (next_past is_write t.b.x.key t.b.later) d.follows refl
 
 pub unknown_is_shown : UnknownIsShown
@@ -392,41 +392,41 @@ acted_suits : (op : Op) (r : Register) (tag : ℕ) (answer : Answer) → (act op
 acted_suits op r tag answer e = subst (λ (a : Answer). answers op a ≡ true) e (suited op r tag)
 
 -- a read changes nothing
-no_read : (row : Row) (tag : ℕ) → (act Read (register_in row) tag).changed ≡ true → ⊥
+no_read : (row : Row) (tag : ℕ) → (act Op.Read (register_in row) tag).changed ≡ true → ⊥
 no_read row tag e = absurd (false≢true (sym (read_stays row.content (tag_of row.stamp) tag) ∙ e))
 
-plain_rmw : Plain ≡ Rmw → ⊥
+plain_rmw : Kind.Write ≡ Kind.Rmw → ⊥
 plain_rmw e = grind (arith, e)
 
 exhausts : (op : Op) (stamp : Stamp) (row : Row) (tag : ℕ) → (act op (register_in row) tag).changed ≡ true → answers op (Exhausted stamp) ≡ true
-exhausts Read stamp row tag e = absurd (no_read row tag e)
-exhausts (WriteOp c) stamp row tag e = refl
-exhausts (Cas t c) stamp row tag e = refl
-exhausts (Incr n) stamp row tag e = refl
-exhausts (Decr n) stamp row tag e = refl
-exhausts (Add c) stamp row tag e = refl
-exhausts (Replace c) stamp row tag e = refl
-exhausts Delete stamp row tag e = refl
+exhausts Op.Read stamp row tag e = absurd (no_read row tag e)
+exhausts (Op.Write c) stamp row tag e = refl
+exhausts (Op.Cas t c) stamp row tag e = refl
+exhausts (Op.Incr n) stamp row tag e = refl
+exhausts (Op.Decr n) stamp row tag e = refl
+exhausts (Op.Add c) stamp row tag e = refl
+exhausts (Op.Replace c) stamp row tag e = refl
+exhausts Op.Delete stamp row tag e = refl
 
-aborts : (op : Op) (stamp : Stamp) (row : Row) (tag : ℕ) → (act op (register_in row) tag).changed ≡ true → kind_of op ≡ Rmw → answers op (Aborted stamp) ≡ true
-aborts Read stamp row tag e rmw = absurd (no_read row tag e)
-aborts (WriteOp c) stamp row tag e rmw = absurd (plain_rmw rmw)
-aborts (Cas t c) stamp row tag e rmw = refl
-aborts (Incr n) stamp row tag e rmw = refl
-aborts (Decr n) stamp row tag e rmw = refl
-aborts (Add c) stamp row tag e rmw = refl
-aborts (Replace c) stamp row tag e rmw = refl
-aborts Delete stamp row tag e rmw = refl
+aborts : (op : Op) (stamp : Stamp) (row : Row) (tag : ℕ) → (act op (register_in row) tag).changed ≡ true → kind_of op ≡ Kind.Rmw → answers op (Aborted stamp) ≡ true
+aborts Op.Read stamp row tag e rmw = absurd (no_read row tag e)
+aborts (Op.Write c) stamp row tag e rmw = absurd (plain_rmw rmw)
+aborts (Op.Cas t c) stamp row tag e rmw = refl
+aborts (Op.Incr n) stamp row tag e rmw = refl
+aborts (Op.Decr n) stamp row tag e rmw = refl
+aborts (Op.Add c) stamp row tag e rmw = refl
+aborts (Op.Replace c) stamp row tag e rmw = refl
+aborts Op.Delete stamp row tag e rmw = refl
 
 updates : (op : Op) (row : Row) (tag : ℕ) → (act op (register_in row) tag).changed ≡ true → is_update op ≡ true
-updates Read row tag e = absurd (no_read row tag e)
-updates (WriteOp c) row tag e = refl
-updates (Cas t c) row tag e = refl
-updates (Incr n) row tag e = refl
-updates (Decr n) row tag e = refl
-updates (Add c) row tag e = refl
-updates (Replace c) row tag e = refl
-updates Delete row tag e = refl
+updates Op.Read row tag e = absurd (no_read row tag e)
+updates (Op.Write c) row tag e = refl
+updates (Op.Cas t c) row tag e = refl
+updates (Op.Incr n) row tag e = refl
+updates (Op.Decr n) row tag e = refl
+updates (Op.Add c) row tag e = refl
+updates (Op.Replace c) row tag e = refl
+updates Op.Delete row tag e = refl
 
 busy_suits : (op : Op) (why : Why) → answers op (Busy why) ≡ true
 busy_suits op why = refl
@@ -448,8 +448,8 @@ shown_suits old grown call key op end now skew answer h = by answer h
     by NotFound c = acted_suits op (register_in (row_in key (old ++ grown))) 0 NotFound c.3
     by NotNumber c = acted_suits op (register_in (row_in key (old ++ grown))) 0 NotNumber c.3
     by NotStored c = acted_suits op (register_in (row_in key (old ++ grown))) 0 NotStored c.3
-    by (Busy (Lease a n)) c = busy_suits op (Lease a n)
-    by (Busy (OfRow state stamp)) c = busy_suits op (OfRow state stamp)
+    by (Busy (Why.Lease a n)) c = busy_suits op (Why.Lease a n)
+    by (Busy (Why.Row state stamp)) c = busy_suits op (Why.Row state stamp)
     by (Exhausted stamp) c = exhausts op stamp (row_in key (old ++ grown)) 0 c.3
 
 pub unknown_suits : UnknownSuits

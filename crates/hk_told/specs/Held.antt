@@ -14,7 +14,7 @@ use Rattle.hk_node.specs.Rows.{Rows, find_row, row_at}
 use Rattle.hk_node.specs.Node.{NodeState}
 use Rattle.hk_node.specs.Stepped.{replies_of}
 use Rattle.hk_node.specs.Steps.{node_step}
-use Rattle.hk_node.specs.Sound.{IsNode, IsEvent}
+use Rattle.hk_node.specs.Sound.{IsNode, IsNodeEvent}
 use Rattle.hk_node.specs.Laws.{IsNoCall}
 use Rattle.hk_node.specs.declared.event.NodeEvent.TheVariants.{Call}
 use Rattle.hk_snap.specs.declared.rule.Publication.{Publication}
@@ -129,7 +129,7 @@ pub record Show (rows : Rows) (lists : Lists) (last : ℕ) : Type 0 where
 -- A step that is no call keeps the asks, once its rows are published and then its replies are delivered.
 abbrev pub StepsKeepAsks : Type 0
 StepsKeepAsks = (node : NodeState) (entry : JournalEntry) (lists grown : Lists) (last : ℕ) (asks new : Asks) →
-    IsNode node → IsEvent entry.event → IsNoCall entry.event → last < entry.ticket → Grow lists grown node entry →
+    IsNode node → IsNodeEvent entry.event → IsNoCall entry.event → last < entry.ticket → Grow lists grown node entry →
     Delivers (replies_of (node_step node entry.event)) asks new →
     IsHeld node.rows lists last asks → IsHeld (after node entry).rows grown entry.ticket new
 

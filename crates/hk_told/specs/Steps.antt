@@ -9,7 +9,7 @@ use Rattle.hk_base.specs.declared.call.Op.{Op}
 use Rattle.hk_base.specs.declared.call.Op.TheVariants.{Read}
 use Rattle.hk_base.specs.declared.call.Answer.{Answer}
 use Rattle.hk_base.specs.declared.call.Answer.TheVariants.{Busy, Aborted, Exhausted}
-use Rattle.hk_base.specs.declared.call.Why.TheVariants.{Lease, Row as OfRow}
+use Rattle.hk_base.specs.declared.call.Why.TheVariants as Why
 use Rattle.hk_base.specs.declared.call.Reply.{Reply}
 use Rattle.hk_base.specs.declared.call.State.TheVariants.{Valid, Write}
 use Rattle.hk_base.specs.Register.{act}
@@ -23,7 +23,7 @@ use Rattle.hk_node.specs.Node.{NodeState}
 use Rattle.hk_node.specs.Stepped.{Stepped}
 use Rattle.hk_node.specs.Calls.{kind_of, next_stamp, register_in, answers, lease_end}
 use Rattle.hk_node.specs.Steps.{node_step}
-use Rattle.hk_node.specs.Sound.{IsNode, IsEvent}
+use Rattle.hk_node.specs.Sound.{IsNode, IsNodeEvent}
 use Rattle.hk_node.specs.Laws.{key_of, IsNoCall}
 use Rattle.hk_told.specs.Moves.{Moves, WaitsFor}
 
@@ -33,15 +33,15 @@ told_at key told = lookup (is_at (key_cmp key)) told
 
 -- a step that is no call moves each row as the law of rows says, with what it tells at the row's key
 abbrev pub StepMoves : Type 0
-StepMoves = (node : NodeState) (event : NodeEvent) (key : List ℕ) → IsNode node → IsEvent event → IsNoCall event →
+StepMoves = (node : NodeState) (event : NodeEvent) (key : List ℕ) → IsNode node → IsNodeEvent event → IsNoCall event →
     Moves (row_at key node.rows) (row_at key (node_step node event).node.rows) (told_at key (node_step node event).told)
 
 -- What is told at once of a row, by a lease that ends at `end` where the clock is `now` and another clock may be ahead by `skew`. The lease may be over on
 -- another clock; or it runs and the row is not Valid; or the operation would change the register, and no stamp is left for that; or it leaves the register,
 -- and answers this.
 abbrev pub AtOnce : ℕ → ℕ → ℕ → Row → Op → Answer → Type 0
-AtOnce end now skew row op (Busy (Lease e n)) = (e ≡ end) × (n ≡ now) × (end < now + skew)
-AtOnce end now skew row op (Busy (OfRow state stamp)) = (now + skew ≤ end) × (row.state ≡ state) × (row.stamp ≡ stamp) × (state ≢ Valid)
+AtOnce end now skew row op (Busy (Why.Lease e n)) = (e ≡ end) × (n ≡ now) × (end < now + skew)
+AtOnce end now skew row op (Busy (Why.Row state stamp)) = (now + skew ≤ end) × (row.state ≡ state) × (row.stamp ≡ stamp) × (state ≢ Valid)
 AtOnce end now skew row op (Exhausted stamp) = (now + skew ≤ end) × (row.state ≡ Valid) × (row.stamp ≡ stamp)
     × ((act op (register_in row) 0).changed ≡ true) × ((id : NodeId) × (next_stamp (kind_of op) stamp id ≡ None))
 AtOnce end now skew row op (Aborted stamp) = ⊥
@@ -80,5 +80,5 @@ KeyEventsChangeOneRow = (node : NodeState) (event : NodeEvent) (key : List ℕ) 
 
 -- no step changes its node's number, nor by how much clocks may differ
 abbrev pub StepsKeepNumbers : Type 0
-StepsKeepNumbers = (node : NodeState) (event : NodeEvent) → IsNode node → IsEvent event →
+StepsKeepNumbers = (node : NodeState) (event : NodeEvent) → IsNode node → IsNodeEvent event →
     ((node_step node event).node.id ≡ node.id) × ((node_step node event).node.skew ≡ node.skew)

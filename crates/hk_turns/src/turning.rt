@@ -4,7 +4,7 @@ ghost use Rattle.std.specs.Prelude.{◌≡◌, ◌⊎◌, ◌<◌, ◌≤◌, Bo
 ghost use Rattle.std.specs.List.{AllByRecursion};
 ghost use Rattle.hk_base.specs.Range.{IsLetter};
 ghost use Rattle.hk_base.specs.declared.letter.Actor.TheVariants.{Node as NodeActor};
-ghost use Rattle.hk_node.specs.Sound.{IsEvent};
+ghost use Rattle.hk_node.specs.Sound.{IsNodeEvent};
 ghost use Rattle.hk_node.specs.Laws.{IsNoCall};
 ghost use Rattle.hk_overseer.specs.Sends.{is_same};
 ghost use Rattle.hk_turns.specs.Turns.{Way, Working, GoesOut, GoOut, IsMadeOrLost, IsReceived, GoesOn, IsTurn, Works};
@@ -64,7 +64,7 @@ fn make<W: Workplace, G: Gate, R: Wait>(
     event: NodeEvent,
 )
     requires shard { shard < 8 }
-    requires event { IsEvent event }
+    requires event { IsNodeEvent event }
     requires no_call { IsNoCall event }
     ensures { IsMadeOrLost (W.applies place.now) (W.lacks place.now) G.answers shard event (record { gate = gate.old; outlets = outlets.old.items }) (record { gate = gate.new; outlets = outlets.new.items }) }
 {

@@ -6,7 +6,7 @@ ghost use Rattle.std.specs.List.{AllByRecursion};
 ghost use Rattle.hk_base.specs.declared.letter.Letter.{Letter};
 ghost use Rattle.hk_base.specs.Range.{IsLetter};
 ghost use Rattle.hk_node.specs.declared.event.NodeEvent.{NodeEvent as Event};
-ghost use Rattle.hk_node.specs.Sound.{IsEvent};
+ghost use Rattle.hk_node.specs.Sound.{IsNodeEvent};
 ghost use Rattle.hk_node.specs.Laws.{IsNoCall};
 ghost use Rattle.hk_due.specs.declared.due.Due.{Due as IsDue};
 
@@ -39,7 +39,7 @@ pub trait Workplace {
         event: NodeEvent,
     ) -> Result<Letters, Memory>
         requires shard { shard < 8 }
-        requires event { IsEvent event }
+        requires event { IsNodeEvent event }
         requires no_call { IsNoCall event }
         ensures applied { IfOk result (λ letters. applies self.now shard event letters) }
         ensures in_range { IfOk result (λ letters. AllByRecursion IsLetter letters) }

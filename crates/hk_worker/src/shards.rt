@@ -7,7 +7,7 @@ ghost use Rattle.hk_base.specs.Range.{IsLetter};
 ghost use Rattle.hk_base.specs.declared.time.TheConstants.{MAX_TIME};
 ghost use Rattle.hk_base.specs.View.{IsView};
 ghost use Rattle.hk_node.specs.Node.{is_member};
-ghost use Rattle.hk_node.specs.Sound.{IsEvent};
+ghost use Rattle.hk_node.specs.Sound.{IsNodeEvent};
 ghost use Rattle.hk_node.specs.Laws.{IsNoCall};
 ghost use Rattle.hk_node.specs.Made.{founder};
 ghost use Rattle.hk_shard.specs.Shard.{IsNew};
@@ -338,7 +338,7 @@ impl<F: Completion + Copy + Drop, P: Places> Shards<F, P> {
         event: NodeEvent,
     ) -> Result<Letters, Memory>
         requires shard { shard < 8 }
-        requires event { IsEvent event }
+        requires event { IsNodeEvent event }
         requires no_call { IsNoCall event }
         ensures applied { IfOk result (λ letters. WasApplied P.places self.now.node shard event letters) }
         ensures in_range { IfOk result (λ letters. AllByRecursion IsLetter letters) }
@@ -405,7 +405,7 @@ impl<F: Completion + Copy + Drop, P: Places> Workplace for Shards<F, P> {
         event: NodeEvent,
     ) -> Result<Letters, Memory>
         requires shard { shard < 8 }
-        requires event { IsEvent event }
+        requires event { IsNodeEvent event }
         requires no_call { IsNoCall event }
         ensures applied { IfOk result (λ letters. WasApplied P.places self.now.node shard event letters) }
         ensures in_range { IfOk result (λ letters. AllByRecursion IsLetter letters) }

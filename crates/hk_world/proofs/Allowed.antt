@@ -6,7 +6,7 @@ use Rattle.std.proofs.lemmas.Bool.{lt-ltb, false≢true}
 use Rattle.hk_base.specs.declared.stamp.NodeId.{NodeId}
 use Rattle.hk_base.specs.declared.view.View.{View}
 use Rattle.hk_node.specs.Node.{NodeState, is_member, epoch_of}
-use Rattle.hk_node.specs.declared.event.NodeEvent.TheVariants.{Install as NodeInstall}
+use Rattle.hk_node.specs.declared.event.NodeEvent.TheVariants as NodeEvent
 use Rattle.hk_node.specs.Steps.{installs}
 use Rattle.hk_world.specs.declared.event.Event.TheVariants.{Install}
 use Rattle.hk_world.specs.declared.process.Process.{Process}
@@ -72,7 +72,7 @@ guard_refuses None w id node view refused h = absurd cc
 guard_refuses (Some p) w id node view refused h = let same : LeaseRuns p.0 p.1.node.granted ≡ refused = cc in ap (λ (r : Refused). Err r) same
 
 pub guard_lets : (o : Option (NodeId × Process)) (w : WorldState) (id : NodeId) (node : NodeState) (view : View) → option_map (λ (p : NodeId × Process). LeaseRuns p.0 p.1.node.granted) o ≡ None → running (process_at id w.processes) ≡ Ok node →
-    guarded_by o w id node view ≡ made_by w id None (NodeInstall view)
+    guarded_by o w id node view ≡ made_by w id None (NodeEvent.Install view)
 guard_lets (Some p) w id node view h runs = absurd cc
 guard_lets None w id node view h runs = sym (by_node w id (λ (n : NodeState). acts w id n (installs n view)) node runs)
 

@@ -25,7 +25,7 @@ use Rattle.hk_world.specs.declared.shown.Shown.{Shown}
 use Rattle.hk_world.specs.declared.refused.Refused.{Refused}
 use Rattle.hk_world.specs.declared.refused.Refused.TheVariants.{Crashed}
 use Rattle.hk_world.specs.declared.refused.WorldFault.{WorldFault}
-use Rattle.hk_world.specs.declared.refused.WorldFault.TheVariants.{Memory, Refused as Refusal}
+use Rattle.hk_world.specs.declared.refused.WorldFault.TheVariants as WorldFault
 use Rattle.hk_world.specs.World.{WorldState, Processes, by_number, process_at, put_process}
 use Rattle.hk_world.specs.Steps.{Accepted, live, live_at, running_at, with_step, shown_of, acts_for, calls_at, view_of, installer_of, first_number}
 use Rattle.hk_world.specs.Sound.{IsAnswerOf}
@@ -34,10 +34,10 @@ use Rattle.hk_world.specs.Posted.{posted}
 use Rattle.hk_world.proofs.Processes.{set_is_put}
 
 -- ---- refusals and want of memory
-pub wanting : (r : Result Shown WorldFault) (old new : WorldState) (made : Result Accepted Refused) → IsErrAnd r (λ e. e ≡ Memory) → new ≡ old → IsAnswerOf r old new made
+pub wanting : (r : Result Shown WorldFault) (old new : WorldState) (made : Result Accepted Refused) → IsErrAnd r (λ e. e ≡ WorldFault.Memory) → new ≡ old → IsAnswerOf r old new made
 wanting (Ok shown) old new made err same = absurd err
-wanting (Err Memory) old new made err same = same
-wanting (Err (Refusal refused)) old new made err same = absurd cc
+wanting (Err WorldFault.Memory) old new made err same = same
+wanting (Err (WorldFault.Refused refused)) old new made err same = absurd cc
 
 pub live_is : (w : WorldState) (id : NodeId) (p : Process) (step : NodeState → Result Accepted Refused) → process_at id w.processes ≡ Some p → live w id step ≡ running_at p.crashed p.node step
 live_is w id p step found = ap (λ (o : Option Process). live_at o step) found
@@ -142,8 +142,8 @@ pub uncounted : (r : Result Shown WorldFault) (old mid : WorldState) (calls : �
 uncounted r old mid calls made fault is answer = by_fault fault (subst (λ (q : Result Shown WorldFault). IsAnswerOf q old mid made) is answer)
   where
     by_fault : (f : WorldFault) → IsAnswerOf (Err f) old mid made → IsAnswerOf (Err f) old mid (counting calls made)
-    by_fault Memory told = told
-    by_fault (Refusal refused) told = (ap (counting calls) told.0, told.1)
+    by_fault WorldFault.Memory told = told
+    by_fault (WorldFault.Refused refused) told = (ap (counting calls) told.0, told.1)
 
 abbrev calling : WorldState → NodeId → List ℕ → Op → NodeState → Result Accepted Refused
 calling w id key op node = Ok (acts_for w id (Some (record { 0 = w.calls + 1 })) node (node_step node (Call (record { 0 = w.calls + 1 }) key op)))

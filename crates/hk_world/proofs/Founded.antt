@@ -16,7 +16,7 @@ use Rattle.hk_clocks.specs.declared.fault.ClockFault.{ClockFault}
 use Rattle.hk_clocks.specs.declared.pace.Pace.{Pace}
 use Rattle.hk_clocks.specs.Clocks.{ClockState, Paces, by_actor, pace_of}
 use Rattle.hk_clocks.specs.Steps.{clock_step, starts}
-use Rattle.hk_clocks.specs.Steps.ClockEvent.{Start as ClockStart}
+use Rattle.hk_clocks.specs.Steps.{ClockEvent}
 use Rattle.hk_manager.specs.Manager.{ManagerState}
 use Rattle.hk_manager.specs.Sound.{manager_new}
 use Rattle.hk_world.specs.declared.event.Header.{Header}
@@ -133,10 +133,10 @@ of_ok : (x y : ClockState) → ◌≡◌ {A = Result ClockState ClockFault} (Ok 
 of_ok x y e = cc
 
 -- one more clock starts
-clock_next : (skew : ℕ) (actors : List Actor) (a : Actor) (old new : ClockState) → IsBelow a actors → old ≡ clocks_with skew (founding_paces actors) → clock_step old (ClockStart a 1) ≡ Ok new → new ≡ clocks_with skew (founding_paces (actors ++ a ∷ []))
+clock_next : (skew : ℕ) (actors : List Actor) (a : Actor) (old new : ClockState) → IsBelow a actors → old ≡ clocks_with skew (founding_paces actors) → clock_step old (ClockEvent.Start a 1) ≡ Ok new → new ≡ clocks_with skew (founding_paces (actors ++ a ∷ []))
 clock_next skew actors a old new below so_far is =
-    let made : clock_step (clocks_with skew (founding_paces actors)) (ClockStart a 1) ≡ Ok new = ap (λ (c : ClockState). clock_step c (ClockStart a 1)) (sym so_far) ∙ is in
-    let starting : clock_step (clocks_with skew (founding_paces actors)) (ClockStart a 1) ≡ Ok (clocks_with skew (insert_entry by_actor (founding_paces actors) a first_pace)) =
+    let made : clock_step (clocks_with skew (founding_paces actors)) (ClockEvent.Start a 1) ≡ Ok new = ap (λ (c : ClockState). clock_step c (ClockEvent.Start a 1)) (sym so_far) ∙ is in
+    let starting : clock_step (clocks_with skew (founding_paces actors)) (ClockEvent.Start a 1) ≡ Ok (clocks_with skew (insert_entry by_actor (founding_paces actors) a first_pace)) =
     ap (λ (o : Option Pace). starts o (clocks_with skew (founding_paces actors)) a 1) (absent a actors below) in
     of_ok _ _ (sym made ∙ starting) ∙ ap (clocks_with skew) (put_pace a actors below)
 
@@ -148,11 +148,11 @@ nodes_below : (id : NodeId) (ids : List NodeId) → AllByRecursion (λ (k : Node
 nodes_below id [] all = tt
 nodes_below id (i ∷ ids) all = (above id i all.0, nodes_below id ids all.1)
 
-pub node_clocks_next : (skew k n : ℕ) (old new : ClockState) → n ≡ k → old ≡ record { skew = skew; paces = founding_paces (map (λ id. Node id) (counted 0 k)) } → clock_step old (ClockStart (Node (record { 0 = n })) 1) ≡ Ok new →
+pub node_clocks_next : (skew k n : ℕ) (old new : ClockState) → n ≡ k → old ≡ record { skew = skew; paces = founding_paces (map (λ id. Node id) (counted 0 k)) } → clock_step old (ClockEvent.Start (Node (record { 0 = n })) 1) ≡ Ok new →
     new ≡ record { skew = skew; paces = founding_paces (map (λ id. Node id) (counted 0 (k + 1))) }
 unfolding id_of
 node_clocks_next skew k n old new same so_far is =
-    let is_k : clock_step old (ClockStart (Node (id_of k)) 1) ≡ Ok new = ap (λ (m : ℕ). clock_step old (ClockStart (Node (id_of m)) 1)) (sym same) ∙ is in
+    let is_k : clock_step old (ClockEvent.Start (Node (id_of k)) 1) ≡ Ok new = ap (λ (m : ℕ). clock_step old (ClockEvent.Start (Node (id_of m)) 1)) (sym same) ∙ is in
     clock_next skew (map (λ id. Node id) (counted 0 k)) (Node (id_of k)) old new (nodes_below (id_of k) (counted 0 k) (counted_below 0 k k (omega arith))) so_far is_k
     ∙ ap (λ (l : List Actor). clocks_with skew (founding_paces l)) (sym (mapped_more (λ id. Node id) (counted 0 k) (id_of k)) ∙ ap (λ (l : List NodeId). map (λ id. Node id) l) (counted_more k))
 
@@ -171,7 +171,7 @@ pub manager_clocks_begin : (skew : ℕ) (nodes : List Actor) (clocks : ClockStat
 manager_clocks_begin skew nodes clocks is = is ∙ ap (λ (l : List Actor). clocks_with skew (founding_paces l)) (sym (append-nil nodes))
 
 pub manager_clocks_next : (skew nodes k : ℕ) (old new : ClockState) → old ≡ record { skew = skew; paces = founding_paces (map (λ id. Node id) (counted 0 nodes) ++ map (λ m. Manager m) (range_with_len 0 k)) } →
-    clock_step old (ClockStart (Manager k) 1) ≡ Ok new → new ≡ record { skew = skew; paces = founding_paces (map (λ id. Node id) (counted 0 nodes) ++ map (λ m. Manager m) (range_with_len 0 (k + 1))) }
+    clock_step old (ClockEvent.Start (Manager k) 1) ≡ Ok new → new ≡ record { skew = skew; paces = founding_paces (map (λ id. Node id) (counted 0 nodes) ++ map (λ m. Manager m) (range_with_len 0 (k + 1))) }
 manager_clocks_next skew nodes k old new so_far is =
     clock_next skew (map (λ id. Node id) (counted 0 nodes) ++ map (λ m. Manager m) (range_with_len 0 k)) (Manager k) old new
     (above_nodes k (counted 0 nodes) (map (λ m. Manager m) (range_with_len 0 k)) (managers_below k 0 k (omega arith))) so_far is

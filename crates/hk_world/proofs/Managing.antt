@@ -9,7 +9,7 @@ use Rattle.hk_base.specs.declared.letter.Actor.{Actor}
 use Rattle.hk_base.specs.declared.letter.Actor.TheVariants.{Node, Manager}
 use Rattle.hk_base.specs.declared.letter.Letter.{Letter}
 use Rattle.hk_base.specs.declared.letter.Body.{Body}
-use Rattle.hk_base.specs.declared.letter.Body.TheVariants.{Inv, Ack, Val, CopyAsk, CopyGive, LeaseAsk, LeaseGive, Prepare, Promise as PromiseBody, Accept, Accepted, Chosen, Activate as ActivateBody}
+use Rattle.hk_base.specs.declared.letter.Body.TheVariants as Body
 use Rattle.hk_paxos.specs.declared.proposer.Proposer.{Proposer}
 use Rattle.hk_paxos.specs.Paxos.{proposer_on_accepted}
 use Rattle.hk_lease.specs.declared.grants.NotPast.{NotPast as StillRuns}
@@ -21,7 +21,7 @@ use Rattle.hk_manager.specs.declared.fault.ManagerFault.{ManagerFault}
 use Rattle.hk_manager.specs.declared.fault.ManagerFault.TheVariants.{Behind}
 use Rattle.hk_manager.specs.Manager.{ManagerState, instance_at}
 use Rattle.hk_manager.specs.Changes.{change_fault}
-use Rattle.hk_manager.specs.Steps.{Stepped, idle, learns, reports, counts_promise, counts_acceptance, proposal_in, at_proposal, asks_lease, is_too_late, prepares, accepts, from_node, from_manager, is_addressed, receives_from, receives, begins, begins_unless, proposes, activates_by, manager_step}
+use Rattle.hk_manager.specs.Steps.{ManagerStepped, idle, learns, reports, counts_promise, counts_acceptance, proposal_in, at_proposal, asks_lease, is_too_late, prepares, accepts, from_node, from_manager, is_addressed, receives_from, receives, begins, begins_unless, proposes, activates_by, manager_step}
 
 -- ---- a list in which one item is put
 module _ {X : Type 0} where
@@ -79,16 +79,16 @@ module _ {X : Type 0} where
       ∙ ap (λ (k : ℕ). map f (take k old) ++ drop k old) (sym next)
 
 -- ---- a manager's step
-pub record IsSteady (m : ManagerState) (stepped : Stepped) : Type 0 where
+pub record IsSteady (m : ManagerState) (stepped : ManagerStepped) : Type 0 where
   pub id : stepped.manager.id ≡ m.id
   pub managers : stepped.manager.managers ≡ m.managers
   pub lease : stepped.manager.lease ≡ m.lease
   pub clock : stepped.manager.clock ≡ m.clock
 
-still : (m : ManagerState) (stepped : Stepped) → stepped.manager.id ≡ m.id → stepped.manager.managers ≡ m.managers → stepped.manager.lease ≡ m.lease → stepped.manager.clock ≡ m.clock → IsSteady m stepped
+still : (m : ManagerState) (stepped : ManagerStepped) → stepped.manager.id ≡ m.id → stepped.manager.managers ≡ m.managers → stepped.manager.lease ≡ m.lease → stepped.manager.clock ≡ m.clock → IsSteady m stepped
 still m stepped i n l c = record { id = i; managers = n; lease = l; clock = c }
 
-choice : (m : ManagerState) (b : Bool) (x y : Stepped) → IsSteady m x → IsSteady m y → IsSteady m (cond b x y)
+choice : (m : ManagerState) (b : Bool) (x y : ManagerStepped) → IsSteady m x → IsSteady m y → IsSteady m (cond b x y)
 choice m true x y p q = p
 choice m false x y p q = q
 
@@ -102,41 +102,41 @@ acceptance_steady : (m : ManagerState) (proposal : Option Proposer) (o : Option 
 acceptance_steady m proposal None = still _ _ refl refl refl refl
 acceptance_steady m proposal (Some view) = choice m (nat_lt m.held.epoch view.epoch) _ _ (still _ _ refl refl refl refl) (still _ _ refl refl refl refl)
 
-at_proposal_steady : (m : ManagerState) (step : Proposer → Stepped) (o : Option Proposer) → ((p : Proposer) → IsSteady m (step p)) → IsSteady m (at_proposal o m step)
+at_proposal_steady : (m : ManagerState) (step : Proposer → ManagerStepped) (o : Option Proposer) → ((p : Proposer) → IsSteady m (step p)) → IsSteady m (at_proposal o m step)
 at_proposal_steady m step None each = rests m
 at_proposal_steady m step (Some p) each = each p
 
 node_steady : (body : Body) (m : ManagerState) (from : NodeId) → IsSteady m (from_node body m from)
-node_steady (LeaseAsk asked) m from = choice m (is_member m.held from) _ _ (still _ _ refl refl refl refl) (rests m)
-node_steady (Inv key s kind content) m from = rests m
-node_steady (Ack key s top) m from = rests m
-node_steady (Val key s) m from = rests m
-node_steady (CopyAsk after room) m from = rests m
-node_steady (CopyGive after done items) m from = rests m
-node_steady (LeaseGive end) m from = rests m
-node_steady (Prepare ballot) m from = rests m
-node_steady (PromiseBody ballot vote) m from = rests m
-node_steady (Accept ballot view) m from = rests m
-node_steady (Accepted ballot) m from = rests m
-node_steady (Chosen view) m from = rests m
-node_steady (ActivateBody view) m from = rests m
+node_steady (Body.LeaseAsk asked) m from = choice m (is_member m.held from) _ _ (still _ _ refl refl refl refl) (rests m)
+node_steady (Body.Inv key s kind content) m from = rests m
+node_steady (Body.Ack key s top) m from = rests m
+node_steady (Body.Val key s) m from = rests m
+node_steady (Body.CopyAsk after room) m from = rests m
+node_steady (Body.CopyGive after done items) m from = rests m
+node_steady (Body.LeaseGive end) m from = rests m
+node_steady (Body.Prepare ballot) m from = rests m
+node_steady (Body.Promise ballot vote) m from = rests m
+node_steady (Body.Accept ballot view) m from = rests m
+node_steady (Body.Accepted ballot) m from = rests m
+node_steady (Body.Chosen view) m from = rests m
+node_steady (Body.Activate view) m from = rests m
 
 manager_steady : (body : Body) (m : ManagerState) (epoch from : ℕ) → IsSteady m (from_manager body m epoch from)
-manager_steady (Prepare ballot) m epoch from = choice m (is_too_late ballot) _ _ (rests m) (still _ _ refl refl refl refl)
-manager_steady (PromiseBody ballot vote) m epoch from = at_proposal_steady m (λ p. counts_promise p m from (record { ballot = ballot; accepted = vote })) (proposal_in m.proposal epoch) (λ p. still _ _ refl refl refl refl)
-manager_steady (Accept ballot view) m epoch from = choice m (is_too_late ballot) _ _ (rests m) (still _ _ refl refl refl refl)
-manager_steady (Accepted ballot) m epoch from =
+manager_steady (Body.Prepare ballot) m epoch from = choice m (is_too_late ballot) _ _ (rests m) (still _ _ refl refl refl refl)
+manager_steady (Body.Promise ballot vote) m epoch from = at_proposal_steady m (λ p. counts_promise p m from (record { ballot = ballot; accepted = vote })) (proposal_in m.proposal epoch) (λ p. still _ _ refl refl refl refl)
+manager_steady (Body.Accept ballot view) m epoch from = choice m (is_too_late ballot) _ _ (rests m) (still _ _ refl refl refl refl)
+manager_steady (Body.Accepted ballot) m epoch from =
     at_proposal_steady m (λ p. counts_acceptance p m from ballot) (proposal_in m.proposal epoch)
     (λ p. acceptance_steady m (Some (proposer_on_accepted p from ballot).after) (proposer_on_accepted p from ballot).answer)
-manager_steady (Chosen view) m epoch from = learns_steady m view []
-manager_steady (LeaseAsk asked) m epoch from = rests m
-manager_steady (Inv key s kind content) m epoch from = rests m
-manager_steady (Ack key s top) m epoch from = rests m
-manager_steady (Val key s) m epoch from = rests m
-manager_steady (CopyAsk after room) m epoch from = rests m
-manager_steady (CopyGive after done items) m epoch from = rests m
-manager_steady (LeaseGive end) m epoch from = rests m
-manager_steady (ActivateBody view) m epoch from = rests m
+manager_steady (Body.Chosen view) m epoch from = learns_steady m view []
+manager_steady (Body.LeaseAsk asked) m epoch from = rests m
+manager_steady (Body.Inv key s kind content) m epoch from = rests m
+manager_steady (Body.Ack key s top) m epoch from = rests m
+manager_steady (Body.Val key s) m epoch from = rests m
+manager_steady (Body.CopyAsk after room) m epoch from = rests m
+manager_steady (Body.CopyGive after done items) m epoch from = rests m
+manager_steady (Body.LeaseGive end) m epoch from = rests m
+manager_steady (Body.Activate view) m epoch from = rests m
 
 from_steady : (from : Actor) (m : ManagerState) (letter : Letter) → IsSteady m (receives_from from m letter)
 from_steady (Node from) m letter = node_steady letter.body m from
@@ -145,7 +145,7 @@ from_steady (Manager from) m letter = choice m (nat_lt from m.managers) _ _ (man
 receives_steady : (m : ManagerState) (letter : Letter) → IsSteady m (receives m letter)
 receives_steady m letter = choice m (is_addressed m letter.to && nat_le letter.epoch MAX_EPOCH) _ _ (from_steady letter.from m letter) (rests m)
 
-abbrev pub OfMade : (Stepped → Type 0) → Result Stepped ManagerFault → Type 0
+abbrev pub OfMade : (ManagerStepped → Type 0) → Result ManagerStepped ManagerFault → Type 0
 OfMade P (Ok stepped) = P stepped
 OfMade P (Err fault) = ⊤
 

@@ -22,23 +22,22 @@ use Rattle.hk_clocks.specs.declared.fault.ClockFault.{ClockFault}
 use Rattle.hk_clocks.specs.declared.pace.Pace.{Pace}
 use Rattle.hk_clocks.specs.Clocks.{ClockState, Paces, pace_of, clock_of}
 use Rattle.hk_clocks.specs.Steps.{ClockEvent, clock_step, greatest_clock}
-use Rattle.hk_clocks.specs.Steps.ClockEvent.{Start as ClockStart, Stop as ClockStop, Tick as ClockTick, TickAll as ClockTickAll}
 use Rattle.hk_clocks.specs.Runs.{made_or}
 use Rattle.hk_clocks.specs.Sound.{AreClocks}
 use Rattle.hk_manager.specs.declared.event.ManagerEvent.{ManagerEvent}
-use Rattle.hk_manager.specs.declared.event.ManagerEvent.TheVariants.{Propose as Proposal, Receive as Receipt, Activate as Activation, Tick as ManagerTick}
+use Rattle.hk_manager.specs.declared.event.ManagerEvent.TheVariants as ManagerEvent
 use Rattle.hk_manager.specs.declared.fault.ManagerFault.{ManagerFault}
 use Rattle.hk_manager.specs.Manager.{ManagerState}
-use Rattle.hk_manager.specs.Steps.{Stepped as ManagerStepped, manager_step, ticks as manager_ticks}
-use Rattle.hk_manager.specs.Sound.{IsManager, IsEvent as IsManagerEvent}
+use Rattle.hk_manager.specs.Steps.{ManagerStepped, manager_step, manager_ticks}
+use Rattle.hk_manager.specs.Sound.{IsManager, IsManagerEvent}
 use Rattle.hk_manager.specs.Laws.{OfStep, StepKeepsManager, LettersInRange as ManagerLetters}
 use Rattle.hk_node.specs.declared.event.NodeEvent.{NodeEvent}
-use Rattle.hk_node.specs.declared.event.NodeEvent.TheVariants.{Call as NodeCall, Receive, Resend as NodeResend, Replay as NodeReplay, AskLease as NodeAsk, AskCopy, Tick as NodeTick, Grant, Install as NodeInstall}
+use Rattle.hk_node.specs.declared.event.NodeEvent.TheVariants as NodeEvent
 use Rattle.hk_node.specs.Node.{NodeState, is_member, epoch_of}
 use Rattle.hk_node.specs.Made.{joiner}
 use Rattle.hk_node.specs.Stepped.{Stepped}
 use Rattle.hk_node.specs.Steps.{node_step, ticks}
-use Rattle.hk_node.specs.Sound.{IsNode, IsEvent as IsNodeEvent}
+use Rattle.hk_node.specs.Sound.{IsNode, IsNodeEvent}
 use Rattle.hk_node.specs.Laws.{StepKeepsNode, LettersInRange}
 use Rattle.hk_node.proofs.Managed.{nothing_heard}
 use Rattle.hk_world.specs.declared.event.Event.{Event}
@@ -75,19 +74,19 @@ pub record IsSoundStep (before : NodeState) (stepped : Stepped) : Type 0 where
 
 -- no event but a tick
 abbrev pub IsStill : NodeEvent → Type 0
-IsStill (NodeTick now) = ⊥
+IsStill (NodeEvent.Tick now) = ⊥
 IsStill event = ⊤
 
 event_steady : (node : NodeState) (event : NodeEvent) → IsStill event → IsSteady node (node_step node event)
-event_steady node (NodeCall call key op) still = call_steady node call key op
-event_steady node (Receive letter) still = receive_steady node letter
-event_steady node (NodeResend key) still = resend_steady node key
-event_steady node (NodeReplay key) still = replay_steady node key
-event_steady node (NodeAsk manager) still = asks_steady node manager
-event_steady node (AskCopy from room) still = copy_steady node from room
-event_steady node (NodeTick now) still = absurd still
-event_steady node (Grant end) still = record { id = refl; skew = refl; managers = refl; clock = refl }
-event_steady node (NodeInstall view) still = install_steady node view
+event_steady node (NodeEvent.Call call key op) still = call_steady node call key op
+event_steady node (NodeEvent.Receive letter) still = receive_steady node letter
+event_steady node (NodeEvent.Resend key) still = resend_steady node key
+event_steady node (NodeEvent.Replay key) still = replay_steady node key
+event_steady node (NodeEvent.AskLease manager) still = asks_steady node manager
+event_steady node (NodeEvent.AskCopy from room) still = copy_steady node from room
+event_steady node (NodeEvent.Tick now) still = absurd still
+event_steady node (NodeEvent.Grant end) still = record { id = refl; skew = refl; managers = refl; clock = refl }
+event_steady node (NodeEvent.Install view) still = install_steady node view
 
 by_laws : NodeLaws → (node : NodeState) (event : NodeEvent) → IsNode node → IsNodeEvent event → IsStill event → IsSoundStep node (node_step node event)
 by_laws laws node event is range still =
@@ -95,7 +94,7 @@ by_laws laws node event is range still =
     record { steady = record { id = steady.id; skew = steady.skew; managers = steady.managers }; node = laws.0 node event is range; letters = laws.1 node event is range }
 
 ticked_sound : NodeLaws → (node : NodeState) (to : ℕ) → IsNode node → to ≤ MAX_TIME → IsSoundStep node (ticks node to)
-ticked_sound laws node to is range = record { steady = record { id = refl; skew = refl; managers = refl }; node = laws.0 node (NodeTick to) is range; letters = tt }
+ticked_sound laws node to is range = record { steady = record { id = refl; skew = refl; managers = refl }; node = laws.0 node (NodeEvent.Tick to) is range; letters = tt }
 
 abbrev pub ManagerLaws : Type 0
 ManagerLaws = StepKeepsManager × ManagerLetters
@@ -238,16 +237,16 @@ greater_to clock to up = omega (arith, up)
 
 -- the world after a tick of a node, or of a manager
 pub tick_world : NodeLaws → (w : WorldState) (id : NodeId) (p : Process) (to : ℕ) (clocks : ClockState) → IsWorld w → process_at id w.processes ≡ Some p → p.crashed ≡ false → to ≤ MAX_TIME →
-    clock_step (clocks_of w) (ClockTick (Node id) to) ≡ Ok clocks → IsWorld (record (with_step w id (ticks p.node to)) { paces = clocks.paces })
+    clock_step (clocks_of w) (ClockEvent.Tick (Node id) to) ≡ Ok clocks → IsWorld (record (with_step w id (ticks p.node to)) { paces = clocks.paces })
 tick_world laws w id p to clocks sound found runs range is =
     let t : Ticked (clocks_of w) clocks (Node id) to = tick_ticked (clocks_of w) clocks (Node id) to is in
     let up : p.node.clock ≤ to = t.before p.node.clock (clock_at w id p sound found runs) in
     step_world w id p (ticks p.node to) w.calls clocks.paces sound found (ticked_sound laws p.node to (node_at w id p sound found) range)
-    (with_skew w clocks t.same_skew (made_on (clocks_of w) clocks (ClockTick (Node id) to) sound.clocks range is))
+    (with_skew w clocks t.same_skew (made_on (clocks_of w) clocks (ClockEvent.Tick (Node id) to) sound.clocks range is))
     (t.own ∙ ap (λ (n : ℕ). Some n) (greater_to p.node.clock to up)) t.others
 
 pub manager_tick_world : ManagerLaws → (w : WorldState) (m : ℕ) (p : ManagerProcess) (to : ℕ) (clocks : ClockState) → IsWorld w → manager_at m w.managers ≡ Some p → p.crashed ≡ false → to ≤ MAX_TIME →
-    clock_step (clocks_of w) (ClockTick (Manager m) to) ≡ Ok clocks →
+    clock_step (clocks_of w) (ClockEvent.Tick (Manager m) to) ≡ Ok clocks →
     IsWorld (record w { managers = put_manager m (record { manager = (manager_ticks p.manager to).manager; crashed = false }) w.managers; paces = clocks.paces })
 manager_tick_world laws w m p to clocks sound found runs range is =
     let t : Ticked (clocks_of w) clocks (Manager m) to = tick_ticked (clocks_of w) clocks (Manager m) to is in
@@ -256,8 +255,8 @@ manager_tick_world laws w m p to clocks sound found runs range is =
     let old = sound.managers m p found in
     built_world w w.processes _ clocks.paces w.letters w.views w.calls sound
     (manager_parts w m p process clocks.paces w.letters w.views sound found
-    (record { own = old.own; among = old.among; same_lease = old.same_lease; manager = laws.0 p.manager (ManagerTick to) old.manager range })
-    (with_skew w clocks t.same_skew (made_on (clocks_of w) clocks (ClockTick (Manager m) to) sound.clocks range is))
+    (record { own = old.own; among = old.among; same_lease = old.same_lease; manager = laws.0 p.manager (ManagerEvent.Tick to) old.manager range })
+    (with_skew w clocks t.same_skew (made_on (clocks_of w) clocks (ClockEvent.Tick (Manager m) to) sound.clocks range is))
     (manager_tied w m p process clocks.paces sound found (t.own ∙ ap (λ (n : ℕ). Some n) (greater_to p.manager.clock to up)) t.others) sound.letters sound.some sound.each)
 
 ticked_keys : (to : ℕ) (ps : Processes) → keys_of (map (process_ticked to) ps) ≡ keys_of ps
@@ -268,7 +267,7 @@ ticked_process : NodeLaws → (w : WorldState) (to : ℕ) → to ≤ MAX_TIME �
 ticked_process laws w to range p is = at (is_live p)
   where
     at : (b : Bool) → IsProcess w (p.0, cond b (record p.1 { node = (ticks p.1.node to).node }) p.1)
-    at true = record { own = is.own; same_skew = is.same_skew; managed = is.managed; node = laws.0 p.1.node (NodeTick to) is.node range }
+    at true = record { own = is.own; same_skew = is.same_skew; managed = is.managed; node = laws.0 p.1.node (NodeEvent.Tick to) is.node range }
     at false = is
 
 ticked_all : NodeLaws → (w : WorldState) (to : ℕ) → to ≤ MAX_TIME → (ps : Processes) → AllByRecursion (IsProcess w) ps → AllByRecursion (IsProcess w) (map (process_ticked to) ps)
@@ -279,7 +278,7 @@ ticked_manager : ManagerLaws → (w : WorldState) (to m : ℕ) → to ≤ MAX_TI
 ticked_manager laws w to m range p is = at (not p.crashed)
   where
     at : (b : Bool) → IsManagerProcess w m (cond b (record p { manager = (manager_ticks p.manager to).manager }) p)
-    at true = record { own = is.own; among = is.among; same_lease = is.same_lease; manager = laws.0 p.manager (ManagerTick to) is.manager range }
+    at true = record { own = is.own; among = is.among; same_lease = is.same_lease; manager = laws.0 p.manager (ManagerEvent.Tick to) is.manager range }
     at false = is
 
 -- a clock that is kept reads `to`, where it was kept before
@@ -329,7 +328,7 @@ none_mapped : (to : ℕ) (ms : List ManagerProcess) → map (manager_ticked to) 
 none_mapped to [] e = refl
 none_mapped to (p ∷ ms) e = absurd cc
 
-pub all_tick_world : NodeLaws → ManagerLaws → (w : WorldState) (to : ℕ) (clocks : ClockState) → IsWorld w → to ≤ MAX_TIME → clock_step (clocks_of w) (ClockTickAll to) ≡ Ok clocks →
+pub all_tick_world : NodeLaws → ManagerLaws → (w : WorldState) (to : ℕ) (clocks : ClockState) → IsWorld w → to ≤ MAX_TIME → clock_step (clocks_of w) (ClockEvent.TickAll to) ≡ Ok clocks →
     IsWorld (record w { processes = map (process_ticked to) w.processes; managers = map (manager_ticked to) w.managers; paces = clocks.paces })
 all_tick_world laws of_managers w to clocks sound range is =
     let t : AllTicked (clocks_of w) clocks to = all_ticked (clocks_of w) clocks to is in
@@ -338,7 +337,7 @@ all_tick_world laws of_managers w to clocks sound range is =
       each_process = ticked_all laws w to range w.processes sound.processes;
       as_many = ticked_length to w.managers;
       each_manager = λ m p at. let q = get_mapped (manager_ticked to) m p w.managers at in subst (IsManagerProcess w m) q.2 (ticked_manager of_managers w to m range q.0 (sound.managers m q.0 q.1));
-      clocks = with_skew w clocks t.same_skew (made_on (clocks_of w) clocks (ClockTickAll to) sound.clocks range is);
+      clocks = with_skew w clocks t.same_skew (made_on (clocks_of w) clocks (ClockEvent.TickAll to) sound.clocks range is);
       tied = record {
         nodes = λ id. t.each (Node id) ∙ ap (all_at to) (sound.paced (Node id))
             ∙ ticked_node_clock to (process_at id w.processes) id (λ n e. t.before (Node id) n (sound.paced (Node id) ∙ e)) ∙ ap node_clock (sym (ticked_at to id w.processes));
@@ -373,10 +372,10 @@ pub greatest_in : (w : WorldState) → IsWorld w → greatest_clock 1 w.paces �
 greatest_in w sound = greatest_within (clocks_of w) 1 sound.clocks (omega arith)
 
 pub start_world : NodeLaws → (w : WorldState) (id : NodeId) → IsWorld w → process_at id w.processes ≡ None →
-    IsWorld (record w { processes = put_process id (joining w id) w.processes; paces = paces_by w (ClockStart (Node id) (greatest_clock 1 w.paces)) })
+    IsWorld (record w { processes = put_process id (joining w id) w.processes; paces = paces_by w (ClockEvent.Start (Node id) (greatest_clock 1 w.paces)) })
 start_world laws w id sound none =
     let clock : ℕ = greatest_clock 1 w.paces in
-    let paces : Paces = paces_by w (ClockStart (Node id) clock) in
+    let paces : Paces = paces_by w (ClockEvent.Start (Node id) clock) in
     let absent : pace_of w.paces (Node id) ≡ None = no_pace w.paces (Node id) (sound.paced (Node id) ∙ ap node_clock none) in
     built_world w _ w.managers paces w.letters w.views w.calls sound
     (node_parts w id (joining w id) paces w.letters sound
@@ -384,33 +383,33 @@ start_world laws w id sound none =
       own = refl;
       same_skew = refl;
       managed = refl;
-      node = laws.0 (joiner id w.skew (length w.managers)) (NodeTick clock) (joiner_is_node id w.skew (length w.managers) sound.skew sound.few) (greatest_in w sound);
+      node = laws.0 (joiner id w.skew (length w.managers)) (NodeEvent.Tick clock) (joiner_is_node id w.skew (length w.managers) sound.skew sound.few) (greatest_in w sound);
     })
-    (goes_with w (ClockStart (Node id) clock) (goes_on (clocks_of w) (ClockStart (Node id) clock) sound.clocks (greatest_in w sound)))
+    (goes_with w (ClockEvent.Start (Node id) clock) (goes_on (clocks_of w) (ClockEvent.Start (Node id) clock) sound.clocks (greatest_in w sound)))
     (process_tied w id (joining w id) paces sound
     (start_own (clocks_of w) (Node id) clock absent ∙ ap (λ (n : ℕ). Some n) (greater_to 1 clock (greatest_above 1 w.paces)))
     (λ b ne. start_other (clocks_of w) (Node id) b clock ne)) sound.letters)
 
 pub crash_world : (w : WorldState) (id : NodeId) (p : Process) → IsWorld w → process_at id w.processes ≡ Some p →
-    IsWorld (record w { processes = put_process id (record { node = p.node; crashed = true }) w.processes; paces = paces_by w (ClockStop (Node id)) })
+    IsWorld (record w { processes = put_process id (record { node = p.node; crashed = true }) w.processes; paces = paces_by w (ClockEvent.Stop (Node id)) })
 crash_world w id p sound found =
     let old : IsProcess w (id, p) = found_holds (IsProcess w) id p w.processes sound.processes found in
     let process : Process = record { node = p.node; crashed = true } in
-    let paces : Paces = paces_by w (ClockStop (Node id)) in
+    let paces : Paces = paces_by w (ClockEvent.Stop (Node id)) in
     built_world w _ w.managers paces w.letters w.views w.calls sound
     (node_parts w id process paces w.letters sound (record { own = old.own; same_skew = old.same_skew; managed = old.managed; node = old.node })
-    (goes_with w (ClockStop (Node id)) (goes_on (clocks_of w) (ClockStop (Node id)) sound.clocks tt))
+    (goes_with w (ClockEvent.Stop (Node id)) (goes_on (clocks_of w) (ClockEvent.Stop (Node id)) sound.clocks tt))
     (process_tied w id process paces sound (stop_own (clocks_of w) (Node id) sound.clocks) (λ b ne. stop_other (clocks_of w) (Node id) b ne)) sound.letters)
 
 pub manager_crash_world : (w : WorldState) (m : ℕ) (p : ManagerProcess) → IsWorld w → manager_at m w.managers ≡ Some p →
-    IsWorld (record w { managers = put_manager m (record { manager = p.manager; crashed = true }) w.managers; paces = paces_by w (ClockStop (Manager m)) })
+    IsWorld (record w { managers = put_manager m (record { manager = p.manager; crashed = true }) w.managers; paces = paces_by w (ClockEvent.Stop (Manager m)) })
 manager_crash_world w m p sound found =
     let old = sound.managers m p found in
     let process : ManagerProcess = record { manager = p.manager; crashed = true } in
-    let paces : Paces = paces_by w (ClockStop (Manager m)) in
+    let paces : Paces = paces_by w (ClockEvent.Stop (Manager m)) in
     built_world w w.processes _ paces w.letters w.views w.calls sound
     (manager_parts w m p process paces w.letters w.views sound found (record { own = old.own; among = old.among; same_lease = old.same_lease; manager = old.manager })
-    (goes_with w (ClockStop (Manager m)) (goes_on (clocks_of w) (ClockStop (Manager m)) sound.clocks tt))
+    (goes_with w (ClockEvent.Stop (Manager m)) (goes_on (clocks_of w) (ClockEvent.Stop (Manager m)) sound.clocks tt))
     (manager_tied w m p process paces sound found (stop_own (clocks_of w) (Manager m) sound.clocks) (λ b ne. stop_other (clocks_of w) (Manager m) b ne)) sound.letters sound.some sound.each)
 
 -- ---- views
@@ -466,13 +465,13 @@ module _ (laws : NodeLaws) (w : WorldState) (sound : IsWorld w) where
   installs_world none n (Some view) at id p found runs = choose (is_member id view.members) _ _ (choose (nat_lt (epoch_of p.node) view.epoch) _ _ (guarded (find (may_run w.views view) w.processes)) tt) tt
     where
       guarded : (o : Option (NodeId × Process)) → SoundIf (guarded_by o w id p.node view)
-      guarded None = acts_sound id p (NodeInstall view) found runs (numbered_holds IsView n w.views view sound.each at) tt w.calls
+      guarded None = acts_sound id p (NodeEvent.Install view) found runs (numbered_holds IsView n w.views view sound.each at) tt w.calls
       guarded (Some q) = tt
 
   ticks_sound : (to : ℕ) → to ≤ MAX_TIME → (id : NodeId) (p : Process) → process_at id w.processes ≡ Some p → p.crashed ≡ false → SoundIf (ticks_at w to id p.node)
-  ticks_sound to range id p found runs = at (clock_step (clocks_of w) (ClockTick (Node id) to)) refl
+  ticks_sound to range id p found runs = at (clock_step (clocks_of w) (ClockEvent.Tick (Node id) to)) refl
     where
-      at : (r : Result ClockState ClockFault) → clock_step (clocks_of w) (ClockTick (Node id) to) ≡ r → SoundIf (ticked_by r w id to p.node)
+      at : (r : Result ClockState ClockFault) → clock_step (clocks_of w) (ClockEvent.Tick (Node id) to) ≡ r → SoundIf (ticked_by r w id to p.node)
       at (Ok clocks) is = tick_world laws w id p to clocks sound found runs range is
       at (Err fault) is = tt
 
@@ -488,56 +487,56 @@ module _ (laws : NodeLaws) (of_managers : ManagerLaws) (w : WorldState) (sound :
   takes_sound n None at = tt
   takes_sound n (Some letter) at =
       let range : IsLetter letter = numbered_holds IsLetter n w.letters letter sound.letters at in
-      actor_sound w letter.to _ _ (λ id p found runs. acts_sound laws w sound id p (Receive letter) found runs range tt w.calls) (λ m p found runs. manages_sound m p (Receipt letter) found runs range tt)
+      actor_sound w letter.to _ _ (λ id p found runs. acts_sound laws w sound id p (NodeEvent.Receive letter) found runs range tt w.calls) (λ m p found runs. manages_sound m p (ManagerEvent.Receive letter) found runs range tt)
 
   manager_ticks_sound : (to : ℕ) → to ≤ MAX_TIME → (m : ℕ) (p : ManagerProcess) → manager_at m w.managers ≡ Some p → p.crashed ≡ false → SoundIf (manager_ticks_at w to m p.manager)
-  manager_ticks_sound to range m p found runs = at (clock_step (clocks_of w) (ClockTick (Manager m) to)) refl
+  manager_ticks_sound to range m p found runs = at (clock_step (clocks_of w) (ClockEvent.Tick (Manager m) to)) refl
     where
-      at : (r : Result ClockState ClockFault) → clock_step (clocks_of w) (ClockTick (Manager m) to) ≡ r → SoundIf (manager_ticked_by r w m to p.manager)
+      at : (r : Result ClockState ClockFault) → clock_step (clocks_of w) (ClockEvent.Tick (Manager m) to) ≡ r → SoundIf (manager_ticked_by r w m to p.manager)
       at (Ok clocks) is = manager_tick_world of_managers w m p to clocks sound found runs range is
       at (Err fault) is = tt
 
   all_sound : (to : ℕ) → to ≤ MAX_TIME → SoundIf (all_tick w to)
-  all_sound to range = at (clock_step (clocks_of w) (ClockTickAll to)) refl
+  all_sound to range = at (clock_step (clocks_of w) (ClockEvent.TickAll to)) refl
     where
-      at : (r : Result ClockState ClockFault) → clock_step (clocks_of w) (ClockTickAll to) ≡ r → SoundIf (all_ticked_by r w to)
+      at : (r : Result ClockState ClockFault) → clock_step (clocks_of w) (ClockEvent.TickAll to) ≡ r → SoundIf (all_ticked_by r w to)
       at (Ok clocks) is = all_tick_world laws of_managers w to clocks sound range is
       at (Err fault) is = tt
 
   pub event_sound : (event : Event) → IsEvent event → SoundIf (world_step w event)
-  event_sound (Call id key op) range = live_sound w id _ (λ p found runs. acts_sound laws w sound id p (NodeCall (record { 0 = w.calls + 1 }) key op) found runs tt tt (w.calls + 1))
+  event_sound (Call id key op) range = live_sound w id _ (λ p found runs. acts_sound laws w sound id p (NodeEvent.Call (record { 0 = w.calls + 1 }) key op) found runs tt tt (w.calls + 1))
   event_sound (Take letter) range = takes_sound letter (numbered letter w.letters) refl
   event_sound (Tick actor to) range = actor_sound w actor _ _ (ticks_sound laws w sound to range.1) (manager_ticks_sound to range.1)
   event_sound (TickAll to) range = all_sound to range
   event_sound (Crash actor) range = actor_sound w actor _ _ (λ id p found runs. crash_world w id p sound found) (λ m p found runs. manager_crash_world w m p sound found)
-  event_sound (Resend id key) range = live_sound w id _ (λ p found runs. acts_sound laws w sound id p (NodeResend key) found runs tt tt w.calls)
-  event_sound (Replay id key) range = live_sound w id _ (λ p found runs. acts_sound laws w sound id p (NodeReplay key) found runs tt tt w.calls)
-  event_sound (Copy id from room) range = live_sound w id _ (λ p found runs. acts_sound laws w sound id p (AskCopy from room) found runs range tt w.calls)
+  event_sound (Resend id key) range = live_sound w id _ (λ p found runs. acts_sound laws w sound id p (NodeEvent.Resend key) found runs tt tt w.calls)
+  event_sound (Replay id key) range = live_sound w id _ (λ p found runs. acts_sound laws w sound id p (NodeEvent.Replay key) found runs tt tt w.calls)
+  event_sound (Copy id from room) range = live_sound w id _ (λ p found runs. acts_sound laws w sound id p (NodeEvent.AskCopy from room) found runs range tt w.calls)
   event_sound (Start id) range = starts_sound laws w id sound (process_at id w.processes) refl
   event_sound (Agree change) range = unmanaged_sound w.managers _ (agrees_sound w change sound)
   event_sound (Install id epoch) range = unmanaged_sound w.managers _ (λ none. live_sound w id _ (λ p found runs. installs_world laws w sound none epoch (numbered epoch w.views) refl id p found runs))
-  event_sound (Lease id end) range = unmanaged_sound w.managers _ (λ none. live_sound w id _ (λ p found runs. choose (is_member id (last_view w.views).members) _ _ (acts_sound laws w sound id p (Grant end) found runs range tt w.calls) tt))
-  event_sound (AskLease id manager) range = live_sound w id _ (λ p found runs. acts_sound laws w sound id p (NodeAsk manager) found runs tt tt w.calls)
-  event_sound (Propose manager base change) range = manager_sound w manager _ (λ p found runs. manages_sound manager p (Proposal base change) found runs tt tt)
-  event_sound (Activate manager) range = manager_sound w manager _ (λ p found runs. manages_sound manager p Activation found runs tt tt)
+  event_sound (Lease id end) range = unmanaged_sound w.managers _ (λ none. live_sound w id _ (λ p found runs. choose (is_member id (last_view w.views).members) _ _ (acts_sound laws w sound id p (NodeEvent.Grant end) found runs range tt w.calls) tt))
+  event_sound (AskLease id manager) range = live_sound w id _ (λ p found runs. acts_sound laws w sound id p (NodeEvent.AskLease manager) found runs tt tt w.calls)
+  event_sound (Propose manager base change) range = manager_sound w manager _ (λ p found runs. manages_sound manager p (ManagerEvent.Propose base change) found runs tt tt)
+  event_sound (Activate manager) range = manager_sound w manager _ (λ p found runs. manages_sound manager p ManagerEvent.Activate found runs tt tt)
 
 pub step_sound : NodeLaws → ManagerLaws → (w : WorldState) (event : Event) (a : Accepted) → IsWorld w → IsEvent event → world_step w event ≡ Ok a → IsWorld a.world
 step_sound laws of_managers w event a sound range made = subst SoundIf made (event_sound laws of_managers w sound event range)
 
 -- ---- events by which an actor acts
 pub act_parts : (event : NodeEvent) → IsAct event → IsNodeEvent event × IsStill event
-act_parts (NodeCall call key op) is = (is, tt)
-act_parts (Receive letter) is = (is, tt)
-act_parts (NodeResend key) is = (is, tt)
-act_parts (NodeReplay key) is = (is, tt)
-act_parts (NodeAsk manager) is = (is, tt)
-act_parts (AskCopy from room) is = (is, tt)
-act_parts (NodeTick now) is = absurd is
-act_parts (Grant end) is = (is, tt)
-act_parts (NodeInstall view) is = (is, tt)
+act_parts (NodeEvent.Call call key op) is = (is, tt)
+act_parts (NodeEvent.Receive letter) is = (is, tt)
+act_parts (NodeEvent.Resend key) is = (is, tt)
+act_parts (NodeEvent.Replay key) is = (is, tt)
+act_parts (NodeEvent.AskLease manager) is = (is, tt)
+act_parts (NodeEvent.AskCopy from room) is = (is, tt)
+act_parts (NodeEvent.Tick now) is = absurd is
+act_parts (NodeEvent.Grant end) is = (is, tt)
+act_parts (NodeEvent.Install view) is = (is, tt)
 
 pub manager_act_parts : (event : ManagerEvent) → IsManagerAct event → IsManagerEvent event × IsSilent event
-manager_act_parts (Proposal base change) is = (is, tt)
-manager_act_parts (Receipt letter) is = (is, tt)
-manager_act_parts Activation is = (is, tt)
-manager_act_parts (ManagerTick now) is = absurd is
+manager_act_parts (ManagerEvent.Propose base change) is = (is, tt)
+manager_act_parts (ManagerEvent.Receive letter) is = (is, tt)
+manager_act_parts ManagerEvent.Activate is = (is, tt)
+manager_act_parts (ManagerEvent.Tick now) is = absurd is

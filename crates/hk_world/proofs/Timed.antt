@@ -13,19 +13,18 @@ use Rattle.hk_base.specs.declared.letter.Actor.{Actor}
 use Rattle.hk_base.specs.declared.letter.Actor.TheVariants.{Node, Manager}
 use Rattle.hk_base.specs.declared.letter.Letter.{Letter}
 use Rattle.hk_clocks.specs.declared.fault.ClockFault.{ClockFault}
-use Rattle.hk_clocks.specs.declared.fault.ClockFault.TheVariants.{Memory as NoMemory, Live, NotLive, ClockFalls, Skew}
+use Rattle.hk_clocks.specs.declared.fault.ClockFault.TheVariants as ClockFault
 use Rattle.hk_clocks.specs.declared.pace.Pace.{Pace}
 use Rattle.hk_clocks.specs.Clocks.{ClockState, Paces, pace_of, clock_of}
 use Rattle.hk_clocks.specs.Steps.{ClockEvent, clock_step, starts, stops, greatest_clock}
-use Rattle.hk_clocks.specs.Steps.ClockEvent.{Start as ClockStart, Stop as ClockStop, Tick as ClockTick, TickAll as ClockTickAll}
 use Rattle.hk_clocks.specs.Runs.{made_or}
 use Rattle.hk_clocks.specs.Outs.{IsAnswerOf as IsClockAnswer}
 use Rattle.hk_manager.specs.declared.event.ManagerEvent.{ManagerEvent}
 use Rattle.hk_manager.specs.declared.fault.ManagerFault.{ManagerFault}
-use Rattle.hk_manager.specs.declared.fault.ManagerFault.TheVariants.{Memory as Wanting, Behind, NoSuchMember, LastMember, Full, NoNumbers, NotPast}
+use Rattle.hk_manager.specs.declared.fault.ManagerFault.TheVariants as ManagerFault
 use Rattle.hk_manager.specs.declared.out.ManagerOut.{ManagerOut}
 use Rattle.hk_manager.specs.Manager.{ManagerState}
-use Rattle.hk_manager.specs.Steps.{Stepped as ManagerStepped, manager_step, ticks as manager_ticks}
+use Rattle.hk_manager.specs.Steps.{ManagerStepped, manager_step, manager_ticks}
 use Rattle.hk_manager.specs.Outs.{made, IsStepOf as IsManagerStep}
 use Rattle.hk_node.specs.declared.report.Report.{Report as Told}
 use Rattle.hk_node.specs.Node.{NodeState}
@@ -66,11 +65,11 @@ err_is (Ok shown) f e = absurd e
 err_is (Err g) f e = ap (λ (x : WorldFault). Err x) e
 
 pub clock_kept : (fault : ClockFault) (c n : ClockState) (step : Result ClockState ClockFault) → IsClockAnswer (Err fault) c n step → n ≡ c
-clock_kept NoMemory c n step told = told
-clock_kept Live c n step told = told.1
-clock_kept NotLive c n step told = told.1
-clock_kept (ClockFalls clock) c n step told = told.1
-clock_kept (Skew to other) c n step told = told.1
+clock_kept ClockFault.Memory c n step told = told
+clock_kept ClockFault.Live c n step told = told.1
+clock_kept ClockFault.NotLive c n step told = told.1
+clock_kept (ClockFault.ClockFalls clock) c n step told = told.1
+clock_kept (ClockFault.Skew to other) c n step told = told.1
 
 -- what clocks refuse, the world refuses
 pub clock_refuses : (r : Result Shown WorldFault) (fault : ClockFault) (old new : WorldState) (c n : ClockState) (step : Result ClockState ClockFault) (by : Result ClockState ClockFault → Result Accepted Refused) (answer : Result Accepted Refused) →
@@ -78,20 +77,20 @@ pub clock_refuses : (r : Result Shown WorldFault) (fault : ClockFault) (old new 
 clock_refuses r fault old new c n step by answer err told each is same = subst (λ (x : Result Shown WorldFault). IsAnswerOf x old new answer) (sym (err_is r (clock_fault fault) err)) (at fault told)
   where
     at : (f : ClockFault) → IsClockAnswer (Err f) c n step → IsAnswerOf (Err (clock_fault f)) old new answer
-    at NoMemory t = same
-    at Live t = (is ∙ ap by t.0 ∙ each Live, same)
-    at NotLive t = (is ∙ ap by t.0 ∙ each NotLive, same)
-    at (ClockFalls clock) t = (is ∙ ap by t.0 ∙ each (ClockFalls clock), same)
-    at (Skew to other) t = (is ∙ ap by t.0 ∙ each (Skew to other), same)
+    at ClockFault.Memory t = same
+    at ClockFault.Live t = (is ∙ ap by t.0 ∙ each ClockFault.Live, same)
+    at ClockFault.NotLive t = (is ∙ ap by t.0 ∙ each ClockFault.NotLive, same)
+    at (ClockFault.ClockFalls clock) t = (is ∙ ap by t.0 ∙ each (ClockFault.ClockFalls clock), same)
+    at (ClockFault.Skew to other) t = (is ∙ ap by t.0 ∙ each (ClockFault.Skew to other), same)
 
 -- what clocks do not refuse, only want of memory can stop
 pub clock_wants : (fault : ClockFault) (old new : WorldState) (c n : ClockState) (step : Result ClockState ClockFault) (answer : Result Accepted Refused) →
     IsClockAnswer (Err fault) c n step → ((f : ClockFault) → step ≡ Err f → ⊥) → new ≡ old → IsAnswerOf (Err (clock_fault fault)) old new answer
-clock_wants NoMemory old new c n step answer told never same = same
-clock_wants Live old new c n step answer told never same = absurd (never Live told.0)
-clock_wants NotLive old new c n step answer told never same = absurd (never NotLive told.0)
-clock_wants (ClockFalls clock) old new c n step answer told never same = absurd (never (ClockFalls clock) told.0)
-clock_wants (Skew to other) old new c n step answer told never same = absurd (never (Skew to other) told.0)
+clock_wants ClockFault.Memory old new c n step answer told never same = same
+clock_wants ClockFault.Live old new c n step answer told never same = absurd (never ClockFault.Live told.0)
+clock_wants ClockFault.NotLive old new c n step answer told never same = absurd (never ClockFault.NotLive told.0)
+clock_wants (ClockFault.ClockFalls clock) old new c n step answer told never same = absurd (never (ClockFault.ClockFalls clock) told.0)
+clock_wants (ClockFault.Skew to other) old new c n step answer told never same = absurd (never (ClockFault.Skew to other) told.0)
 
 pub clock_wants_as : (r : Result Shown WorldFault) (fault : ClockFault) (old new : WorldState) (c n : ClockState) (step : Result ClockState ClockFault) (answer : Result Accepted Refused) → IsErrAnd r (λ e. e ≡ clock_fault fault) →
     IsClockAnswer (Err fault) c n step → ((f : ClockFault) → step ≡ Err f → ⊥) → new ≡ old → IsAnswerOf r old new answer
@@ -103,13 +102,13 @@ pub clock_wants_from : (f : WorldFault) (fault : ClockFault) (old new : WorldSta
 clock_wants_from f fault old new c n step answer is told never same = subst (λ (x : WorldFault). IsAnswerOf (Err x) old new answer) (sym is) (clock_wants fault old new c n step answer told never same)
 
 pub manager_kept : (fault : ManagerFault) (m n : ManagerState) (step : Result ManagerStepped ManagerFault) → IsManagerStep (Err fault) m n step → n ≡ m
-manager_kept Wanting m n step told = told
-manager_kept (Behind held) m n step told = told.1
-manager_kept NoSuchMember m n step told = told.1
-manager_kept LastMember m n step told = told.1
-manager_kept Full m n step told = told.1
-manager_kept NoNumbers m n step told = told.1
-manager_kept (NotPast node end) m n step told = told.1
+manager_kept ManagerFault.Memory m n step told = told
+manager_kept (ManagerFault.Behind held) m n step told = told.1
+manager_kept ManagerFault.NoSuchMember m n step told = told.1
+manager_kept ManagerFault.LastMember m n step told = told.1
+manager_kept ManagerFault.Full m n step told = told.1
+manager_kept ManagerFault.NoNumbers m n step told = told.1
+manager_kept (ManagerFault.NotPast node end) m n step told = told.1
 
 -- what a manager refuses, the world refuses
 pub manager_refuses : (r : Result Shown WorldFault) (fault : ManagerFault) (w old new : WorldState) (k : ℕ) (m n : ManagerState) (step : Result ManagerStepped ManagerFault) (answer : Result Accepted Refused) →
@@ -117,13 +116,13 @@ pub manager_refuses : (r : Result Shown WorldFault) (fault : ManagerFault) (w ol
 manager_refuses r fault w old new k m n step answer err told is same = subst (λ (x : Result Shown WorldFault). IsAnswerOf x old new answer) (sym (err_is r (manager_fault fault) err)) (at fault told)
   where
     at : (f : ManagerFault) → IsManagerStep (Err f) m n step → IsAnswerOf (Err (manager_fault f)) old new answer
-    at Wanting t = same
-    at (Behind held) t = (is ∙ ap (manager_acts w k) (sym t.0), same)
-    at NoSuchMember t = (is ∙ ap (manager_acts w k) (sym t.0), same)
-    at LastMember t = (is ∙ ap (manager_acts w k) (sym t.0), same)
-    at Full t = (is ∙ ap (manager_acts w k) (sym t.0), same)
-    at NoNumbers t = (is ∙ ap (manager_acts w k) (sym t.0), same)
-    at (NotPast node end) t = (is ∙ ap (manager_acts w k) (sym t.0), same)
+    at ManagerFault.Memory t = same
+    at (ManagerFault.Behind held) t = (is ∙ ap (manager_acts w k) (sym t.0), same)
+    at ManagerFault.NoSuchMember t = (is ∙ ap (manager_acts w k) (sym t.0), same)
+    at ManagerFault.LastMember t = (is ∙ ap (manager_acts w k) (sym t.0), same)
+    at ManagerFault.Full t = (is ∙ ap (manager_acts w k) (sym t.0), same)
+    at ManagerFault.NoNumbers t = (is ∙ ap (manager_acts w k) (sym t.0), same)
+    at (ManagerFault.NotPast node end) t = (is ∙ ap (manager_acts w k) (sym t.0), same)
 
 -- ---- a live manager
 manager_is : (w : WorldState) (m : ℕ) (p : ManagerProcess) (step : ManagerState → Result Accepted Refused) → manager_at m w.managers ≡ Some p → live_manager w m step ≡ managing_at p.crashed p.manager step
@@ -148,14 +147,14 @@ pub paces_made : (w : WorldState) (c n : ClockState) (event : ClockEvent) → cl
 paces_made w c n event clocks is = ap (λ (x : ClockState). (made_or x (clock_step x event)).paces) clocks ∙ ap (λ (r : Result ClockState ClockFault). (made_or c r).paces) is
 
 -- a live actor stops, and one that has no clock starts
-pub stops_live : (c : ClockState) (a : Actor) (clock : ℕ) → clock_of c.paces a ≡ Some clock → (f : ClockFault) → clock_step c (ClockStop a) ≡ Err f → ⊥
+pub stops_live : (c : ClockState) (a : Actor) (clock : ℕ) → clock_of c.paces a ≡ Some clock → (f : ClockFault) → clock_step c (ClockEvent.Stop a) ≡ Err f → ⊥
 stops_live c a clock is f e = at (pace_of c.paces a) is e
   where
     at : (o : Option Pace) → option_map (λ pace. pace.clock) o ≡ Some clock → stops o c a ≡ Err f → ⊥
     at None h g = absurd cc
     at (Some pace) h g = absurd cc
 
-pub starts_none : (c : ClockState) (a : Actor) (clock : ℕ) → clock_of c.paces a ≡ None → (f : ClockFault) → clock_step c (ClockStart a clock) ≡ Err f → ⊥
+pub starts_none : (c : ClockState) (a : Actor) (clock : ℕ) → clock_of c.paces a ≡ None → (f : ClockFault) → clock_step c (ClockEvent.Start a clock) ≡ Err f → ⊥
 starts_none c a clock is f e = at (pace_of c.paces a) is e
   where
     at : (o : Option Pace) → option_map (λ pace. pace.clock) o ≡ None → starts o c a clock ≡ Err f → ⊥
@@ -173,9 +172,9 @@ manager_with crashed manager = record { manager = manager; crashed = crashed }
 
 -- ---- the tick of a node
 pub node_tick_at : (w old : WorldState) (id : NodeId) (p : Process) (to : ℕ) (c : ClockState) → w ≡ old → process_at id w.processes ≡ Some p → p.crashed ≡ false → clocks_of w ≡ c →
-    live old id (ticks_at old to id) ≡ ticked_by (clock_step c (ClockTick (Node id) to)) w id to p.node
+    live old id (ticks_at old to id) ≡ ticked_by (clock_step c (ClockEvent.Tick (Node id) to)) w id to p.node
 node_tick_at w old id p to c same found runs clocks =
-    runs_is w old id p (λ (o : WorldState). ticks_at o to id) same found runs ∙ ap (λ (x : ClockState). ticked_by (clock_step x (ClockTick (Node id) to)) w id to p.node) clocks
+    runs_is w old id p (λ (o : WorldState). ticks_at o to id) same found runs ∙ ap (λ (x : ClockState). ticked_by (clock_step x (ClockEvent.Tick (Node id) to)) w id to p.node) clocks
 
 pub node_put : (id : NodeId) (p : Process) (ps entries : Processes) (after stepped : NodeState) → process_at id ps ≡ Some p → p.crashed ≡ false → IsStrictlySortedBy by_number (keys_of ps) → after ≡ stepped →
     entries ≡ set_value (is_at (by_number id)) ps (record { node = after; crashed = p.crashed }) → entries ≡ put_process id (record { node = stepped; crashed = false }) ps
@@ -184,7 +183,7 @@ node_put id p ps entries after stepped found runs sorted same put =
     ∙ set_is_put id (process_with false stepped) p ps sorted found
 
 pub node_ticked : (w old : WorldState) (id : NodeId) (p : Process) (to : ℕ) (c n : ClockState) (entries : Processes) (after : NodeState) (told : Told) (shown : Shown) → w ≡ old → process_at id w.processes ≡ Some p → p.crashed ≡ false → clocks_of w ≡ c →
-    clock_step c (ClockTick (Node id) to) ≡ Ok n → after ≡ (ticks p.node to).node → entries ≡ put_process id (record { node = (ticks p.node to).node; crashed = false }) w.processes → told ≡ report p.node after → shown ≡ rested id told →
+    clock_step c (ClockEvent.Tick (Node id) to) ≡ Ok n → after ≡ (ticks p.node to).node → entries ≡ put_process id (record { node = (ticks p.node to).node; crashed = false }) w.processes → told ≡ report p.node after → shown ≡ rested id told →
     live old id (ticks_at old to id) ≡ answer_with w entries w.managers n.paces w.letters w.views shown
 node_ticked w old id p to c n entries after told shown same found runs clocks is node put reports shows =
     let shows_it : shown ≡ rested id (report p.node (ticks p.node to).node) = shows ∙ ap (rested id) (reports ∙ ap (report p.node) node) in
@@ -207,12 +206,12 @@ manager_put m k p ms entries after stepped at runs same put =
 
 -- ---- the tick of a manager
 pub manager_tick_at : (w old : WorldState) (m : ℕ) (p : ManagerProcess) (to : ℕ) (c : ClockState) → w ≡ old → manager_at m w.managers ≡ Some p → p.crashed ≡ false → clocks_of w ≡ c →
-    live_manager old m (manager_ticks_at old to m) ≡ manager_ticked_by (clock_step c (ClockTick (Manager m) to)) w m to p.manager
+    live_manager old m (manager_ticks_at old to m) ≡ manager_ticked_by (clock_step c (ClockEvent.Tick (Manager m) to)) w m to p.manager
 manager_tick_at w old m p to c same found runs clocks =
-    manager_runs_is w old m p (λ (o : WorldState). manager_ticks_at o to m) same found runs ∙ ap (λ (x : ClockState). manager_ticked_by (clock_step x (ClockTick (Manager m) to)) w m to p.manager) clocks
+    manager_runs_is w old m p (λ (o : WorldState). manager_ticks_at o to m) same found runs ∙ ap (λ (x : ClockState). manager_ticked_by (clock_step x (ClockEvent.Tick (Manager m) to)) w m to p.manager) clocks
 
 pub manager_ticked_is : (w old : WorldState) (m : ℕ) (p : ManagerProcess) (to : ℕ) (c n : ClockState) (entries : List ManagerProcess) (shown : Shown) → w ≡ old → manager_at m w.managers ≡ Some p → p.crashed ≡ false → clocks_of w ≡ c →
-    clock_step c (ClockTick (Manager m) to) ≡ Ok n → entries ≡ put_manager m (record { manager = (manager_ticks p.manager to).manager; crashed = false }) w.managers → shown ≡ nothing →
+    clock_step c (ClockEvent.Tick (Manager m) to) ≡ Ok n → entries ≡ put_manager m (record { manager = (manager_ticks p.manager to).manager; crashed = false }) w.managers → shown ≡ nothing →
     live_manager old m (manager_ticks_at old to m) ≡ answer_with w w.processes entries n.paces w.letters w.views shown
 manager_ticked_is w old m p to c n entries shown same found runs clocks is put shows =
     manager_tick_at w old m p to c same found runs clocks ∙ ap (λ (r : Result ClockState ClockFault). manager_ticked_by r w m to p.manager) is
@@ -220,10 +219,10 @@ manager_ticked_is w old m p to c n entries shown same found runs clocks is put s
     ∙ ap (λ (s : Shown). answer_with w w.processes entries n.paces w.letters w.views s) (sym shows)
 
 -- ---- the tick of all
-pub all_tick_at : (w old : WorldState) (to : ℕ) (c : ClockState) → w ≡ old → clocks_of w ≡ c → all_tick old to ≡ all_ticked_by (clock_step c (ClockTickAll to)) w to
-all_tick_at w old to c same clocks = ap (λ (o : WorldState). all_tick o to) (sym same) ∙ ap (λ (x : ClockState). all_ticked_by (clock_step x (ClockTickAll to)) w to) clocks
+pub all_tick_at : (w old : WorldState) (to : ℕ) (c : ClockState) → w ≡ old → clocks_of w ≡ c → all_tick old to ≡ all_ticked_by (clock_step c (ClockEvent.TickAll to)) w to
+all_tick_at w old to c same clocks = ap (λ (o : WorldState). all_tick o to) (sym same) ∙ ap (λ (x : ClockState). all_ticked_by (clock_step x (ClockEvent.TickAll to)) w to) clocks
 
-pub all_ticked_is : (w old : WorldState) (to : ℕ) (c n : ClockState) (ps : Processes) (ms : List ManagerProcess) (shown : Shown) → w ≡ old → clocks_of w ≡ c → clock_step c (ClockTickAll to) ≡ Ok n →
+pub all_ticked_is : (w old : WorldState) (to : ℕ) (c n : ClockState) (ps : Processes) (ms : List ManagerProcess) (shown : Shown) → w ≡ old → clocks_of w ≡ c → clock_step c (ClockEvent.TickAll to) ≡ Ok n →
     ps ≡ map (process_ticked to) w.processes → ms ≡ map (manager_ticked to) w.managers → shown ≡ nothing → all_tick old to ≡ answer_with w ps ms n.paces w.letters w.views shown
 all_ticked_is w old to c n ps ms shown same clocks is p m shows =
     all_tick_at w old to c same clocks ∙ ap (λ (r : Result ClockState ClockFault). all_ticked_by r w to) is
@@ -237,35 +236,35 @@ pub crash_put : (id : NodeId) (p : Process) (ps entries : Processes) → process
 crash_put id p ps entries found sorted put = put ∙ set_is_put id (process_with true p.node) p ps sorted found
 
 pub crash_is : (w old : WorldState) (id : NodeId) (p : Process) (c n : ClockState) (entries : Processes) (shown : Shown) → w ≡ old → process_at id w.processes ≡ Some p → p.crashed ≡ false → clocks_of w ≡ c →
-    clock_step c (ClockStop (Node id)) ≡ Ok n → entries ≡ put_process id (record { node = p.node; crashed = true }) w.processes → shown ≡ nothing →
+    clock_step c (ClockEvent.Stop (Node id)) ≡ Ok n → entries ≡ put_process id (record { node = p.node; crashed = true }) w.processes → shown ≡ nothing →
     live old id (crashes_at old id) ≡ answer_with w entries w.managers n.paces w.letters w.views shown
 crash_is w old id p c n entries shown same found runs clocks is put shows =
     runs_is w old id p (λ (o : WorldState). crashes_at o id) same found runs
-    ∙ ap (λ (es : Processes). answer_with w es w.managers (paces_by w (ClockStop (Node id))) w.letters w.views nothing) (sym put)
-    ∙ ap (λ (x : Paces). answer_with w entries w.managers x w.letters w.views nothing) (paces_made w c n (ClockStop (Node id)) clocks is)
+    ∙ ap (λ (es : Processes). answer_with w es w.managers (paces_by w (ClockEvent.Stop (Node id))) w.letters w.views nothing) (sym put)
+    ∙ ap (λ (x : Paces). answer_with w entries w.managers x w.letters w.views nothing) (paces_made w c n (ClockEvent.Stop (Node id)) clocks is)
     ∙ ap (λ (s : Shown). answer_with w entries w.managers n.paces w.letters w.views s) (sym shows)
 
-pub crash_made : (w : WorldState) (id : NodeId) (node : NodeState) (c n : ClockState) (entries : Processes) → clocks_of w ≡ c → clock_step c (ClockStop (Node id)) ≡ Ok n → entries ≡ put_process id (record { node = node; crashed = true }) w.processes →
-    built w (put_process id (record { node = node; crashed = true }) w.processes) w.managers (paces_by w (ClockStop (Node id))) w.letters w.views w.calls ≡ built w entries w.managers n.paces w.letters w.views w.calls
+pub crash_made : (w : WorldState) (id : NodeId) (node : NodeState) (c n : ClockState) (entries : Processes) → clocks_of w ≡ c → clock_step c (ClockEvent.Stop (Node id)) ≡ Ok n → entries ≡ put_process id (record { node = node; crashed = true }) w.processes →
+    built w (put_process id (record { node = node; crashed = true }) w.processes) w.managers (paces_by w (ClockEvent.Stop (Node id))) w.letters w.views w.calls ≡ built w entries w.managers n.paces w.letters w.views w.calls
 crash_made w id node c n entries clocks is put =
-    ap (λ (es : Processes). built w es w.managers (paces_by w (ClockStop (Node id))) w.letters w.views w.calls) (sym put)
-    ∙ ap (λ (x : Paces). built w entries w.managers x w.letters w.views w.calls) (paces_made w c n (ClockStop (Node id)) clocks is)
+    ap (λ (es : Processes). built w es w.managers (paces_by w (ClockEvent.Stop (Node id))) w.letters w.views w.calls) (sym put)
+    ∙ ap (λ (x : Paces). built w entries w.managers x w.letters w.views w.calls) (paces_made w c n (ClockEvent.Stop (Node id)) clocks is)
 
 pub manager_crash_is : (w old : WorldState) (m : ℕ) (p : ManagerProcess) (c n : ClockState) (entries : List ManagerProcess) (shown : Shown) → w ≡ old → manager_at m w.managers ≡ Some p → p.crashed ≡ false → clocks_of w ≡ c →
-    clock_step c (ClockStop (Manager m)) ≡ Ok n → entries ≡ put_manager m (record { manager = p.manager; crashed = true }) w.managers → shown ≡ nothing →
+    clock_step c (ClockEvent.Stop (Manager m)) ≡ Ok n → entries ≡ put_manager m (record { manager = p.manager; crashed = true }) w.managers → shown ≡ nothing →
     live_manager old m (manager_crashes_at old m) ≡ answer_with w w.processes entries n.paces w.letters w.views shown
 manager_crash_is w old m p c n entries shown same found runs clocks is put shows =
     manager_runs_is w old m p (λ (o : WorldState). manager_crashes_at o m) same found runs
-    ∙ ap (λ (es : List ManagerProcess). answer_with w w.processes es (paces_by w (ClockStop (Manager m))) w.letters w.views nothing) (sym put)
-    ∙ ap (λ (x : Paces). answer_with w w.processes entries x w.letters w.views nothing) (paces_made w c n (ClockStop (Manager m)) clocks is)
+    ∙ ap (λ (es : List ManagerProcess). answer_with w w.processes es (paces_by w (ClockEvent.Stop (Manager m))) w.letters w.views nothing) (sym put)
+    ∙ ap (λ (x : Paces). answer_with w w.processes entries x w.letters w.views nothing) (paces_made w c n (ClockEvent.Stop (Manager m)) clocks is)
     ∙ ap (λ (s : Shown). answer_with w w.processes entries n.paces w.letters w.views s) (sym shows)
 
-pub manager_crash_made : (w : WorldState) (m : ℕ) (manager : ManagerState) (c n : ClockState) (entries : List ManagerProcess) → clocks_of w ≡ c → clock_step c (ClockStop (Manager m)) ≡ Ok n →
+pub manager_crash_made : (w : WorldState) (m : ℕ) (manager : ManagerState) (c n : ClockState) (entries : List ManagerProcess) → clocks_of w ≡ c → clock_step c (ClockEvent.Stop (Manager m)) ≡ Ok n →
     entries ≡ put_manager m (record { manager = manager; crashed = true }) w.managers →
-    built w w.processes (put_manager m (record { manager = manager; crashed = true }) w.managers) (paces_by w (ClockStop (Manager m))) w.letters w.views w.calls ≡ built w w.processes entries n.paces w.letters w.views w.calls
+    built w w.processes (put_manager m (record { manager = manager; crashed = true }) w.managers) (paces_by w (ClockEvent.Stop (Manager m))) w.letters w.views w.calls ≡ built w w.processes entries n.paces w.letters w.views w.calls
 manager_crash_made w m manager c n entries clocks is put =
-    ap (λ (es : List ManagerProcess). built w w.processes es (paces_by w (ClockStop (Manager m))) w.letters w.views w.calls) (sym put)
-    ∙ ap (λ (x : Paces). built w w.processes entries x w.letters w.views w.calls) (paces_made w c n (ClockStop (Manager m)) clocks is)
+    ap (λ (es : List ManagerProcess). built w w.processes es (paces_by w (ClockEvent.Stop (Manager m))) w.letters w.views w.calls) (sym put)
+    ∙ ap (λ (x : Paces). built w w.processes entries x w.letters w.views w.calls) (paces_made w c n (ClockEvent.Stop (Manager m)) clocks is)
 
 -- ---- a manager's step
 pub manages_at : (w old : WorldState) (m : ℕ) (p : ManagerProcess) (event : ManagerEvent) → w ≡ old → manager_at m w.managers ≡ Some p → p.crashed ≡ false → manages old m event ≡ manager_acts w m (manager_step p.manager event)
@@ -291,28 +290,28 @@ manages_made w m mid out entries letters views put sent learns =
 
 -- ---- starts
 abbrev starting : WorldState → NodeId → Bool → Result Accepted Refused
-starting w id may = cond may (answer_with w (put_process id (joining w id) w.processes) w.managers (paces_by w (ClockStart (Node id) (greatest_clock 1 w.paces))) w.letters w.views nothing) (Err NotMember)
+starting w id may = cond may (answer_with w (put_process id (joining w id) w.processes) w.managers (paces_by w (ClockEvent.Start (Node id) (greatest_clock 1 w.paces))) w.letters w.views nothing) (Err NotMember)
 
 pub start_is : (w old : WorldState) (id : NodeId) (clock : ℕ) (process : Process) (c n : ClockState) (entries : Processes) (shown : Shown) → w ≡ old → process_at id w.processes ≡ None → may_join w id ≡ true → clocks_of w ≡ c →
-    clock ≡ greatest_clock 1 w.paces → process ≡ joined id w.skew (length w.managers) clock → entries ≡ put_process id process w.processes → clock_step c (ClockStart (Node id) clock) ≡ Ok n → shown ≡ nothing →
+    clock ≡ greatest_clock 1 w.paces → process ≡ joined id w.skew (length w.managers) clock → entries ≡ put_process id process w.processes → clock_step c (ClockEvent.Start (Node id) clock) ≡ Ok n → shown ≡ nothing →
     starts_at (process_at id old.processes) old id ≡ answer_with w entries w.managers n.paces w.letters w.views shown
 start_is w old id clock process c n entries shown same none may clocks reads joins put is shows =
     let joins_it : entries ≡ put_process id (joining w id) w.processes = put ∙ ap (λ (p : Process). put_process id p w.processes) (joins ∙ ap (joined id w.skew (length w.managers)) reads) in
-    let started : paces_by w (ClockStart (Node id) (greatest_clock 1 w.paces)) ≡ n.paces = ap (λ (k : ℕ). paces_by w (ClockStart (Node id) k)) (sym reads) ∙ paces_made w c n (ClockStart (Node id) clock) clocks is in
+    let started : paces_by w (ClockEvent.Start (Node id) (greatest_clock 1 w.paces)) ≡ n.paces = ap (λ (k : ℕ). paces_by w (ClockEvent.Start (Node id) k)) (sym reads) ∙ paces_made w c n (ClockEvent.Start (Node id) clock) clocks is in
     ap (λ (o : WorldState). starts_at (process_at id o.processes) o id) (sym same)
     ∙ ap (λ (o : Option Process). starts_at o w id) none
     ∙ ap (starting w id) may
-    ∙ ap (λ (x : Processes). answer_with w x w.managers (paces_by w (ClockStart (Node id) (greatest_clock 1 w.paces))) w.letters w.views nothing) (sym joins_it)
+    ∙ ap (λ (x : Processes). answer_with w x w.managers (paces_by w (ClockEvent.Start (Node id) (greatest_clock 1 w.paces))) w.letters w.views nothing) (sym joins_it)
     ∙ ap (λ (x : Paces). answer_with w entries w.managers x w.letters w.views nothing) started
     ∙ ap (λ (s : Shown). answer_with w entries w.managers n.paces w.letters w.views s) (sym shows)
 
 pub start_made : (w : WorldState) (id : NodeId) (clock : ℕ) (process : Process) (c n : ClockState) (entries : Processes) → clocks_of w ≡ c → clock ≡ greatest_clock 1 w.paces → process ≡ joined id w.skew (length w.managers) clock →
-    entries ≡ put_process id process w.processes → clock_step c (ClockStart (Node id) clock) ≡ Ok n →
-    built w (put_process id (joining w id) w.processes) w.managers (paces_by w (ClockStart (Node id) (greatest_clock 1 w.paces))) w.letters w.views w.calls ≡ built w entries w.managers n.paces w.letters w.views w.calls
+    entries ≡ put_process id process w.processes → clock_step c (ClockEvent.Start (Node id) clock) ≡ Ok n →
+    built w (put_process id (joining w id) w.processes) w.managers (paces_by w (ClockEvent.Start (Node id) (greatest_clock 1 w.paces))) w.letters w.views w.calls ≡ built w entries w.managers n.paces w.letters w.views w.calls
 start_made w id clock process c n entries clocks reads joins put is =
     let joins_it : entries ≡ put_process id (joining w id) w.processes = put ∙ ap (λ (p : Process). put_process id p w.processes) (joins ∙ ap (joined id w.skew (length w.managers)) reads) in
-    ap (λ (x : Processes). built w x w.managers (paces_by w (ClockStart (Node id) (greatest_clock 1 w.paces))) w.letters w.views w.calls) (sym joins_it)
-    ∙ ap (λ (x : Paces). built w entries w.managers x w.letters w.views w.calls) (ap (λ (k : ℕ). paces_by w (ClockStart (Node id) k)) (sym reads) ∙ paces_made w c n (ClockStart (Node id) clock) clocks is)
+    ap (λ (x : Processes). built w x w.managers (paces_by w (ClockEvent.Start (Node id) (greatest_clock 1 w.paces))) w.letters w.views w.calls) (sym joins_it)
+    ∙ ap (λ (x : Paces). built w entries w.managers x w.letters w.views w.calls) (ap (λ (k : ℕ). paces_by w (ClockEvent.Start (Node id) k)) (sym reads) ∙ paces_made w c n (ClockEvent.Start (Node id) clock) clocks is)
 
 -- given up again
 pub start_back : (id : NodeId) (process : Process) (ps put out : Processes) → process_at id ps ≡ None → put ≡ put_process id process ps → out ≡ remove_entry (is_at (by_number id)) put → out ≡ ps

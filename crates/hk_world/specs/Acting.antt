@@ -3,11 +3,11 @@ use Rattle.std.specs.Prelude.{ℕ, Option, Some, None, Result, Ok, Err, if◌the
 use Rattle.hk_base.specs.declared.stamp.NodeId.{NodeId}
 use Rattle.hk_base.specs.declared.call.CallNo.{CallNo}
 use Rattle.hk_manager.specs.declared.event.ManagerEvent.{ManagerEvent}
-use Rattle.hk_manager.specs.declared.event.ManagerEvent.TheVariants.{Tick as ManagerTick}
-use Rattle.hk_manager.specs.Sound.{IsEvent as IsManagerEvent}
+use Rattle.hk_manager.specs.declared.event.ManagerEvent.TheVariants as ManagerEvent
+use Rattle.hk_manager.specs.Sound.{IsManagerEvent}
 use Rattle.hk_node.specs.declared.event.NodeEvent.{NodeEvent}
-use Rattle.hk_node.specs.declared.event.NodeEvent.TheVariants.{Tick as NodeTick}
-use Rattle.hk_node.specs.Sound.{IsEvent as IsNodeEvent}
+use Rattle.hk_node.specs.declared.event.NodeEvent.TheVariants as NodeEvent
+use Rattle.hk_node.specs.Sound.{IsNodeEvent}
 use Rattle.hk_node.specs.Node.{NodeState}
 use Rattle.hk_node.specs.Steps.{node_step}
 use Rattle.hk_world.specs.declared.process.Process.{Process}
@@ -37,9 +37,9 @@ running (Some process) = if process.crashed then Err Crashed else Ok process.nod
 
 -- an event by which a node, or a manager, acts: any that is in range but a tick, which is a matter of all clocks
 abbrev pub IsAct : NodeEvent → Type 0
-IsAct (NodeTick now) = ⊥
+IsAct (NodeEvent.Tick now) = ⊥
 IsAct event = IsNodeEvent event
 
 abbrev pub IsManagerAct : ManagerEvent → Type 0
-IsManagerAct (ManagerTick now) = ⊥
+IsManagerAct (ManagerEvent.Tick now) = ⊥
 IsManagerAct event = IsManagerEvent event

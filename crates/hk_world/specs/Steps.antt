@@ -14,16 +14,15 @@ use Rattle.hk_base.specs.declared.letter.Actor.{Actor}
 use Rattle.hk_base.specs.declared.letter.Actor.TheVariants.{Node, Manager}
 use Rattle.hk_base.specs.declared.letter.Letter.{Letter}
 use Rattle.hk_clocks.specs.declared.fault.ClockFault.{ClockFault}
-use Rattle.hk_clocks.specs.declared.fault.ClockFault.TheVariants.{Memory as NoMemory, Live, NotLive, ClockFalls as Falls, Skew as RunsAhead}
+use Rattle.hk_clocks.specs.declared.fault.ClockFault.TheVariants as ClockFault
 use Rattle.hk_clocks.specs.Clocks.{ClockState}
 use Rattle.hk_clocks.specs.Steps.{ClockEvent, clock_step, greatest_clock}
-use Rattle.hk_clocks.specs.Steps.ClockEvent.{Start as ClockStart, Stop as ClockStop, Tick as ClockTick, TickAll as ClockTickAll}
 use Rattle.hk_manager.specs.declared.event.ManagerEvent.{ManagerEvent}
-use Rattle.hk_manager.specs.declared.event.ManagerEvent.TheVariants.{Propose as Proposal, Receive as Receipt, Activate as Activation}
+use Rattle.hk_manager.specs.declared.event.ManagerEvent.TheVariants as ManagerEvent
 use Rattle.hk_manager.specs.declared.fault.ManagerFault.{ManagerFault}
-use Rattle.hk_manager.specs.declared.fault.ManagerFault.TheVariants.{Memory as Wanting, Behind as HeldBehind, NoSuchMember as NoMember, LastMember as OnlyMember, Full as ViewFull, NoNumbers as NumbersGiven, NotPast as StillRuns}
+use Rattle.hk_manager.specs.declared.fault.ManagerFault.TheVariants as ManagerFault
 use Rattle.hk_manager.specs.Manager.{ManagerState}
-use Rattle.hk_manager.specs.Steps.{Stepped as ManagerStepped, manager_step, ticks as manager_ticks}
+use Rattle.hk_manager.specs.Steps.{ManagerStepped, manager_step, manager_ticks}
 use Rattle.hk_node.specs.Node.{NodeState, epoch_of, is_member}
 use Rattle.hk_node.specs.Made.{joiner}
 use Rattle.hk_node.specs.Stepped.{Stepped, replies_of}
@@ -114,13 +113,13 @@ live world id step = live_at (process_at id world.processes) step
 -- ---- a manager's step
 -- why a manager does not make a step; none is for want of memory
 abbrev pub manager_refusal : ManagerFault → Refused
-manager_refusal (HeldBehind held) = Behind held
-manager_refusal NoMember = NoSuchMember
-manager_refusal OnlyMember = LastMember
-manager_refusal ViewFull = Full
-manager_refusal NumbersGiven = NoNumbers
-manager_refusal (StillRuns node end) = NotPast node end
-manager_refusal Wanting = NoActor
+manager_refusal (ManagerFault.Behind held) = Behind held
+manager_refusal ManagerFault.NoSuchMember = NoSuchMember
+manager_refusal ManagerFault.LastMember = LastMember
+manager_refusal ManagerFault.Full = Full
+manager_refusal ManagerFault.NoNumbers = NoNumbers
+manager_refusal (ManagerFault.NotPast node end) = NotPast node end
+manager_refusal ManagerFault.Memory = NoActor
 
 -- A view that a manager holds is learned where no view of its epoch or of a greater one was.
 abbrev pub learned : List View → View → List View
@@ -187,16 +186,16 @@ calls_at world id key op node =
 -- a letter is taken by its addressee, whoever sent it and however often it was taken
 abbrev pub takes : WorldState → Option Letter → Result Accepted Refused
 takes world None = Err NoLetter
-takes world (Some letter) = live_actor world letter.to (λ id node. acts world id node (receives node letter)) (λ m manager. manager_acts world m (manager_step manager (Receipt letter)))
+takes world (Some letter) = live_actor world letter.to (λ id node. acts world id node (receives node letter)) (λ m manager. manager_acts world m (manager_step manager (ManagerEvent.Receive letter)))
 
 -- ---- clocks
 -- Why clocks stay as they are. A live actor has a clock, and one that starts has none, so the other faults do not come.
 abbrev pub clock_refusal : ClockFault → Refused
-clock_refusal (Falls clock) = ClockFalls clock
-clock_refusal (RunsAhead to other) = Skew to other
-clock_refusal NotLive = NoActor
-clock_refusal Live = NoActor
-clock_refusal NoMemory = NoActor
+clock_refusal (ClockFault.ClockFalls clock) = ClockFalls clock
+clock_refusal (ClockFault.Skew to other) = Skew to other
+clock_refusal ClockFault.NotLive = NoActor
+clock_refusal ClockFault.Live = NoActor
+clock_refusal ClockFault.Memory = NoActor
 
 -- where the clocks of all let it rise, a node's clock is `to`
 abbrev pub ticked_by : Result ClockState ClockFault → WorldState → NodeId → ℕ → NodeState → Result Accepted Refused
@@ -204,7 +203,7 @@ ticked_by (Ok clocks) world id to node = Ok (record (acts_for world id None node
 ticked_by (Err fault) world id to node = Err (clock_refusal fault)
 
 abbrev pub ticks_at : WorldState → ℕ → NodeId → NodeState → Result Accepted Refused
-ticks_at world to id node = ticked_by (clock_step (clocks_of world) (ClockTick (Node id) to)) world id to node
+ticks_at world to id node = ticked_by (clock_step (clocks_of world) (ClockEvent.Tick (Node id) to)) world id to node
 
 -- and a manager's
 abbrev pub manager_ticked_by : Result ClockState ClockFault → WorldState → ℕ → ℕ → ManagerState → Result Accepted Refused
@@ -213,7 +212,7 @@ manager_ticked_by (Ok clocks) world m to manager =
 manager_ticked_by (Err fault) world m to manager = Err (clock_refusal fault)
 
 abbrev pub manager_ticks_at : WorldState → ℕ → ℕ → ManagerState → Result Accepted Refused
-manager_ticks_at world to m manager = manager_ticked_by (clock_step (clocks_of world) (ClockTick (Manager m) to)) world m to manager
+manager_ticks_at world to m manager = manager_ticked_by (clock_step (clocks_of world) (ClockEvent.Tick (Manager m) to)) world m to manager
 
 abbrev pub is_live : NodeId × Process → Bool
 is_live p = not p.1.crashed
@@ -231,16 +230,16 @@ all_ticked_by (Ok clocks) world to =
 all_ticked_by (Err fault) world to = Err (clock_refusal fault)
 
 abbrev pub all_tick : WorldState → ℕ → Result Accepted Refused
-all_tick world to = all_ticked_by (clock_step (clocks_of world) (ClockTickAll to)) world to
+all_tick world to = all_ticked_by (clock_step (clocks_of world) (ClockEvent.TickAll to)) world to
 
 -- ---- crashes and starts
 abbrev pub crashes_at : WorldState → NodeId → NodeState → Result Accepted Refused
 crashes_at world id node =
-    aside (record world { processes = put_process id (record { node = node; crashed = true }) world.processes; paces = paces_by world (ClockStop (Node id)) }) nothing
+    aside (record world { processes = put_process id (record { node = node; crashed = true }) world.processes; paces = paces_by world (ClockEvent.Stop (Node id)) }) nothing
 
 abbrev pub manager_crashes_at : WorldState → ℕ → ManagerState → Result Accepted Refused
 manager_crashes_at world m manager =
-    aside (record world { managers = put_manager m (record { manager = manager; crashed = true }) world.managers; paces = paces_by world (ClockStop (Manager m)) }) nothing
+    aside (record world { managers = put_manager m (record { manager = manager; crashed = true }) world.managers; paces = paces_by world (ClockEvent.Stop (Manager m)) }) nothing
 
 -- a joiner's clock starts at the greatest of a live actor, or at 1
 abbrev pub joining : WorldState → NodeId → Process
@@ -254,7 +253,7 @@ abbrev pub starts_at : Option Process → WorldState → NodeId → Result Accep
 starts_at (Some process) world id = Err Started
 starts_at None world id =
     if may_join world id
-    then aside (record world { processes = put_process id (joining world id) world.processes; paces = paces_by world (ClockStart (Node id) (greatest_clock 1 world.paces)) }) nothing
+    then aside (record world { processes = put_process id (joining world id) world.processes; paces = paces_by world (ClockEvent.Start (Node id) (greatest_clock 1 world.paces)) }) nothing
     else Err NotMember
 
 -- ---- views and leases of a group without managers
@@ -320,5 +319,5 @@ world_step world (Install id epoch) = unmanaged world.managers (live world id (�
 world_step world (Lease id end) = unmanaged world.managers (live world id (leases_at world id end))
 -- a manager that is not there is asked for nothing
 world_step world (AskLease id manager) = live world id (λ node. acts world id node (asks_lease node manager))
-world_step world (Propose manager base change) = manages world manager (Proposal base change)
-world_step world (Activate manager) = manages world manager Activation
+world_step world (Propose manager base change) = manages world manager (ManagerEvent.Propose base change)
+world_step world (Activate manager) = manages world manager ManagerEvent.Activate

@@ -9,7 +9,7 @@ use Rattle.hk_node.specs.Node.{is_member}
 use Rattle.hk_world.specs.declared.refused.Refused.{Refused}
 use Rattle.hk_world.specs.declared.refused.Refused.TheVariants.{NoSuchMember, LastMember, Full, NoNumbers}
 use Rattle.hk_world.specs.declared.refused.WorldFault.{WorldFault}
-use Rattle.hk_world.specs.declared.refused.WorldFault.TheVariants.{Memory, Refused as Refusal}
+use Rattle.hk_world.specs.declared.refused.WorldFault.TheVariants as WorldFault
 use Rattle.hk_world.specs.World.{numbered}
 
 abbrev pub dropped : View → NodeId → View
@@ -30,8 +30,8 @@ next_of view Add =
 -- what the code answers for the next view: want of memory says nothing of it
 abbrev pub IsNextOf : Result View WorldFault → Result View Refused → Type 0
 IsNextOf (Ok view) made = made ≡ Ok view
-IsNextOf (Err Memory) made = ⊤
-IsNextOf (Err (Refusal refused)) made = made ≡ Err refused
+IsNextOf (Err WorldFault.Memory) made = ⊤
+IsNextOf (Err (WorldFault.Refused refused)) made = made ≡ Err refused
 
 abbrev pub next_in : Option View → ℕ
 next_in None = 0

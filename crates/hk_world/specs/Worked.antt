@@ -7,7 +7,7 @@ use Rattle.hk_base.specs.declared.call.Op.{Op}
 use Rattle.hk_base.specs.declared.call.Op.TheVariants.{Read, Write, Incr}
 use Rattle.hk_base.specs.declared.call.Answer.{Answer}
 use Rattle.hk_base.specs.declared.call.Answer.TheVariants.{Found, Stored, Number, Busy, Aborted}
-use Rattle.hk_base.specs.declared.call.Why.TheVariants.{Lease as OfLease, Row as OfRow}
+use Rattle.hk_base.specs.declared.call.Why.TheVariants as Why
 use Rattle.hk_base.specs.declared.call.State.TheVariants.{Invalid}
 use Rattle.hk_base.specs.declared.call.Reply.{Reply}
 use Rattle.hk_base.specs.declared.letter.Actor.TheVariants.{Node}
@@ -82,12 +82,12 @@ AloneAnswers = tells (start (group 1 0)) (call 0 (Write content) ∷ call 0 Read
 -- A write of node 0 is answered after both acknowledgements. Before the VAL the others are Busy, afterwards they read it.
 abbrev pub OthersRead : Type 0
 OthersRead = tells (start (group 3 0)) (call 0 (Write content) ∷ take 1 ∷ call 1 Read ∷ take 2 ∷ take 3 ∷ take 4 ∷ take 5 ∷ call 1 Read ∷ call 2 Read ∷ []) ≡
-    quiet ∷ quiet ∷ says 2 (Busy (OfRow Invalid (stamp 2 0))) ∷ quiet ∷ quiet ∷ says 1 Stored ∷ quiet ∷ says 3 (Found content 131072) ∷ says 4 (Busy (OfRow Invalid (stamp 2 0))) ∷ []
+    quiet ∷ quiet ∷ says 2 (Busy (Why.Row Invalid (stamp 2 0))) ∷ quiet ∷ quiet ∷ says 1 Stored ∷ quiet ∷ says 3 (Found content 131072) ∷ says 4 (Busy (Why.Row Invalid (stamp 2 0))) ∷ []
 
 -- Node 1 wrote above the update of node 0 before it acknowledged it: that completes and is answered, and its key is Invalid.
 abbrev pub HigherTopLeavesInvalid : Type 0
 HigherTopLeavesInvalid = tells (start (group 3 0)) (call 0 (Write content) ∷ call 1 (Write content) ∷ take 1 ∷ take 2 ∷ take 5 ∷ take 6 ∷ call 2 (Incr 1) ∷ call 0 Read ∷ []) ≡
-    quiet ∷ quiet ∷ quiet ∷ quiet ∷ quiet ∷ says 1 Stored ∷ says 3 (Busy (OfRow Invalid (stamp 2 0))) ∷ says 4 (Busy (OfRow Invalid (stamp 2 0))) ∷ []
+    quiet ∷ quiet ∷ quiet ∷ quiet ∷ quiet ∷ says 1 Stored ∷ says 3 (Busy (Why.Row Invalid (stamp 2 0))) ∷ says 4 (Busy (Why.Row Invalid (stamp 2 0))) ∷ []
 
 abbrev pub five : Content
 five = record { flags = 0; bytes = 53 ∷ [] }
@@ -106,7 +106,7 @@ ReplayCompletes = tells (start (group 3 0)) (call 0 (Write content) ∷ take 1 �
 -- The lease of a node that a view leaves out runs for one millisecond more: its install waits, and the node is granted no other.
 abbrev pub LeaseRunsOut : Type 0
 LeaseRunsOut = tells (start (group 2 10)) (Agree (Drop (node 1)) ∷ TickAll 990 ∷ Install (node 0) 2 ∷ TickAll 991 ∷ Install (node 0) 2 ∷ call 1 Read ∷ Lease (node 1) 3000 ∷ []) ≡
-    quiet ∷ quiet ∷ Err (LeaseRuns (node 1) 1000) ∷ quiet ∷ quiet ∷ says 1 (Busy (OfLease 1000 991)) ∷ Err NotMember ∷ []
+    quiet ∷ quiet ∷ Err (LeaseRuns (node 1) 1000) ∷ quiet ∷ quiet ∷ says 1 (Busy (Why.Lease 1000 991)) ∷ Err NotMember ∷ []
 
 -- A clock does not run ahead of another by more than the skew beside one part in ten: where node 1 has gone by 10, node 0 may go by 11
 -- more, less what it is ahead.
@@ -118,7 +118,7 @@ ClocksKeepTheRate = tells (start (group 2 10)) (tick 0 11 ∷ tick 1 12 ∷ tick
 abbrev pub JoinerCopies : Type 0
 JoinerCopies = tells (start (group 1 0)) (call 0 (Write content) ∷ Agree Add ∷ Start (node 1) ∷ Lease (node 1) 1000 ∷ Install (node 1) 2 ∷ Install (node 0) 2
     ∷ call 1 Read ∷ Copy (node 1) (node 0) 9 ∷ take 1 ∷ take 2 ∷ call 1 Read ∷ []) ≡
-    says 1 Stored ∷ quiet ∷ quiet ∷ quiet ∷ quiet ∷ quiet ∷ says 2 (Busy (OfLease 0 1)) ∷ quiet ∷ quiet ∷ quiet ∷ says 3 (Found content 131072) ∷ []
+    says 1 Stored ∷ quiet ∷ quiet ∷ quiet ∷ quiet ∷ quiet ∷ says 2 (Busy (Why.Lease 0 1)) ∷ quiet ∷ quiet ∷ quiet ∷ says 3 (Found content 131072) ∷ []
 
 -- A manager proposes to drop node 1, and by its own promise and acceptance the view is chosen. It lets it begin once its clock is
 -- past the wait for the lease of node 1, which has run out there. Node 0 installs it, gets a lease, and answers alone.
@@ -126,4 +126,4 @@ abbrev pub ManagersChangeTheView : Type 0
 ManagersChangeTheView = tells (start (managed 2 1 10)) (Agree (Drop (node 1)) ∷ Propose 0 1 (Drop (node 1)) ∷ take 1 ∷ take 2 ∷ take 3 ∷ take 4 ∷ TickAll 1100 ∷ Activate 0
     ∷ TickAll 1101 ∷ Activate 0 ∷ take 5 ∷ AskLease (node 0) 0 ∷ take 6 ∷ take 7 ∷ call 0 (Write content) ∷ call 1 Read ∷ []) ≡
     Err Managed ∷ quiet ∷ quiet ∷ quiet ∷ quiet ∷ quiet ∷ quiet ∷ Err (NotPast (node 1) 1100)
-    ∷ quiet ∷ quiet ∷ quiet ∷ quiet ∷ quiet ∷ quiet ∷ says 1 Stored ∷ says 2 (Busy (OfLease 1000 1101)) ∷ []
+    ∷ quiet ∷ quiet ∷ quiet ∷ quiet ∷ quiet ∷ quiet ∷ says 1 Stored ∷ says 2 (Busy (Why.Lease 1000 1101)) ∷ []

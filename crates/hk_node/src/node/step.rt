@@ -3,7 +3,7 @@
 ghost use Rattle.std.specs.Prelude.{◌≡◌, ◌≤◌, false, IsOk, IfOk, OnOk, OnErr};
 ghost use Rattle.hk_base.specs.declared.time.TheConstants.{MAX_TIME};
 ghost use Rattle.hk_node.specs.Steps.{node_step, ticks, grants};
-ghost use Rattle.hk_node.specs.Sound.{IsEvent, takes_memory};
+ghost use Rattle.hk_node.specs.Sound.{IsNodeEvent, takes_memory};
 ghost use Rattle.hk_node.specs.Outs.{IsOutOf};
 
 use super::Node;
@@ -38,7 +38,7 @@ impl Node {
 
     /// Makes the step of an event. The steps of a clock and of a lease take no memory.
     pub fn step(&mut self, alloc: Global, event: &NodeEvent) -> Result<NodeOut, Memory>
-        requires { IsEvent event.now }
+        requires { IsNodeEvent event.now }
         ensures node { OnOk result (self.new ≡ (node_step self.old event.now).node) }
         ensures out { IfOk result (λ out. IsOutOf out self.old (node_step self.old event.now)) }
         ensures err { OnErr result (self.new ≡ self.old) }

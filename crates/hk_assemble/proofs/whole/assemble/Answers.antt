@@ -1,7 +1,7 @@
 use Rattle.std.proofs.Common.{rules, ◌≡◌, List, Err, map, sym, subst}
 use Rattle.hk_merge.specs.Merged.{Item, AreMerged}
 use Rattle.hk_merge.specs.Placed.{item_of, merged}
-use Rattle.hk_assemble.specs.declared.gap.Gap.TheVariants as G
+use Rattle.hk_assemble.specs.declared.gap.Gap.TheVariants as Gap
 use Rattle.hk_assemble.specs.Assemblies.{IsOn}
 use Rattle.hk_assemble.specs.Assembled.{IsAssembled}
 use Rattle.hk_assemble.proofs.Assembling.{gap_is, run_is, failed_is}
@@ -11,7 +11,7 @@ pub returns-in_err-slots : goal.returns-in_err-slots
 returns-in_err-slots c =
     let journals = c.args.journals.now in
     let notes = c.args.notes.now in
-    let told : c.from_residual.result ≡ Err G.Memory = search rules in
+    let told : c.from_residual.result ≡ Err Gap.Memory = search rules in
     subst (λ r. IsAssembled r c.args.header c.args.journals.now c.args.notes.now) (sym told) (merged journals notes, c.merge_is_merged.ensures journals notes c.requires.rising, tt)
 
 pub returns-in_err-assembly : goal.returns-in_err-assembly

@@ -2,7 +2,7 @@ use Rattle.std.proofs.Common.{◌≡◌, ◌+◌, ◌∷◌, [], List, ◌++◌,
 use Rattle.std.specs.List.{AllByRecursion}
 use Rattle.std.proofs.lemmas.List.{at_drop_more, at_drop_all}
 use Rattle.hk_node.specs.Node.{NodeState}
-use Rattle.hk_node.specs.Sound.{IsEvent}
+use Rattle.hk_node.specs.Sound.{IsNodeEvent}
 use Rattle.hk_journal.specs.declared.step_entry.JournalEntry.{JournalEntry}
 use Rattle.hk_place.specs.Past.{tickets_in, tickets_of}
 use Rattle.hk_place.proofs.Noting.{GoesOn, goes_on}
@@ -20,7 +20,7 @@ loop-entry-preserved c =
     let goes : GoesOn base all l.kept.entries l.node (entry ∷ rest) = subst (GoesOn base all l.kept.entries l.node) left l.invariant.0 in (
       subst (λ (n : NodeState). GoesOn base all c.repeat.new.kept.entries n rest) (sym c.in_ok-repeat.ensures.node)
           (goes_on base all l.kept.entries c.repeat.new.kept.entries l.node entry rest goes c.in_ok-repeat.ensures.noted),
-      (subst (AllByRecursion (λ (e : JournalEntry). IsEvent e.event)) left l.invariant.1).1,
+      (subst (AllByRecursion (λ (e : JournalEntry). IsNodeEvent e.event)) left l.invariant.1).1,
     )
 
 pub returns : goal.returns

@@ -1,7 +1,7 @@
 use Rattle.std.proofs.Common.{rules, ◌≡◌, ◌<◌, ◌+◌, List, Err, length, get_or, take, sym, subst}
 use Rattle.std.specs.Prelude.{IfErr}
 use Rattle.hk_safety.specs.Run.{RunState}
-use Rattle.hk_assemble.specs.declared.gap.Gap.TheVariants as G
+use Rattle.hk_assemble.specs.declared.gap.Gap.TheVariants as Gap
 use Rattle.hk_storm.specs.Concluded.{AreAssembled, IsFirstUnfit}
 use Rattle.hk_storm.proofs.Concluding.{group_at, came_more, first_unfit, first_wanting}
 use Rattle.hk_storm.proofs.follow.follow_all.Goals as goal
@@ -30,7 +30,7 @@ pub returns-in_err-put_run-clause-unfit : goal.returns-in_err-put_run-clause-unf
 returns-in_err-put_run-clause-unfit c =
     let within : c.loop-group.group-index < length c.args.groups.now = search rules in
     let is : c.group-item.result ≡ get_or c.args.groups.now c.loop-group.group-index c.group-item.result = search rules in
-    let told : c.from_residual-in_err-put_run.result ≡ Err G.Memory = search rules in
+    let told : c.from_residual-in_err-put_run.result ≡ Err Gap.Memory = search rules in
     subst (λ r. IfErr r (λ gap. IsFirstUnfit c.args.header c.args.groups.now gap)) (sym told)
     (first_wanting c.args.header c.args.groups.now c.loop-group.group-index c.group-item.result c.loop-group.runs.items within is c.loop-group.invariant c.in_ok-run.run' c.in_ok-run.ensures)
 

@@ -2,7 +2,7 @@ use Rattle.std.proofs.Common.{rules, ◌≡◌, ◌∙◌, ◌&&◌, sym, ap, su
 use Rattle.hk_node.specs.Node.{NodeState, epoch_of, is_member}
 use Rattle.hk_node.specs.Steps.{installs}
 use Rattle.hk_node.specs.declared.out.NodeOut.{NodeOut}
-use Rattle.hk_node.specs.declared.report.Undo.TheVariants.{View as Viewed}
+use Rattle.hk_node.specs.declared.report.Undo.TheVariants as Undo
 use Rattle.hk_node.specs.Outs.{IsOutOf}
 use Rattle.std.specs.List.{flat_map}
 use Rattle.hk_node.specs.Viewed.{view_new}
@@ -51,7 +51,7 @@ returns-clause-out c = let told : NodeOut = record {
   replies = c.in_ok-viewed.viewed.replies;
   installed = Some c.args.view.now.epoch;
   report = record { epoch = c.epoch-epoch.result; readied = false; rows = c.in_ok-viewed.viewed.prior };
-  undo = Viewed c.replace-view_before.result c.replace-activated_before.result;
+  undo = Undo.View c.replace-view_before.result c.replace-activated_before.result;
 } in
     subst (λ (n : NodeState). IsOutOf told n (installs (record n { activated = c.args.activated }) c.args.view.now)) c.self.view_is
     (install_out _ c.args.view.now c.self.invariant.node c.requires.view

@@ -2,7 +2,7 @@ use Rattle.std.proofs.Common.{◌≡◌, ℕ, Some, Ok, false, true, [], refl, s
 use Rattle.hk_base.specs.declared.letter.Actor.TheVariants.{Manager}
 use Rattle.hk_clocks.specs.Clocks.{ClockState}
 use Rattle.hk_clocks.specs.Steps.{clock_step}
-use Rattle.hk_clocks.specs.Steps.ClockEvent.{Stop as ClockEvent}
+use Rattle.hk_clocks.specs.Steps.{ClockEvent}
 use Rattle.hk_world.specs.declared.process.ManagerProcess.{ManagerProcess}
 use Rattle.hk_world.specs.World.{WorldState, manager_at, put_manager, clocks_of}
 use Rattle.hk_world.specs.Steps.{manager_crashes_at}
@@ -38,7 +38,7 @@ returns-in_err-stop c =
     let found : manager_at c.args.manager w.managers ≡ Some p = ap (λ (k : ℕ). manager_at k w.managers) (sym c.from.ensures) ∙ get_found c.from.result w.managers p (omega (arith, c.in-Some.ensures.variant.0 refl, c.self.inside.managers.ok.0)) (sym c.in-Some.ensures.value) in
     let kept : slice_set w.managers c.from.result p ≡ w.managers = ap (λ (k : ℕ). slice_set w.managers k p) c.from.ensures ∙ set_back c.args.manager p w.managers found in
     let still : c.stop.new.self ≡ c.self.inside.clocks = clock_kept c.in_err-stop.field-0.0 c.self.inside.clocks c.stop.new.self _ c.in_err-stop.ensures in
-    clock_wants_as c.from_residual.result c.in_err-stop.field-0.0 c.args.self.now _ c.self.inside.clocks c.stop.new.self (clock_step c.self.inside.clocks (ClockEvent (Manager c.args.manager))) _
+    clock_wants_as c.from_residual.result c.in_err-stop.field-0.0 c.args.self.now _ c.self.inside.clocks c.stop.new.self (clock_step c.self.inside.clocks (ClockEvent.Stop (Manager c.args.manager))) _
     c.from_residual.ensures.1 c.in_err-stop.ensures (stops_live c.self.inside.clocks (Manager c.args.manager) p.manager.clock (manager_clock_at w c.args.manager p c.self.invariant.1 found c.if-process.false))
     (back w w.processes _ c.stop.new.self.paces w.letters w.views refl kept (ap (λ (x : ClockState). x.paces) still) refl refl ∙ c.self.view_is)
 
@@ -50,7 +50,7 @@ invariant_of-self-2 c =
     let clocks : clocks_of w ≡ c.self.inside.clocks = clocks_are w.skew c.self.inside.clocks c.self.invariant.0 in
     let stopped : ManagerProcess = record { manager = p.manager; crashed = true } in
     let put : slice_set w.managers c.from.result stopped ≡ put_manager c.args.manager stopped w.managers = ap (λ (k : ℕ). slice_set w.managers k stopped) c.from.ensures in (
-      step_skew_of c.self.inside.clocks c.stop.new.self (ClockEvent (Manager c.args.manager)) c.in_ok-stop.ensures ∙ c.self.invariant.0,
+      step_skew_of c.self.inside.clocks c.stop.new.self (ClockEvent.Stop (Manager c.args.manager)) c.in_ok-stop.ensures ∙ c.self.invariant.0,
       subst IsWorld (manager_crash_made w c.args.manager p.manager c.self.inside.clocks c.stop.new.self _ clocks c.in_ok-stop.ensures put) (manager_crash_world w c.args.manager p c.self.invariant.1 found),
     )
 

@@ -10,7 +10,7 @@ use Rattle.hk_world.specs.declared.refused.Refused.TheVariants.{LeaseRuns}
 use Rattle.hk_world.specs.declared.event.Event.TheVariants.{Install}
 use Rattle.hk_world.specs.World.{WorldState, numbered, process_at}
 use Rattle.hk_world.specs.Steps.{world_step}
-use Rattle.hk_node.specs.declared.event.NodeEvent.TheVariants.{Install as NodeInstall}
+use Rattle.hk_node.specs.declared.event.NodeEvent.TheVariants as NodeEvent
 use Rattle.hk_world.specs.Acting.{made_by, running}
 use Rattle.hk_world.specs.Views.{given_before}
 use Rattle.hk_world.specs.Allowed.{may_run_by, is_managed}
@@ -50,5 +50,5 @@ returns-in-None-clause-ok c =
     let given : c.given_before-given.result ≡ given_before w.views c.args.epoch = c.given_before-given.ensures ∙ ap (λ (vs : List View). given_before vs c.args.epoch) c.deref-2.ensures.value in
     let first : told_of (find (may_run_by w.skew (given_before w.views c.args.epoch) view) w.processes) ≡ None =
     ap (λ (g : ℕ). told_of (find (may_run_by w.skew g view) w.processes)) (sym given) ∙ sym c.in-None.ensures in
-    subst (λ (o : WorldState). world_step o (Install c.args.id c.args.epoch) ≡ made_by o c.args.id None (NodeInstall view)) c.self.view_is
+    subst (λ (o : WorldState). world_step o (Install c.args.id c.args.epoch) ≡ made_by o c.args.id None (NodeEvent.Install view)) c.self.view_is
     (install_checked w c.args.id c.args.epoch node view c.self.invariant.1 none runs at member low ∙ guard_lets _ w c.args.id node view first runs)

@@ -1,7 +1,7 @@
 use Rattle.std.proofs.Common.{◌≡◌, Ok, [], refl, sym, ap, subst, ◌∙◌, List, map}
 use Rattle.hk_clocks.specs.Clocks.{ClockState}
 use Rattle.hk_clocks.specs.Steps.{clock_step}
-use Rattle.hk_clocks.specs.Steps.ClockEvent.{TickAll as ClockEvent}
+use Rattle.hk_clocks.specs.Steps.{ClockEvent}
 use Rattle.hk_world.specs.declared.process.ManagerProcess.{ManagerProcess}
 use Rattle.hk_world.specs.World.{WorldState, Processes, clocks_of}
 use Rattle.hk_world.specs.Steps.{all_ticked_by, manager_ticked}
@@ -23,7 +23,7 @@ pub returns-in_err-tick_all : goal.returns-in_err-tick_all
 returns-in_err-tick_all c =
     let w : WorldState = seen c.self.inside in
     let still : c.tick_all.new.self ≡ c.self.inside.clocks = clock_kept c.in_err-tick_all.field-0.0 c.self.inside.clocks c.tick_all.new.self _ c.in_err-tick_all.ensures in
-    clock_refuses c.from_residual.result c.in_err-tick_all.field-0.0 c.args.self.now _ c.self.inside.clocks c.tick_all.new.self (clock_step c.self.inside.clocks (ClockEvent c.args.to)) (λ r. all_ticked_by r w c.args.to) _
+    clock_refuses c.from_residual.result c.in_err-tick_all.field-0.0 c.args.self.now _ c.self.inside.clocks c.tick_all.new.self (clock_step c.self.inside.clocks (ClockEvent.TickAll c.args.to)) (λ r. all_ticked_by r w c.args.to) _
     c.from_residual.ensures.1 c.in_err-tick_all.ensures (λ f. refl)
     (all_tick_at w c.args.self.now c.args.to c.self.inside.clocks c.self.view_is (clocks_are w.skew c.self.inside.clocks c.self.invariant.0))
     (back w w.processes w.managers c.tick_all.new.self.paces w.letters w.views refl refl (ap (λ (x : ClockState). x.paces) still) refl refl ∙ c.self.view_is)
@@ -32,8 +32,8 @@ pub invariant_of-self-2 : goal.invariant_of-self-2
 invariant_of-self-2 c =
     let w : WorldState = seen c.self.inside in
     let clocks : clocks_of w ≡ c.self.inside.clocks = clocks_are w.skew c.self.inside.clocks c.self.invariant.0 in
-    let is : clock_step (clocks_of w) (ClockEvent c.args.to) ≡ Ok c.tick_all.new.self = ap (λ (x : ClockState). clock_step x (ClockEvent c.args.to)) clocks ∙ c.in_ok-tick_all.ensures in (
-      step_skew_of c.self.inside.clocks c.tick_all.new.self (ClockEvent c.args.to) c.in_ok-tick_all.ensures ∙ c.self.invariant.0,
+    let is : clock_step (clocks_of w) (ClockEvent.TickAll c.args.to) ≡ Ok c.tick_all.new.self = ap (λ (x : ClockState). clock_step x (ClockEvent.TickAll c.args.to)) clocks ∙ c.in_ok-tick_all.ensures in (
+      step_skew_of c.self.inside.clocks c.tick_all.new.self (ClockEvent.TickAll c.args.to) c.in_ok-tick_all.ensures ∙ c.self.invariant.0,
       subst IsWorld (ap (λ (ps : Processes). built w ps (map (manager_ticked c.args.to) w.managers) c.tick_all.new.self.paces w.letters w.views w.calls) (sym c.tick_live.ensures)
           ∙ ap (λ (ms : List ManagerProcess). built w c.tick_live.new.processes.entries ms c.tick_all.new.self.paces w.letters w.views w.calls) (sym c.tick_managers.ensures))
           (all_tick_world (c.steps_keep_nodes.ensures.node, c.steps_keep_nodes.ensures.letters) (c.steps_keep_managers.ensures.manager, c.steps_keep_managers.ensures.letters) w c.args.to c.tick_all.new.self c.self.invariant.1 c.requires is),
