@@ -1,8 +1,7 @@
 //! The nodes of a group, before anything happened.
 
 ghost use Rattle.std.specs.Prelude.{◌≡◌, ◌∷◌, [], true, IfOk};
-ghost use Rattle.hk_base.specs.View.{IsView};
-ghost use Rattle.hk_node.specs.Node.{is_member};
+ghost use Rattle.hk_base.specs.View.{IsView, is_member};
 
 use crate::quiet::Quiet;
 use hk_base::{MAX_TIME, Members, Memory, NodeId, View};

@@ -1,11 +1,16 @@
 -- What a view is.
-use Rattle.std.specs.Prelude.{ℕ, ◌<◌, ◌≤◌, List, length, map, All}
+use Rattle.std.specs.Prelude.{ℕ, ◌<◌, ◌≤◌, ◌==◌, Bool, List, length, map, All}
+use Rattle.std.specs.List.{list_any}
 use Rattle.std.specs.List.Sorted.{IsStrictlyIncreasing}
 use Rattle.hk_base.specs.declared.stamp.NodeId.{NodeId}
 use Rattle.hk_base.specs.declared.view.View.{View}
 
 abbrev pub member_numbers : List NodeId → List ℕ
 member_numbers members = map (λ member. member.0) members
+
+-- the node is one of the members
+abbrev pub is_member : NodeId → List NodeId → Bool
+is_member node members = list_any (λ member. member.0 == node.0) members
 
 -- 1 to 16 members that rise, each below the next number, which is at most 65,536
 pub record IsView (view : View) : Type 0 where

@@ -134,3 +134,16 @@ impl Key {
         })
     }
 }
+
+/// The same key, if there is one.
+pub fn share_key(key: &Option<Key>) -> Result<Option<Key>, Memory>
+    ensures { IfOk result (λ same. same ≡ key.now) }
+{
+    match key {
+        Some(key) => {
+            let same = key.share()?;
+            Ok(Some(same))
+        }
+        None => Ok(None),
+    }
+}

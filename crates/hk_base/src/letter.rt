@@ -4,7 +4,7 @@ ghost use Rattle.std.specs.Prelude.{◌≡◌, ◌++◌, ◌∷◌, [], IfOk, On
 ghost use Rattle.hk_base.specs.declared.letter.Body.TheVariants.{Inv, CopyGive, Promise};
 
 use crate::call::{Content, share_content};
-use crate::key::Key;
+use crate::key::{Key, share_key};
 use crate::memory::Memory;
 use crate::sequence::Sequence;
 use crate::stamp::{Kind, NodeId, Stamp};
@@ -49,18 +49,6 @@ impl CopyItem {
 
 /// The rows of one copy, in key order.
 pub type CopyItems = Sequence<CopyItem>;
-
-fn share_after(after: &Option<Key>) -> Result<Option<Key>, Memory>
-    ensures { IfOk result (λ same. same ≡ after.now) }
-{
-    match after {
-        Some(key) => {
-            let same = key.share()?;
-            Ok(Some(same))
-        }
-        None => Ok(None),
-    }
-}
 
 fn share_items(alloc: Global, items: &CopyItems) -> Result<CopyItems, Memory>
     ensures { IfOk result (λ same. same ≡ items.now) }
@@ -175,7 +163,7 @@ fn share_batch(
 ) -> Result<Body, Memory>
     ensures { IfOk result (λ same. same ≡ CopyGive after.now done items.now) }
 {
-    let after = share_after(after)?;
+    let after = share_key(after)?;
     let items = share_items(alloc, items)?;
     Ok(Body::CopyGive { after, done, items })
 }
@@ -209,7 +197,7 @@ impl Body {
                 stamp: *stamp,
             }),
             Body::CopyAsk { after, room } => Ok(Body::CopyAsk {
-                after: share_after(after)?,
+                after: share_key(after)?,
                 room: *room,
             }),
             Body::CopyGive { after, done, items } => share_batch(alloc, after, *done, items),

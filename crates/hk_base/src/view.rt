@@ -1,6 +1,7 @@
 //! Views, which say who the members of a group are, and the ballots by which managers agree on them.
 
 ghost use Rattle.std.specs.Prelude.{◌≡◌, IfOk};
+ghost use Rattle.hk_base.specs.View.{is_member};
 
 use crate::memory::Memory;
 use crate::sequence::Sequence;
@@ -29,6 +30,26 @@ impl View {
             members: Sequence::from_vec(members),
             next: self.next,
         })
+    }
+
+    /// Whether the node is a member.
+    pub fn has_member(&self, node: NodeId) -> bool
+        ensures { result ≡ is_member node self.now.members }
+    {
+        self.members.as_slice().contains(&node)
+    }
+}
+
+/// An equal view, if there is one.
+pub fn copy_view(alloc: Global, view: &Option<View>) -> Result<Option<View>, Memory>
+    ensures { IfOk result (λ same. same ≡ view.now) }
+{
+    match view {
+        Some(view) => {
+            let same = view.copy(alloc)?;
+            Ok(Some(same))
+        }
+        None => Ok(None),
     }
 }
 

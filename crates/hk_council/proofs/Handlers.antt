@@ -21,7 +21,8 @@ use Rattle.hk_paxos.specs.Run.PaxosLetter.{PrepareLetter, PromiseLetter, AcceptL
 use Rattle.hk_paxos.specs.Run.PaxosEvent.{Propose as ProposeEvent}
 use Rattle.hk_lease.specs.declared.grants.NotPast.{NotPast as StillRuns}
 use Rattle.hk_lease.specs.Grants.{with_grant}
-use Rattle.hk_lease.specs.Past.{is_member, past_answer}
+use Rattle.hk_lease.specs.Past.{past_answer}
+use Rattle.hk_base.specs.View.{is_member}
 use Rattle.hk_lease.specs.Wait.{wait}
 use Rattle.hk_manager.specs.declared.event.ManagerEvent.{ManagerEvent}
 use Rattle.hk_manager.specs.declared.event.ManagerEvent.TheVariants.{Propose, Receive, Activate, Tick}
@@ -220,7 +221,7 @@ module _ (managers : ℕ) (c : Council) (sound : Sound managers c) (m : ℕ) (kn
 
   -- ---- leases
   ask_fine : (from : NodeId) (asked : ℕ) → Fine (asks_lease M from asked)
-  ask_fine from asked = choice (is_member M.held from) _ (idle M)
+  ask_fine from asked = choice (is_member from M.held.members) _ (idle M)
       (quiet managers c sound m known (record M { untils = with_grant M.untils from (M.clock + wait M.lease) }) (letter_to M M.held.epoch (Body.LeaseGive (min (asked + M.lease) MAX_TIME)) (Node from) ∷ []) None
       refl refl refl refl (inl refl) (le_refl M.held.epoch) each) nothing
     where

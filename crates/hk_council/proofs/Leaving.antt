@@ -7,7 +7,7 @@ use Rattle.hk_base.specs.declared.stamp.NodeId.{NodeId}
 use Rattle.hk_base.specs.declared.view.View.{View}
 use Rattle.hk_base.specs.declared.view.Change.{Change}
 use Rattle.hk_base.specs.declared.view.Change.TheVariants.{Drop, Add}
-use Rattle.hk_lease.specs.Past.{is_member}
+use Rattle.hk_base.specs.View.{is_member}
 use Rattle.hk_paxos.specs.Run.{In}
 use Rattle.hk_manager.specs.Changes.{changed}
 use Rattle.hk_council.specs.Chain.{IsChange, AreChanges, NeverReturns}
@@ -18,7 +18,7 @@ among members node = list_any (λ (member : NodeId). nat_eq member.0 node.0) mem
 
 -- each member is below the next number
 abbrev IsBelow : View → Type 0
-IsBelow v = (node : NodeId) → is_member v node ≡ true → node.0 < v.next
+IsBelow v = (node : NodeId) → is_member node v.members ≡ true → node.0 < v.next
 
 -- ---- one change
 in_filtered : (members : List NodeId) (gone node : NodeId) → among (filter (λ (member : NodeId). not (nat_eq member.0 gone.0)) members) node ≡ true → among members node ≡ true
@@ -53,9 +53,9 @@ in_added (x ∷ members) new node h = ⊎_elim
     behind true g = refl
     behind false g = g
 
-changed_member : (v : View) (change : Change) (node : NodeId) → is_member (changed v change) node ≡ true → (is_member v node ≡ true) ⊎ ((node.0 ≡ v.next) × ((changed v change).next ≡ v.next + 1))
+changed_member : (v : View) (change : Change) (node : NodeId) → is_member node (changed v change).members ≡ true → (is_member node v.members ≡ true) ⊎ ((node.0 ≡ v.next) × ((changed v change).next ≡ v.next + 1))
 changed_member v (Drop gone) node h = inl (in_filtered v.members gone node h)
-changed_member v Add node h = ⊎_elim (λ (g : is_member v node ≡ true). inl g) (λ (is : node.0 ≡ v.next). inr (is, refl)) (in_added v.members (record { 0 = v.next }) node h)
+changed_member v Add node h = ⊎_elim (λ (g : is_member node v.members ≡ true). inl g) (λ (is : node.0 ≡ v.next). inr (is, refl)) (in_added v.members (record { 0 = v.next }) node h)
 
 changed_next : (v : View) (change : Change) → v.next ≤ (changed v change).next
 changed_next v (Drop gone) = le_refl v.next
@@ -65,15 +65,15 @@ change_next : (v w : View) → IsChange v w → v.next ≤ w.next
 change_next v w is = subst (λ (x : View). v.next ≤ x.next) (sym is.made) (changed_next v is.change)
 
 -- a member of the view after was one before, or has the number that was given
-change_member : (v w : View) → IsChange v w → (node : NodeId) → is_member w node ≡ true → (is_member v node ≡ true) ⊎ ((node.0 ≡ v.next) × (w.next ≡ v.next + 1))
+change_member : (v w : View) → IsChange v w → (node : NodeId) → is_member node w.members ≡ true → (is_member node v.members ≡ true) ⊎ ((node.0 ≡ v.next) × (w.next ≡ v.next + 1))
 change_member v w is node h = ⊎_elim
-    (λ (g : is_member v node ≡ true). inl g)
+    (λ (g : is_member node v.members ≡ true). inl g)
     (λ (new : (node.0 ≡ v.next) × ((changed v is.change).next ≡ v.next + 1)). inr (new.0, ap (λ (x : View). x.next) is.made ∙ new.1))
-    (changed_member v is.change node (subst (λ (x : View). is_member x node ≡ true) is.made h))
+    (changed_member v is.change node (subst (λ (x : View). is_member node x.members ≡ true) is.made h))
 
 change_below : (v w : View) → IsChange v w → IsBelow v → IsBelow w
 change_below v w is below node h = ⊎_elim
-    (λ (g : is_member v node ≡ true). let low = below node g in let up = change_next v w is in omega (arith, low, up))
+    (λ (g : is_member node v.members ≡ true). let low = below node g in let up = change_next v w is in omega (arith, low, up))
     (λ (new : (node.0 ≡ v.next) × (w.next ≡ v.next + 1)). omega (arith, new.0, new.1)) (change_member v w is node h)
 
 -- ---- a chain
@@ -104,18 +104,18 @@ next_rises v (u ∷ later) x y are (inr h) (inl e) upto =
 next_rises v (u ∷ later) x y are (inr h) (inr k) upto = next_rises u later x y are.1 h k upto
 
 -- a member of a later view whose number was given before this one is a member of this one
-was_from : (v : View) (later : List View) (w : View) (node : NodeId) → AreChanges v later → In (v ∷ later) w → node.0 < v.next → is_member w node ≡ true → is_member v node ≡ true
-was_from v later w node are (inl e) given h = subst (λ (x : View). is_member x node ≡ true) e h
+was_from : (v : View) (later : List View) (w : View) (node : NodeId) → AreChanges v later → In (v ∷ later) w → node.0 < v.next → is_member node w.members ≡ true → is_member node v.members ≡ true
+was_from v later w node are (inl e) given h = subst (λ (x : View). is_member node x.members ≡ true) e h
 was_from v [] w node are (inr k) given h = absurd k
 was_from v (u ∷ later) w node are (inr k) given h =
     let up = change_next v u are.0 in
     let there = was_from u later w node are.1 k (omega (arith, given, up)) h in
-    ⊎_elim (λ (g : is_member v node ≡ true). g) (λ (new : (node.0 ≡ v.next) × (u.next ≡ v.next + 1)). absurd (omega (arith, given, new.0))) (change_member v u are.0 node there)
+    ⊎_elim (λ (g : is_member node v.members ≡ true). g) (λ (new : (node.0 ≡ v.next) × (u.next ≡ v.next + 1)). absurd (omega (arith, given, new.0))) (change_member v u are.0 node there)
 
-was : (v : View) (later : List View) (x w : View) (node : NodeId) → AreChanges v later → In (v ∷ later) x → In (v ∷ later) w → x.epoch ≤ w.epoch → node.0 < x.next → is_member w node ≡ true → is_member x node ≡ true
+was : (v : View) (later : List View) (x w : View) (node : NodeId) → AreChanges v later → In (v ∷ later) x → In (v ∷ later) w → x.epoch ≤ w.epoch → node.0 < x.next → is_member node w.members ≡ true → is_member node x.members ≡ true
 was v later x w node are (inl e) k upto given h =
     let given_then : node.0 < v.next = subst (λ (z : View). node.0 < z.next) e given in
-    subst (λ (z : View). is_member z node ≡ true) (sym e) (was_from v later w node are k given_then h)
+    subst (λ (z : View). is_member node z.members ≡ true) (sym e) (was_from v later w node are k given_then h)
 was v [] x w node are (inr j) k upto given h = absurd j
 was v (u ∷ later) x w node are (inr j) (inl e) upto given h =
     let next = change_epoch v u are.0 in

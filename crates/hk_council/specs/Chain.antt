@@ -3,8 +3,7 @@ use Rattle.std.specs.Prelude.{◌≡◌, ⊤, ◌+◌, ◌≤◌, ℕ, List, [],
 use Rattle.hk_base.specs.declared.view.View.{View}
 use Rattle.hk_base.specs.declared.view.Change.{Change}
 use Rattle.hk_base.specs.declared.stamp.NodeId.{NodeId}
-use Rattle.hk_base.specs.View.{IsView}
-use Rattle.hk_lease.specs.Past.{is_member}
+use Rattle.hk_base.specs.View.{IsView, is_member}
 use Rattle.hk_paxos.specs.Run.{In}
 use Rattle.hk_manager.specs.Changes.{changed, change_fault}
 
@@ -34,7 +33,7 @@ pub record Follows (views : List View) (epoch : ℕ) (view : View) : Type 0 wher
 
 -- A node that is a member of two views is a member of each view between: one that a view leaves out is in no later one.
 abbrev pub LeavesForGood : List View → Type 0
-LeavesForGood views = (u v w : View) (node : NodeId) → In views u → In views v → In views w → u.epoch ≤ v.epoch → v.epoch ≤ w.epoch → is_member u node ≡ true → is_member w node ≡ true → is_member v node ≡ true
+LeavesForGood views = (u v w : View) (node : NodeId) → In views u → In views v → In views w → u.epoch ≤ v.epoch → v.epoch ≤ w.epoch → is_member node u.members ≡ true → is_member node w.members ≡ true → is_member node v.members ≡ true
 
 -- So it is in every chain, since numbers of nodes are never given again.
 abbrev pub NeverReturns : Type 0

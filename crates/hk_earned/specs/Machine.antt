@@ -7,7 +7,8 @@ use Rattle.hk_base.specs.declared.letter.Actor.TheVariants.{Node, Manager}
 use Rattle.hk_base.specs.declared.time.TheConstants.{MAX_TIME}
 use Rattle.hk_lease.specs.Wait.{wait}
 use Rattle.hk_lease.specs.Grants.{with_grant}
-use Rattle.hk_lease.specs.Past.{is_member, past_answer}
+use Rattle.hk_lease.specs.Past.{past_answer}
+use Rattle.hk_base.specs.View.{is_member}
 use Rattle.hk_lease.specs.Ends.{granted_end}
 use Rattle.hk_clocks.specs.Clocks.{ClockState}
 use Rattle.hk_clocks.specs.Steps.{ClockEvent, clock_step}
@@ -140,7 +141,7 @@ first_untils lease (suc k) = with_grant (first_untils lease k) (record { 0 = k }
 
 module _ (s : Setting) where
   abbrev pub member : ℕ → NodeId → Bool
-  member epoch n = is_member (s.views epoch) n
+  member epoch n = is_member n (s.views epoch).members
 
   abbrev pub end_for : ℕ → ℕ
   end_for asked = min (asked + s.lease) MAX_TIME

@@ -9,7 +9,7 @@ use Rattle.hk_base.specs.declared.letter.Letter.{Letter}
 use Rattle.hk_base.specs.declared.view.View.{View}
 use Rattle.hk_base.specs.declared.view.Change.{Change}
 use Rattle.hk_base.specs.declared.view.Change.TheVariants.{Drop, Add}
-use Rattle.hk_base.specs.View.{member_numbers}
+use Rattle.hk_base.specs.View.{member_numbers, is_member}
 use Rattle.hk_clocks.specs.Clocks.{ClockState, Paces}
 use Rattle.hk_clocks.specs.declared.fault.ClockFault.{ClockFault}
 use Rattle.hk_clocks.specs.Steps.{clock_step}
@@ -20,7 +20,7 @@ use Rattle.hk_manager.specs.declared.fault.ManagerFault.{ManagerFault}
 use Rattle.hk_manager.specs.Manager.{ManagerState}
 use Rattle.hk_manager.specs.Steps.{ManagerStepped, manager_step, manager_ticks}
 use Rattle.hk_register.specs.Machine.{In}
-use Rattle.hk_node.specs.Node.{NodeState, epoch_of, is_member}
+use Rattle.hk_node.specs.Node.{NodeState, epoch_of}
 use Rattle.hk_node.specs.Stepped.{Stepped}
 use Rattle.hk_node.specs.Steps.{receives, installs, ticks, grants}
 use Rattle.hk_world.specs.declared.event.Event.TheVariants.{Propose, Activate}

@@ -90,7 +90,7 @@ module _ (V : ℕ → List ℕ) (key : List ℕ) (t : Trace) (parts : Parts V (p
   other_answer : (k : List ℕ) (op : Op) (answer : Answer) → key ≢ k → OwesCall k op (answers x k number answer)
   other_answer k op answer ne = quiet_node V (project key t) parts key x at_key (answers x k number answer) _ refl refl (other_said k op (answers x k number answer) ne)
 
-  -- a call that is answered at once says that it looked, or was refused
+  -- a call that is answered at once says that it is read-only, or was refused
   answer_said : (op : Op) (answer : Answer) → items_said key (Call x.id key op) (t.world.calls + 1) x (answers x key number answer) ≡ read_only_item (t.world.calls + 1) op (key_node key (Some x)) (record { call = number; answer = answer }) ∷ []
   answer_said op answer = rw (same_itself key, eq-eqb (tag_of (row_at key x.rows).stamp) (tag_of (row_at key x.rows).stamp) refl) refl
 

@@ -2,9 +2,9 @@
 use Rattle.std.proofs.Common.{◌≡◌, ◌⊎◌, ℕ, zero, suc, false, List, [], ◌∷◌, ◌++◌, ◌≤◌, sym, refl, ap, subst, inl, inr, arith, Option, Some, None, Ok}
 use Rattle.hk_base.specs.declared.stamp.NodeId.{NodeId}
 use Rattle.hk_base.specs.declared.view.View.{View}
-use Rattle.hk_base.specs.View.{IsView, member_numbers}
+use Rattle.hk_base.specs.View.{IsView, member_numbers, is_member}
 use Rattle.hk_register.specs.Machine.{In, Mark}
-use Rattle.hk_node.specs.Node.{NodeState, epoch_of, is_member}
+use Rattle.hk_node.specs.Node.{NodeState, epoch_of}
 use Rattle.hk_world.specs.declared.event.Event.{Event}
 use Rattle.hk_world.specs.declared.event.Header.{Header}
 use Rattle.hk_world.specs.World.{WorldState, process_at, node_of, numbered, last_view}

@@ -3,10 +3,10 @@ use Rattle.std.proofs.Common.{◌≡◌, ◌⊎◌, ℕ, Bool, true, false, cond
 use Rattle.std.specs.List.{find}
 use Rattle.hk_base.specs.declared.stamp.NodeId.{NodeId}
 use Rattle.hk_base.specs.declared.view.View.{View}
-use Rattle.hk_base.specs.View.{member_numbers}
+use Rattle.hk_base.specs.View.{member_numbers, is_member}
 use Rattle.hk_register.specs.Machine.{In}
 use Rattle.hk_register.proofs.Grow.{in_either}
-use Rattle.hk_node.specs.Node.{NodeState, epoch_of, is_member}
+use Rattle.hk_node.specs.Node.{NodeState, epoch_of}
 use Rattle.hk_node.specs.Stepped.{idle}
 use Rattle.hk_node.specs.Copies.{asks_copy}
 use Rattle.hk_node.specs.Rows.{find_row}

@@ -15,14 +15,14 @@ use Rattle.hk_base.specs.declared.letter.Body.{Body}
 use Rattle.hk_base.specs.declared.letter.Body.TheVariants.{Inv, Ack, Val, CopyAsk, CopyGive, LeaseAsk, LeaseGive, Prepare, Promise, Accept, Accepted, Chosen, Activate}
 use Rattle.hk_base.specs.declared.letter.Letter.{Letter}
 use Rattle.hk_base.specs.declared.view.View.{View}
-use Rattle.hk_base.specs.View.{member_numbers}
+use Rattle.hk_base.specs.View.{member_numbers, is_member}
 use Rattle.hk_base.specs.Register.{act}
 use Rattle.hk_copy.specs.Batches.{is_nil, last_key}
 use Rattle.hk_key.specs.declared.row.Row.{Row}
 use Rattle.hk_key.specs.Table.{Done, replay}
 use Rattle.hk_register.specs.Machine.{In}
 use Rattle.hk_node.specs.Rows.{find_row, row_at}
-use Rattle.hk_node.specs.Node.{NodeState, epoch_of, members_of, is_member, is_other}
+use Rattle.hk_node.specs.Node.{NodeState, epoch_of, members_of, is_other}
 use Rattle.hk_node.specs.Sends.{letters_to}
 use Rattle.hk_node.specs.Stepped.{Stepped, idle}
 use Rattle.hk_node.specs.Calls.{kind_of, next_stamp, register_in, at_limit, at_turn, at_state, lease_end, at_lease, called}

@@ -7,11 +7,10 @@ use Rattle.hk_base.specs.declared.stamp.NodeId.{NodeId}
 use Rattle.hk_base.specs.declared.view.View.{View}
 use Rattle.hk_base.specs.declared.view.Change.{Change}
 use Rattle.hk_base.specs.declared.view.Change.TheVariants.{Drop, Add}
-use Rattle.hk_base.specs.View.{IsView, member_numbers}
+use Rattle.hk_base.specs.View.{IsView, member_numbers, is_member}
 use Rattle.hk_register.specs.Machine.{In}
 use Rattle.hk_paxos.specs.Run.{In as Among}
 use Rattle.hk_manager.specs.Manager.{ManagerState}
-use Rattle.hk_lease.specs.Past.{is_member}
 use Rattle.hk_manager.specs.declared.fault.ManagerFault.TheVariants.{LastMember, NoSuchMember}
 use Rattle.hk_manager.specs.Changes.{changed, change_fault}
 use Rattle.hk_council.specs.Chain.{AreChanges, IsChain as IsCouncilChain}
@@ -57,9 +56,9 @@ member_number node (m ∷ ms) h = ⊎_elim (λ (here : nat_eq m.0 node.0 ≡ tru
 -- what a change makes of a view is the view with a member dropped, or a node added
 changed_is : (u v : View) (change : Change) → change_fault u change ≡ None → v ≡ changed u change → IsDropped u v ⊎ IsAdded u v
 changed_is u v Add possible is = inr is
-changed_is u v (Drop node) possible is = inl (node, by_member (is_member u node) refl possible, is)
+changed_is u v (Drop node) possible is = inl (node, by_member (is_member node u.members) refl possible, is)
   where
-    by_member : (b : Bool) → is_member u node ≡ b → cond b (cond (nat_eq (length u.members) 1) (Some LastMember) None) (Some NoSuchMember) ≡ None → In (member_numbers u.members) node.0
+    by_member : (b : Bool) → is_member node u.members ≡ b → cond b (cond (nat_eq (length u.members) 1) (Some LastMember) None) (Some NoSuchMember) ≡ None → In (member_numbers u.members) node.0
     by_member true e none = member_number node u.members e
     by_member false e none = absurd cc
 

@@ -4,14 +4,14 @@ use Rattle.std.proofs.lemmas.Bool.{cases_order}
 use Rattle.std.specs.Option.{option_map}
 use Rattle.hk_base.specs.declared.stamp.NodeId.{NodeId}
 use Rattle.hk_base.specs.declared.call.CallNo.{CallNo}
-use Rattle.hk_base.specs.View.{member_numbers}
+use Rattle.hk_base.specs.View.{member_numbers, is_member}
 use Rattle.hk_register.specs.Machine.{In, Item}
 use Rattle.hk_register.specs.Effects.{Fresh, Leased}
 use Rattle.hk_register.specs.Effects.Effect.{Quiet}
 use Rattle.hk_register.specs.Parts.{Parts}
 use Rattle.hk_register.proofs.Helps.{ready_in}
 use Rattle.hk_clocks.specs.Clocks.{Paces}
-use Rattle.hk_node.specs.Node.{NodeState, epoch_of, epoch_in, members_of, is_member}
+use Rattle.hk_node.specs.Node.{NodeState, epoch_of, epoch_in, members_of}
 use Rattle.hk_node.specs.Sound.{IsNode}
 use Rattle.hk_node.specs.Stepped.{Stepped}
 use Rattle.hk_world.specs.declared.event.Event.{Event}

@@ -19,7 +19,8 @@ use Rattle.hk_paxos.specs.Paxos.{acceptor_on_prepare, acceptor_on_accept, propos
 use Rattle.hk_lease.specs.declared.grants.NotPast.{NotPast as StillRuns}
 use Rattle.hk_lease.specs.Grants.{with_grant}
 use Rattle.hk_lease.specs.Wait.{wait}
-use Rattle.hk_lease.specs.Past.{is_member, past_answer}
+use Rattle.hk_lease.specs.Past.{past_answer}
+use Rattle.hk_base.specs.View.{is_member}
 use Rattle.hk_manager.specs.declared.event.ManagerEvent.{ManagerEvent}
 use Rattle.hk_manager.specs.declared.event.ManagerEvent.TheVariants.{Propose, Receive, Activate, Tick}
 use Rattle.hk_manager.specs.declared.fault.ManagerFault.{ManagerFault}
@@ -103,7 +104,7 @@ module _ (held : View) where
   from_manager_fine (Body.CopyGive after done items) m epoch from = none m
 
   from_node_fine : (body : Body) (m : ManagerState) (from : NodeId) → Fine (from_node body m from)
-  from_node_fine (Body.LeaseAsk asked) m from = choice (is_member m.held from) (sends (record m { untils = with_grant m.untils from (m.clock + wait m.lease) }) (give ∷ [])) (idle m) (λ l h. ⊎_elim (λ (is : l ≡ give). subst (λ (k : Letter). Says held k.body) (sym is) tt) (λ (no_more : ⊥). absurd no_more) h) (none m)
+  from_node_fine (Body.LeaseAsk asked) m from = choice (is_member from m.held.members) (sends (record m { untils = with_grant m.untils from (m.clock + wait m.lease) }) (give ∷ [])) (idle m) (λ l h. ⊎_elim (λ (is : l ≡ give). subst (λ (k : Letter). Says held k.body) (sym is) tt) (λ (no_more : ⊥). absurd no_more) h) (none m)
     where
       give : Letter
       give = letter_to m m.held.epoch (Body.LeaseGive (min (asked + m.lease) MAX_TIME)) (Node from)

@@ -33,7 +33,8 @@ use Rattle.hk_key.specs.Table.{Done, first_row, still, begin, on_inv, on_ack, on
 use Rattle.hk_register.specs.Machine.{In}
 use Rattle.hk_register.proofs.Grow.{in_either}
 use Rattle.hk_node.specs.Rows.{Rows, find_row, row_at, with_row}
-use Rattle.hk_node.specs.Node.{NodeState, epoch_of, members_of, is_member, is_other}
+use Rattle.hk_node.specs.Node.{NodeState, epoch_of, members_of, is_other}
+use Rattle.hk_base.specs.View.{is_member}
 use Rattle.hk_node.specs.Sends.{letters_to, sent}
 use Rattle.hk_node.specs.Stepped.{Stepped, idle, told_of, row_step}
 use Rattle.hk_node.specs.Calls.{kind_of, next_stamp, register_in, answers, at_limit, at_turn, at_state, lease_end, at_lease, called}

@@ -8,7 +8,7 @@ use Rattle.hk_base.specs.declared.letter.Actor.TheVariants as Actor
 use Rattle.hk_base.specs.declared.letter.Body.TheVariants.{CopyGive}
 use Rattle.hk_base.specs.declared.letter.CopyItem.{CopyItem}
 use Rattle.hk_base.specs.declared.letter.Letter.{Letter}
-use Rattle.hk_base.specs.View.{member_numbers}
+use Rattle.hk_base.specs.View.{member_numbers, is_member}
 use Rattle.hk_history.specs.History.{is_answered}
 use Rattle.hk_copy.specs.Batches.{last_key}
 use Rattle.hk_key.specs.declared.row.Pending.{Pending}
@@ -17,7 +17,7 @@ use Rattle.hk_register.specs.Machine.{In, Node, Message, Update, Item, RegisterS
 use Rattle.hk_register.specs.Effects.{Change, Between}
 use Rattle.hk_register.specs.Parts.{Parts}
 use Rattle.hk_node.specs.Rows.{row_at}
-use Rattle.hk_node.specs.Node.{NodeState, epoch_of, epoch_in, members_of, is_member}
+use Rattle.hk_node.specs.Node.{NodeState, epoch_of, epoch_in, members_of}
 use Rattle.hk_node.specs.Sends.{sent}
 use Rattle.hk_node.specs.Sound.{IsNode}
 use Rattle.hk_node.specs.Stepped.{Stepped, idle}

@@ -5,8 +5,8 @@ use Rattle.std.specs.Ordering.{is_eq}
 use Rattle.std.proofs.lemmas.Bool.{false≢true, eqb-true, eq-eqb}
 use Rattle.std.proofs.lemmas.Cmp.{nat_cmp_total, tied_itself, ranked}
 use Rattle.hk_base.specs.declared.stamp.NodeId.{NodeId}
-use Rattle.hk_base.specs.View.{member_numbers}
-use Rattle.hk_node.specs.Node.{NodeState, is_member}
+use Rattle.hk_base.specs.View.{member_numbers, is_member}
+use Rattle.hk_node.specs.Node.{NodeState}
 use Rattle.hk_world.specs.declared.process.Process.{Process}
 use Rattle.hk_world.specs.World.{Processes, by_number, process_at, put_process, node_of}
 use Rattle.hk_register.specs.Machine.{In}

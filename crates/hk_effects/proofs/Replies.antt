@@ -54,7 +54,7 @@ pub answers_are : (s : ℕ) (o : Option Reply) → IfSome o (λ r. IsTrue (is_an
 answers_are s None e = refl
 answers_are s (Some r) e = ap (λ (i : Item). i ∷ []) (answer_item s r e)
 
--- a call that looked, and one that was refused
+-- a read-only call, and one that was refused
 pub read_only_item_is : (call : ℕ) (op : Op) (was : Node) (r : Reply) → IsTrue (is_answered (Some r.answer)) → read_only_item call op was r ≡ ReadOnly call was.stamp op was.content r.answer
 read_only_item_is call op was r e = ap (λ (b : Bool). cond b (Rejected call op r.answer) (ReadOnly call was.stamp op was.content r.answer)) (answered_not_void r.answer e)
 

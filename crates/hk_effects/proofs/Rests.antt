@@ -16,7 +16,8 @@ use Rattle.hk_key.proofs.Steps.{first_is_sound}
 use Rattle.hk_register.specs.Machine.{In, Message}
 use Rattle.hk_register.proofs.Grow.{in_left, in_right}
 use Rattle.hk_node.specs.Rows.{Rows, find_row, row_at}
-use Rattle.hk_node.specs.Node.{NodeState, epoch_of, epoch_in, members_of, is_member}
+use Rattle.hk_node.specs.Node.{NodeState, epoch_of, epoch_in, members_of}
+use Rattle.hk_base.specs.View.{is_member}
 use Rattle.hk_node.specs.Sound.{IsNode}
 use Rattle.hk_world.specs.World.{WorldState, Processes, by_number, process_at, node_of, numbered}
 use Rattle.hk_world.specs.Steps.{process_ticked, is_live}

@@ -21,7 +21,8 @@ use Rattle.hk_node.proofs.Acts.{inv_untouched, val_untouched, untouched_stays}
 use Rattle.hk_register.specs.Machine.{In, Message}
 use Rattle.hk_register.specs.Parts.{Parts}
 use Rattle.hk_node.specs.Rows.{find_row, row_at}
-use Rattle.hk_node.specs.Node.{NodeState, epoch_of, members_of, is_member, is_other}
+use Rattle.hk_node.specs.Node.{NodeState, epoch_of, members_of, is_other}
+use Rattle.hk_base.specs.View.{is_member}
 use Rattle.hk_node.specs.Stepped.{Stepped, idle, row_step}
 use Rattle.hk_node.specs.Heard.{raised, is_greatest, has_majority}
 use Rattle.hk_node.specs.Copies.{gives_copy, takes_copy}

@@ -1,6 +1,6 @@
 //! Every event of a world is, for each key, effects of the replicated register.
 //!
-//! Nothing runs here: the crate is definitions and laws about them. `specs/View.antt` says what one key has of a world: the nodes'
+//! Nothing runs here: the crate is definitions and laws about them. `specs/Projection.antt` says what one key has of a world: the nodes'
 //! rows, the letters that tell of the key, and what grows with the run, its marks, updates and history. Whatever event a world
 //! accepts, with managers or without, the key sees one effect of `hk_register`, or two. So the laws of the register hold of every run
 //! of a world, and the order that is printed of a key is legal. No premise is left: without managers the world refuses what would

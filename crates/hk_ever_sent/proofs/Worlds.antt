@@ -21,7 +21,8 @@ use Rattle.hk_manager.specs.Steps.{ManagerStepped, manager_step}
 use Rattle.hk_manager.specs.Laws.{OfStep}
 use Rattle.hk_node.specs.declared.event.NodeEvent.{NodeEvent}
 use Rattle.hk_node.specs.declared.event.NodeEvent.TheVariants as NodeEvent
-use Rattle.hk_node.specs.Node.{NodeState, is_member, epoch_of}
+use Rattle.hk_node.specs.Node.{NodeState, epoch_of}
+use Rattle.hk_base.specs.View.{is_member}
 use Rattle.hk_node.specs.Steps.{node_step}
 use Rattle.hk_world.specs.declared.event.Event.{Event}
 use Rattle.hk_world.specs.declared.event.Event.TheVariants.{Call, Take, Tick, TickAll, Crash, Resend, Replay, Copy, Start, Agree, Install, Lease, AskLease, Propose, Activate}

@@ -9,8 +9,7 @@ use Rattle.std.proofs.lemmas.List.Elements.{All-from_recursion}
 use Rattle.std.proofs.lemmas.Map.Keys.{IsStrictlyIncreasing-from_sorted}
 use Rattle.hk_base.specs.declared.stamp.NodeId.{NodeId}
 use Rattle.hk_base.specs.declared.view.View.{View}
-use Rattle.hk_base.specs.View.{IsView, member_numbers}
-use Rattle.hk_node.specs.Node.{is_member}
+use Rattle.hk_base.specs.View.{IsView, member_numbers, is_member}
 use Rattle.hk_group.specs.declared.group.Group.{Group}
 use Rattle.hk_group.specs.Founding.{IsGroup, counted, first_view}
 

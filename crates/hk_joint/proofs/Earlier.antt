@@ -54,7 +54,7 @@ reached_by V st parts s b one l c = ⊎_elim
 abbrev pub look_of : Slot → Item
 look_of x = ReadOnly x.call x.stamp x.op x.content x.answer
 
--- a look's reply is there just where the look is
+-- a read-only call's reply is there just where the call is
 pub look_replies : (items : List Item) (x : Slot) → In items (look_of x) → list_any (is_reply x.call) (events_of items) ≡ true
 look_replies [] x h = absurd h
 look_replies (i ∷ items) x (inr h) =
@@ -109,7 +109,7 @@ module _ (U : ℕ → List ℕ) (x last : RegisterState) (calls : CallParts last
   pub in_last : (i : Item) → In x.history i → In last.history i
   in_last i h = subst (λ (l : List Item). In l i) (sym is.history) (in_right is.newer x.history i h)
 
-  -- the look is there once its reply is
+  -- the call is there once its reply is
   pub look_there : (b : Slot) → In last.history (look_of b) → replied b.call x ≡ true → In x.history (look_of b)
   look_there b h e =
       let t = replied_is x.history b.call e in

@@ -10,7 +10,8 @@ use Rattle.std.proofs.lemmas.Bool.{cases_order, lt-ltb, le-ltb, eq-eqb, ne_eqb, 
 use Rattle.hk_base.specs.declared.stamp.NodeId.{NodeId}
 use Rattle.hk_base.specs.declared.view.View.{View}
 use Rattle.hk_lease.specs.Grants.{by_number, until_of, with_grant}
-use Rattle.hk_lease.specs.Past.{is_member, may_run, first_running, past_or, past_answer}
+use Rattle.hk_lease.specs.Past.{may_run, first_running, past_or, past_answer}
+use Rattle.hk_base.specs.View.{is_member}
 
 same_at : (x y : ℕ) → x ≡ y → is_eq (nat_cmp x y) ≡ true
 same_at x y e = rw (e, le-ltb y y (le_refl y), eq-eqb y y refl) refl
@@ -54,7 +55,7 @@ none_left true x o h = absurd cc
 none_left false x o h = (refl, h)
 
 -- where nothing outside the view may run, the end of a node outside is below now
-quiet : (grants : List (NodeId × ℕ)) (view : View) (now : ℕ) (node : NodeId) → first_running grants view now ≡ None → is_member view node ≡ false → 1 ≤ now → until_of grants node < now
+quiet : (grants : List (NodeId × ℕ)) (view : View) (now : ℕ) (node : NodeId) → first_running grants view now ≡ None → is_member node view.members ≡ false → 1 ≤ now → until_of grants node < now
 quiet [] view now node none out some = omega arith
 quiet (e ∷ es) view now node none out some =
     let split = none_left (may_run view now e) e (first_running es view now) none in
@@ -67,9 +68,9 @@ quiet (e ∷ es) view now node none out some =
         let n : list_any (λ (member : NodeId). nat_eq member.0 e.0.0) view.members ≡ false = rw (equal_numbers node.0 e.0.0 is) at out in
         ⊎_elim
         (λ (low : nat_le now e.1 ≡ false). leb-false now e.1 low)
-        (λ (high : not (is_member view e.0) ≡ false). let k : not false ≡ false = rw n at high in absurd (false≢true (sym k))) (and_cases (nat_le now e.1) (not (is_member view e.0)) test)
+        (λ (high : not (is_member e.0 view.members) ≡ false). let k : not false ≡ false = rw n at high in absurd (false≢true (sym k))) (and_cases (nat_le now e.1) (not (is_member e.0 view.members)) test)
 
-pub past : (grants : List (NodeId × ℕ)) (view : View) (now : ℕ) (node : NodeId) → past_answer grants view now ≡ Ok tt → is_member view node ≡ false → 1 ≤ now → until_of grants node < now
+pub past : (grants : List (NodeId × ℕ)) (view : View) (now : ℕ) (node : NodeId) → past_answer grants view now ≡ Ok tt → is_member node view.members ≡ false → 1 ≤ now → until_of grants node < now
 past grants view now node ok out some = quiet grants view now node (at (first_running grants view now) ok) out some
   where
     at : (o : Option (NodeId × ℕ)) → past_or o ≡ Ok tt → o ≡ None

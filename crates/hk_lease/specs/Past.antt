@@ -1,16 +1,14 @@
 -- Whether what was noted outside a view is past.
 use Rattle.std.specs.Prelude.{◌≡◌, ◌⊎◌, ◌<◌, ◌≤◌, ℕ, List, [], ◌∷◌, Option, None, Some, Bool, false, nat_le, ◌==◌, ◌&&◌, not, Result, Ok, Err}
-use Rattle.std.specs.List.{list_any, find, AllByRecursion}
+use Rattle.std.specs.List.{find, AllByRecursion}
 use Rattle.hk_base.specs.declared.stamp.NodeId.{NodeId}
 use Rattle.hk_base.specs.declared.view.View.{View}
+use Rattle.hk_base.specs.View.{is_member}
 use Rattle.hk_lease.specs.declared.grants.NotPast.{NotPast}
-
-abbrev pub is_member : View → NodeId → Bool
-is_member view node = list_any (λ member. member.0 == node.0) view.members
 
 -- the until is not below now, and its node is outside the view
 abbrev pub may_run : View → ℕ → NodeId × ℕ → Bool
-may_run view now grant = nat_le now grant.1 && not (is_member view grant.0)
+may_run view now grant = nat_le now grant.1 && not (is_member grant.0 view.members)
 
 -- the first that may run, in rising order of the nodes
 abbrev pub first_running : List (NodeId × ℕ) → View → ℕ → Option (NodeId × ℕ)
@@ -32,7 +30,7 @@ Among (y ∷ ys) x = (x ≡ y) ⊎ Among ys x
 -- Ok exactly where every until that was noted outside the view is below now. Else a node outside whose until is not, and no
 -- lower node is one.
 abbrev pub IsAllPast : Result Unit NotPast → List (NodeId × ℕ) → View → ℕ → Type 0
-IsAllPast (Ok _) grants view now = AllByRecursion (λ grant. is_member view grant.0 ≡ false → grant.1 < now) grants
+IsAllPast (Ok _) grants view now = AllByRecursion (λ grant. is_member grant.0 view.members ≡ false → grant.1 < now) grants
 IsAllPast (Err fault) grants view now =
-    Among grants (fault.node, fault.end) × (is_member view fault.node ≡ false) × (now ≤ fault.end)
-    × AllByRecursion (λ grant. is_member view grant.0 ≡ false → now ≤ grant.1 → fault.node.0 ≤ grant.0.0) grants
+    Among grants (fault.node, fault.end) × (is_member fault.node view.members ≡ false) × (now ≤ fault.end)
+    × AllByRecursion (λ grant. is_member grant.0 view.members ≡ false → now ≤ grant.1 → fault.node.0 ≤ grant.0.0) grants

@@ -5,8 +5,7 @@ use Rattle.std.proofs.lemmas.Bool.{false≢true, cases_lt}
 use Rattle.std.proofs.lemmas.Option.{slice_get_past}
 use Rattle.hk_base.specs.declared.stamp.NodeId.{NodeId}
 use Rattle.hk_base.specs.declared.view.View.{View}
-use Rattle.hk_base.specs.View.{IsView}
-use Rattle.hk_lease.specs.Past.{is_member}
+use Rattle.hk_base.specs.View.{IsView, is_member}
 use Rattle.hk_paxos.specs.Run.{In}
 use Rattle.hk_council.specs.Chain.{IsChain, LeavesForGood}
 use Rattle.hk_council.proofs.Chains.{epoch_at}
@@ -74,7 +73,7 @@ module _ (views : List View) (each : AllByRecursion IsView views) (chain : IsCha
       at (inr a) (inl b) = absurd (omega (arith, a.0, b.0, up))
       at (inr a) (inr b) = omega (arith, a.1, b.1)
 
-  pub never : (e f g : ℕ) (n : NodeId) → e ≤ f → f ≤ g → is_member (view_in views e) n ≡ true → is_member (view_in views g) n ≡ true → is_member (view_in views f) n ≡ true
+  pub never : (e f g : ℕ) (n : NodeId) → e ≤ f → f ≤ g → is_member n (view_in views e).members ≡ true → is_member n (view_in views g).members ≡ true → is_member n (view_in views f).members ≡ true
   never zero f g n low high was is = absurd (false≢true was)
   never (suc e) zero g n low high was is = absurd (omega (arith, low))
   never (suc e) (suc f) zero n low high was is = absurd (omega (arith, high))

@@ -2,7 +2,7 @@
 use Rattle.std.proofs.Common.{◌≡◌, ℕ, ◌≤◌, true, false, subst, inl, inr, ⊎_elim, arith}
 use Rattle.hk_base.specs.declared.stamp.NodeId.{NodeId}
 use Rattle.hk_base.specs.declared.view.View.{View}
-use Rattle.hk_lease.specs.Past.{is_member}
+use Rattle.hk_base.specs.View.{is_member}
 use Rattle.hk_clocks.specs.Clocks.{ClockState}
 use Rattle.hk_earned.specs.Machine.{Setting, State, granted_by, member}
 use Rattle.hk_earned.proofs.Majorities.{Most}
@@ -19,8 +19,8 @@ module _ (s : Setting) (views : ℕ → View) where
     past = λ n l.
         let up = p.upto in
         let low = l.lower in
-        let was : member s l.before n ≡ true = subst (λ (v : View). is_member v n ≡ true) (same l.before (omega (arith, up, low))) l.was in
-        let out : member s epoch n ≡ false = subst (λ (v : View). is_member v n ≡ false) (same epoch up) l.out in
+        let was : member s l.before n ≡ true = subst (λ (v : View). is_member n v.members ≡ true) (same l.before (omega (arith, up, low))) l.was in
+        let out : member s epoch n ≡ false = subst (λ (v : View). is_member n v.members ≡ false) (same epoch up) l.out in
         p.past n (record { before = l.before; first = l.first; lower = l.lower; was = was; out = out; live = l.live });
   }
 

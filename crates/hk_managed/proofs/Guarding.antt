@@ -4,7 +4,8 @@ use Rattle.hk_base.specs.declared.stamp.NodeId.{NodeId}
 use Rattle.hk_base.specs.declared.view.View.{View}
 use Rattle.hk_base.specs.declared.letter.Actor.TheVariants.{Node, Manager}
 use Rattle.hk_base.specs.declared.letter.Body.TheVariants as Body
-use Rattle.hk_node.specs.Node.{NodeState, epoch_of, is_member}
+use Rattle.hk_node.specs.Node.{NodeState, epoch_of}
+use Rattle.hk_base.specs.View.{is_member}
 use Rattle.hk_earned.specs.Machine.{In}
 use Rattle.hk_earned.specs.Earned.{IsLeftOut}
 use Rattle.hk_earned.proofs.Majorities.{Most}

@@ -9,7 +9,8 @@ use Rattle.hk_base.specs.declared.letter.Actor.TheVariants.{Node, Manager}
 use Rattle.hk_base.specs.declared.letter.Letter.{Letter}
 use Rattle.hk_base.specs.declared.letter.Body.TheVariants as Body
 use Rattle.hk_lease.specs.Grants.{with_grant}
-use Rattle.hk_lease.specs.Past.{is_member, past_answer}
+use Rattle.hk_lease.specs.Past.{past_answer}
+use Rattle.hk_base.specs.View.{is_member}
 use Rattle.hk_lease.specs.Wait.{wait}
 use Rattle.hk_clocks.specs.Runs.{seen}
 use Rattle.hk_manager.specs.Manager.{ManagerState}
@@ -131,7 +132,7 @@ module _ (w : WorldState) (sound : IsWorld w) (council : IsCouncil w) (e : IsEar
   abbrev pub grants : NodeId → ℕ → ManagerStepped
   grants n asked = sends (record g { untils = with_grant g.untils n (g.clock + wait g.lease) }) (letter_to g g.held.epoch (Body.LeaseGive (min (asked + g.lease) MAX_TIME)) (Node n) ∷ [])
 
-  pub grant_earned : (n : NodeId) (asked : ℕ) → In e.state.asks (record { node = n; manager = m; asked = asked }) → is_member g.held n ≡ true → IsEarned (then_world (grants n asked))
+  pub grant_earned : (n : NodeId) (asked : ℕ) → In e.state.asks (record { node = n; manager = m; asked = asked }) → is_member n g.held.members ≡ true → IsEarned (then_world (grants n asked))
   grant_earned n asked sent inside = made_earned (grants n asked) after
       (parts_then (grants n asked) after e.mirrors.upto (event_kept (setting_of w e.founders) (stay_out w sound council e.founders) e.state (TakeAsk ask) (is_live, sent, inside_now) e.parts)) refl
       (record { asks = λ y h. h; gives = λ y h. inr h; activates = λ y h. h }) (λ k. record { started = refl; ends = refl; granted = refl })
@@ -146,7 +147,7 @@ module _ (w : WorldState) (sound : IsWorld w) (council : IsCouncil w) (e : IsEar
       after = next (setting_of w e.founders) e.state (TakeAsk ask)
 
       inside_now : member (setting_of w e.founders) (e.state.held m) n ≡ true
-      inside_now = subst (λ (v : View). is_member v n ≡ true) (sym the_view) inside
+      inside_now = subst (λ (v : View). is_member n v.members ≡ true) (sym the_view) inside
 
       noted : List (NodeId × ℕ)
       noted = with_grant (e.state.untils m) n (clock e.state (Manager m) + wait w.lease)

@@ -17,7 +17,7 @@ use Rattle.hk_paxos.specs.declared.acceptor.Promise.{Promise}
 use Rattle.hk_paxos.specs.declared.proposer.Proposer.{Proposer}
 use Rattle.hk_paxos.specs.Paxos.{acceptor_on_prepare, acceptor_on_accept, proposer_new, proposer_on_promise, proposer_on_accepted}
 use Rattle.hk_lease.specs.Grants.{with_grant}
-use Rattle.hk_lease.specs.Past.{is_member}
+use Rattle.hk_base.specs.View.{is_member}
 use Rattle.hk_lease.specs.Wait.{wait}
 use Rattle.hk_manager.specs.declared.instance.TheConstants.{MAX_EPOCH, MAX_ROUND}
 use Rattle.hk_manager.specs.declared.fault.ManagerFault.{ManagerFault}
@@ -118,16 +118,16 @@ pub record IsGrant (m : ManagerState) (from : Actor) (body : Body) (s : ManagerS
   pub asked : ℕ
   pub asks : from ≡ Node node
   pub said : body ≡ Body.LeaseAsk asked
-  pub member : is_member m.held node ≡ true
+  pub member : is_member node m.held.members ≡ true
   pub is : s ≡ sends (record m { untils = with_grant m.untils node (m.clock + wait m.lease) }) (letter_to m m.held.epoch (Body.LeaseGive (min (asked + m.lease) MAX_TIME)) (Node node) ∷ [])
 
 abbrev pub Ways : ManagerState → Actor → Body → ManagerStepped → Type 0
 Ways m from body s = IsLearned m s ⊎ IsGrant m from body s
 
 by_node : (body : Body) (m : ManagerState) (n : NodeId) → Ways m (Node n) body (from_node body m n)
-by_node (Body.LeaseAsk asked) m n = at (is_member m.held n) refl
+by_node (Body.LeaseAsk asked) m n = at (is_member n m.held.members) refl
   where
-    at : (b : Bool) → is_member m.held n ≡ b →
+    at : (b : Bool) → is_member n m.held.members ≡ b →
         Ways m (Node n) (Body.LeaseAsk asked) (cond b (sends (record m { untils = with_grant m.untils n (m.clock + wait m.lease) }) (letter_to m m.held.epoch (Body.LeaseGive (min (asked + m.lease) MAX_TIME)) (Node n) ∷ [])) (idle m))
     at true e = inr (record { node = n; asked = asked; asks = refl; said = refl; member = e; is = refl })
     at false e = inl (same_learned m)

@@ -22,7 +22,8 @@ use Rattle.hk_key.specs.declared.out.What.TheVariants as What
 use Rattle.hk_key.specs.Table.{Done, replay}
 use Rattle.hk_council.specs.Council.{IsNode}
 use Rattle.hk_node.specs.Rows.{Rows, find_row, row_at}
-use Rattle.hk_node.specs.Node.{NodeState, epoch_of, members_of, is_member, is_other}
+use Rattle.hk_node.specs.Node.{NodeState, epoch_of, members_of, is_other}
+use Rattle.hk_base.specs.View.{is_member}
 use Rattle.hk_node.specs.Sends.{letters_to, pending_body, body_of, addressees, sent}
 use Rattle.hk_node.specs.Stepped.{Stepped, idle, row_step}
 use Rattle.hk_node.specs.Calls.{kind_of, next_stamp, register_in, at_limit, at_turn, at_state, lease_end, at_lease, called}

@@ -23,7 +23,8 @@ use Rattle.hk_manager.specs.declared.event.ManagerEvent.TheVariants as ManagerEv
 use Rattle.hk_manager.specs.declared.fault.ManagerFault.{ManagerFault}
 use Rattle.hk_manager.specs.Manager.{ManagerState}
 use Rattle.hk_manager.specs.Steps.{ManagerStepped, manager_step as step_of}
-use Rattle.hk_node.specs.Node.{NodeState, epoch_of, is_member}
+use Rattle.hk_node.specs.Node.{NodeState, epoch_of}
+use Rattle.hk_base.specs.View.{is_member}
 use Rattle.hk_node.specs.Copies.{asks_copy}
 use Rattle.hk_node.specs.Steps.{receives, resent, replayed, asks_lease}
 use Rattle.hk_earned.proofs.Clocked.{skew_kept}

@@ -2,7 +2,8 @@
 use Rattle.std.specs.Prelude.{◌≡◌, ◌+◌, ◌<◌, ◌≤◌, ℕ, List, true, false, Some}
 use Rattle.hk_base.specs.declared.stamp.NodeId.{NodeId}
 use Rattle.hk_base.specs.declared.view.View.{View}
-use Rattle.hk_node.specs.Node.{NodeState, epoch_of, is_member}
+use Rattle.hk_node.specs.Node.{NodeState, epoch_of}
+use Rattle.hk_base.specs.View.{is_member}
 use Rattle.hk_world.specs.declared.event.Header.{Header}
 use Rattle.hk_world.specs.declared.event.Event.{Event}
 use Rattle.hk_world.specs.World.{WorldState, process_at, node_of, numbered}

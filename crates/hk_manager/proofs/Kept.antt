@@ -11,14 +11,14 @@ use Rattle.hk_base.specs.declared.letter.Actor.TheVariants.{Node, Manager}
 use Rattle.hk_base.specs.declared.letter.Letter.{Letter}
 use Rattle.hk_base.specs.declared.letter.Body.{Body}
 use Rattle.hk_base.specs.declared.letter.Body.TheVariants as Body
-use Rattle.hk_base.specs.View.{IsView}
+use Rattle.hk_base.specs.View.{IsView, is_member}
 use Rattle.hk_base.specs.Range.{IsLetter, IsBody, IsBallot, IsVote}
 use Rattle.hk_paxos.specs.declared.acceptor.Promise.{Promise}
 use Rattle.hk_paxos.specs.declared.proposer.Proposer.{Proposer}
 use Rattle.hk_paxos.specs.Paxos.{is_refused, acceptor_on_prepare, acceptor_on_accept, proposer_on_promise, proposer_on_accepted}
 use Rattle.hk_lease.specs.declared.grants.NotPast.{NotPast as StillRuns}
 use Rattle.hk_lease.specs.Grants.{with_grant}
-use Rattle.hk_lease.specs.Past.{is_member, past_answer}
+use Rattle.hk_lease.specs.Past.{past_answer}
 use Rattle.hk_lease.specs.Wait.{wait}
 use Rattle.hk_manager.specs.declared.instance.Instance.{Instance}
 use Rattle.hk_manager.specs.declared.instance.TheConstants.{MAX_EPOCH, MAX_ROUND}
@@ -125,7 +125,7 @@ at_proposal_fine m step (Some p) is sound each = each p sound
 -- ---- letters
 ask_fine : (m : ManagerState) (from : NodeId) (asked : ℕ) → IsManager m → IsFine (asks_lease m from asked)
 ask_fine m from asked is =
-    choice (is_member m.held from) _ (idle m)
+    choice (is_member from m.held.members) _ (idle m)
     (record {
       manager = with_untils_kept m (with_grant m.untils from (m.clock + wait m.lease)) is;
       letters = one_fine m m.held.epoch (Body.LeaseGive (min (asked + m.lease) MAX_TIME)) is (omega arith) (Node from) tt;

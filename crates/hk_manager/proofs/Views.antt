@@ -13,8 +13,7 @@ use Rattle.hk_base.specs.declared.stamp.NodeId.{NodeId}
 use Rattle.hk_base.specs.declared.view.View.{View}
 use Rattle.hk_base.specs.declared.view.Change.{Change}
 use Rattle.hk_base.specs.declared.view.Change.TheVariants.{Drop, Add}
-use Rattle.hk_base.specs.View.{IsView, member_numbers}
-use Rattle.hk_lease.specs.Past.{is_member}
+use Rattle.hk_base.specs.View.{IsView, member_numbers, is_member}
 use Rattle.hk_manager.specs.declared.fault.ManagerFault.TheVariants.{NoSuchMember, LastMember, Full, NoNumbers}
 use Rattle.hk_manager.specs.Changes.{changed, change_fault}
 
@@ -153,7 +152,7 @@ add_fault false false h = (refl, refl)
 
 -- a change that may be gives a view
 pub changed_view : (view : View) (change : Change) → IsView view → change_fault view change ≡ None → IsView (changed view change)
-changed_view view (Drop node) is possible = dropped_view view node is (eqb-false _ 1 (drop_fault view node (is_member view node) (length view.members == 1) possible))
+changed_view view (Drop node) is possible = dropped_view view node is (eqb-false _ 1 (drop_fault view node (is_member node view.members) (length view.members == 1) possible))
 changed_view view Add is possible =
     let tests = add_fault (nat_le 16 (length view.members)) (nat_le 65536 view.next) possible in
     added_view view is (leb-false 16 _ tests.0) (leb-false 65536 _ tests.1)

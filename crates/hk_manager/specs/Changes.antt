@@ -4,7 +4,7 @@ use Rattle.std.specs.List.{filter}
 use Rattle.hk_base.specs.declared.view.View.{View}
 use Rattle.hk_base.specs.declared.view.Change.{Change}
 use Rattle.hk_base.specs.declared.view.Change.TheVariants.{Drop, Add}
-use Rattle.hk_lease.specs.Past.{is_member}
+use Rattle.hk_base.specs.View.{is_member}
 use Rattle.hk_manager.specs.declared.fault.ManagerFault.{ManagerFault}
 use Rattle.hk_manager.specs.declared.fault.ManagerFault.TheVariants.{NoSuchMember, LastMember, Full, NoNumbers}
 
@@ -16,6 +16,6 @@ changed view Add = record { epoch = view.epoch + 1; members = view.members ++ re
 -- why a change can't be, if so: a view has 1 to 16 members, and numbers are below 65,536
 abbrev pub change_fault : View → Change → Option ManagerFault
 change_fault view (Drop node) =
-    if is_member view node then (if length view.members == 1 then Some LastMember else None) else Some NoSuchMember
+    if is_member node view.members then (if length view.members == 1 then Some LastMember else None) else Some NoSuchMember
 change_fault view Add =
     if nat_le 16 (length view.members) then Some Full else (if nat_le 65536 view.next then Some NoNumbers else None)

@@ -16,7 +16,8 @@ use Rattle.hk_paxos.specs.declared.proposer.Proposer.{Proposer}
 use Rattle.hk_paxos.specs.Paxos.{acceptor_on_prepare, acceptor_on_accept, proposer_new, proposer_on_promise, proposer_on_accepted}
 use Rattle.hk_lease.specs.declared.grants.NotPast.{NotPast as StillRuns}
 use Rattle.hk_lease.specs.Grants.{with_grant}
-use Rattle.hk_lease.specs.Past.{is_member, past_answer}
+use Rattle.hk_lease.specs.Past.{past_answer}
+use Rattle.hk_base.specs.View.{is_member}
 use Rattle.hk_lease.specs.Wait.{wait}
 use Rattle.hk_manager.specs.declared.event.ManagerEvent.{ManagerEvent}
 use Rattle.hk_manager.specs.declared.event.ManagerEvent.TheVariants.{Propose, Receive, Activate, Tick}
@@ -97,7 +98,7 @@ at_proposal (Some proposer) m step = step proposer
 -- A member of the view that it holds gets a lease, whose end is on the asker's clock. The until that it notes is on its own.
 abbrev pub asks_lease : ManagerState → NodeId → ℕ → ManagerStepped
 asks_lease m from asked =
-    if is_member m.held from
+    if is_member from m.held.members
     then sends (record m { untils = with_grant m.untils from (m.clock + wait m.lease) }) (letter_to m m.held.epoch (Body.LeaseGive (min (asked + m.lease) MAX_TIME)) (Node from) ∷ [])
     else idle m
 

@@ -1,7 +1,6 @@
 //! The view that follows another one.
 
 ghost use Rattle.std.specs.Prelude.{◌≡◌, ◌+◌, ◌<◌, None, Some, Ok, Err, IfOk};
-ghost use Rattle.hk_lease.specs.Past.{is_member};
 ghost use Rattle.hk_base.specs.declared.view.Change.TheVariants.{Drop, Add};
 ghost use Rattle.hk_manager.specs.Changes.{changed, change_fault};
 ghost use Rattle.hk_manager.specs.Outs.{IsFaultOf};
@@ -10,20 +9,13 @@ use crate::fault::ManagerFault;
 use hk_base::{Change, Members, Memory, NodeId, View};
 use std::alloc::Global;
 
-/// Whether the view has the node as a member.
-pub(crate) fn is_member(view: &View, node: NodeId) -> bool
-    ensures { result ≡ is_member view.now node }
-{
-    view.members.as_slice().contains(&node)
-}
-
 /// Why the view can't be changed so, if it can't. It takes no memory.
 pub(crate) fn check_change(view: &View, change: Change) -> Result<(), ManagerFault>
     ensures { IsFaultOf result (change_fault view.now change) }
 {
     match change {
         Change::Drop(node) => {
-            if !is_member(view, node) {
+            if !view.has_member(node) {
                 return Err(ManagerFault::NoSuchMember);
             }
             if view.members.len() == 1 {

@@ -9,7 +9,8 @@ use Rattle.hk_base.specs.declared.memory.Memory.{Memory}
 use Rattle.hk_base.specs.declared.view.View.{View}
 use Rattle.hk_lease.specs.Ends.{granted_end}
 use Rattle.hk_node.specs.declared.out.NodeOut.{NodeOut}
-use Rattle.hk_node.specs.Node.{NodeState, epoch_of, is_member}
+use Rattle.hk_node.specs.Node.{NodeState, epoch_of}
+use Rattle.hk_base.specs.View.{is_member}
 use Rattle.hk_node.specs.Heard.{raised, is_greatest, has_majority}
 use Rattle.hk_node.specs.Stepped.{Stepped, idle}
 use Rattle.hk_node.specs.Sound.{IsNode}

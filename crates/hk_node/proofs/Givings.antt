@@ -1,4 +1,4 @@
--- PriorRow rows that are given back from the last to the first.
+-- Prior rows that are given back, from the last to the first.
 use Rattle.std.proofs.Common.{◌≡◌, ◌≢◌, List, [], ◌∷◌, ◌++◌, map, Option, Some, None, refl, sym, ap, ◌∙◌, subst}
 use Rattle.std.specs.Option.{IsSome}
 use Rattle.std.specs.List.{AllByRecursion}

@@ -6,7 +6,7 @@ use Rattle.std.specs.List.Sorted.{IsStrictlySortedBy}
 use Rattle.std.proofs.lemmas.Map.Made.{keys_of-map_values}
 use Rattle.std.proofs.lemmas.List.Concat.{flat_map-cons}
 use Rattle.hk_base.specs.declared.view.View.{View}
-use Rattle.hk_base.specs.View.{IsView}
+use Rattle.hk_base.specs.View.{IsView, is_member}
 use Rattle.hk_copy.specs.Batches.{key_cmp}
 use Rattle.hk_key.specs.declared.row.Row.{Row}
 use Rattle.hk_key.specs.Table.{on_view}
@@ -18,7 +18,7 @@ use Rattle.hk_node.specs.declared.report.Undo.{Undo}
 use Rattle.hk_node.specs.declared.report.Undo.TheVariants as Undo
 use Rattle.hk_node.specs.declared.out.NodeOut.{NodeOut}
 use Rattle.hk_node.specs.Rows.{Rows, find_row}
-use Rattle.hk_node.specs.Node.{NodeState, epoch_of, is_member}
+use Rattle.hk_node.specs.Node.{NodeState, epoch_of}
 use Rattle.hk_node.specs.Sends.{sent}
 use Rattle.hk_node.specs.Stepped.{Stepped, idle}
 use Rattle.hk_node.specs.Steps.{viewed, installed_in, installs}

@@ -15,7 +15,7 @@ use Rattle.hk_base.specs.declared.letter.CopyItem.{CopyItem}
 use Rattle.hk_base.specs.declared.letter.Letter.{Letter}
 use Rattle.hk_base.specs.declared.letter.Body.{Body}
 use Rattle.hk_base.specs.declared.letter.Body.TheVariants.{Inv, Ack, Val, CopyAsk, CopyGive, LeaseAsk, LeaseGive, Prepare, Promise, Accept, Accepted, Chosen, Activate}
-use Rattle.hk_base.specs.View.{IsView}
+use Rattle.hk_base.specs.View.{IsView, is_member}
 use Rattle.hk_base.specs.Range.{IsBody, IsLetter}
 use Rattle.hk_copy.specs.Batches.{last_key, key_cmp}
 use Rattle.hk_base.specs.Stamp.{tag_of}
@@ -25,7 +25,7 @@ use Rattle.hk_key.specs.Table.{first_row, on_inv, on_ack, on_val, on_view, on_co
 use Rattle.hk_key.proofs.Steps.{first_is_sound, inv_keeps_sound, ack_keeps_sound, val_keeps_sound, view_keeps_sound, copy_keeps_sound}
 use Rattle.hk_key.proofs.Rising.{view_never_lowers}
 use Rattle.hk_node.specs.Rows.{Rows, row_at, is_touched, with_row}
-use Rattle.hk_node.specs.Node.{NodeState, epoch_of, members_of, is_member, is_other}
+use Rattle.hk_node.specs.Node.{NodeState, epoch_of, members_of, is_other}
 use Rattle.hk_node.specs.Copies.{merged, is_next, takes_copy}
 use Rattle.hk_node.specs.Heard.{raised, is_greatest, has_majority}
 use Rattle.hk_node.specs.Steps.{installed_in, installs, installs_by_majority, activated_by, heard, received, is_addressed, receives_from, receives}

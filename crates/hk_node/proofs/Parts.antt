@@ -18,14 +18,14 @@ use Rattle.hk_base.specs.declared.call.State.TheVariants.{Valid, Invalid, Write,
 use Rattle.hk_base.specs.declared.call.Content.{Content}
 use Rattle.hk_base.specs.declared.letter.CopyItem.{CopyItem}
 use Rattle.hk_base.specs.declared.view.View.{View}
-use Rattle.hk_base.specs.View.{member_numbers}
+use Rattle.hk_base.specs.View.{member_numbers, is_member}
 use Rattle.hk_base.specs.Range.{IsWithin}
 use Rattle.hk_base.specs.Stamp.{stamp_after, tag_of}
 use Rattle.hk_key.specs.declared.row.Pending.{Pending}
 use Rattle.hk_key.specs.declared.row.Row.{Row}
 use Rattle.hk_key.specs.Sound.{IsOther}
 use Rattle.hk_key.specs.Table.{displaced, on_inv, on_inv_at, on_ack, on_ack_pending, on_val, on_val_at, validated, on_view, on_view_at, on_copy, on_copy_at, copied_same}
-use Rattle.hk_node.specs.Node.{NodeState, members_of, members_in, is_member, is_other}
+use Rattle.hk_node.specs.Node.{NodeState, members_of, members_in, is_other}
 use Rattle.hk_node.specs.Calls.{next_stamp, lease_end}
 use Rattle.hk_node.specs.Sound.{IsNode}
 

@@ -1,8 +1,9 @@
 -- A node: one replica of the group, with all that it knows.
 use Rattle.std.specs.Prelude.{ℕ, List, [], Bool, Option, Some, None, not, ◌&&◌, ◌==◌}
-use Rattle.std.specs.List.{list_any, filter}
+use Rattle.std.specs.List.{filter}
 use Rattle.hk_base.specs.declared.stamp.NodeId.{NodeId}
 use Rattle.hk_base.specs.declared.view.View.{View}
+use Rattle.hk_base.specs.View.{is_member}
 use Rattle.hk_node.specs.Rows.{Rows}
 
 pub record NodeState : Type 0 where
@@ -38,9 +39,6 @@ epoch_of node = epoch_in node.view
 
 abbrev pub members_of : NodeState → List NodeId
 members_of node = members_in node.view
-
-abbrev pub is_member : NodeId → List NodeId → Bool
-is_member node members = list_any (λ member. member.0 == node.0) members
 
 -- the members but one, in rising order
 abbrev pub others : NodeId → List NodeId → List NodeId

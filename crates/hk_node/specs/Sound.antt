@@ -5,14 +5,14 @@ use Rattle.std.specs.List.Sorted.{IsStrictlySortedBy}
 use Rattle.std.specs.Map.{keys_of}
 use Rattle.hk_base.specs.declared.view.View.{View}
 use Rattle.hk_base.specs.declared.time.TheConstants.{MAX_TIME}
-use Rattle.hk_base.specs.View.{IsView}
+use Rattle.hk_base.specs.View.{IsView, is_member}
 use Rattle.hk_base.specs.Range.{IsLetter, IsRoom}
 use Rattle.hk_copy.specs.Batches.{key_cmp}
 use Rattle.hk_key.specs.Sound.{IsSound}
 use Rattle.hk_node.specs.declared.event.NodeEvent.{NodeEvent}
 use Rattle.hk_node.specs.declared.event.NodeEvent.TheVariants.{Call, Receive, Resend, Replay, AskLease, AskCopy, Tick, Grant, Install}
 use Rattle.hk_node.specs.Rows.{is_touched}
-use Rattle.hk_node.specs.Node.{NodeState, members_of, is_member}
+use Rattle.hk_node.specs.Node.{NodeState, members_of}
 use Rattle.hk_node.specs.Heard.{AreHeard}
 
 -- it is a view, and the node is a member of it

@@ -3,7 +3,7 @@
 //!
 //! A node is a machine without threads: an event in, letters and replies out. What each event does is a definition,
 //! `specs/Steps.antt`, over the table of one row that `hk_key` has; [`Node::step`] equals it, or answers that memory is
-//! wanting and leaves the node as it was. Undo its letters and replies a step reports what it did to the node: the rows
+//! wanting and leaves the node as it was. Beside its letters and replies a step reports what it did to the node: the rows
 //! that changed, each with the one before. All that watch a node read that, and by it a step is undone.
 #![tactic(auto)]
 

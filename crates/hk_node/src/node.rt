@@ -75,9 +75,9 @@ fn epoch_in(view: &Option<View>) -> u64
 }
 
 impl Node {
-    ghost use Rattle.hk_base.specs.View.{IsView};
+    ghost use Rattle.hk_base.specs.View.{IsView, is_member};
     ghost use Rattle.hk_base.specs.Range.{IsLetter, IsRoom};
-    ghost use Rattle.hk_node.specs.Node.{NodeState, epoch_of, is_member};
+    ghost use Rattle.hk_node.specs.Node.{NodeState, epoch_of};
     ghost use Rattle.hk_node.specs.Rows.{find_row};
     ghost use Rattle.hk_node.specs.Made.{founder, joiner};
     ghost use Rattle.hk_node.specs.Calls.{called};

@@ -23,7 +23,8 @@ use Rattle.hk_key.specs.Table.{Done, copied_same, on_copy_at, on_copy, replay}
 use Rattle.hk_register.specs.Machine.{In}
 use Rattle.hk_node.specs.Calls.{kind_of, next_stamp, register_in, at_limit, at_turn, at_state, lease_end, at_lease, called}
 use Rattle.hk_node.specs.Copies.{batch_behind, merged, is_next}
-use Rattle.hk_node.specs.Node.{NodeState, epoch_of, members_of, is_member, is_other}
+use Rattle.hk_node.specs.Node.{NodeState, epoch_of, members_of, is_other}
+use Rattle.hk_base.specs.View.{is_member}
 use Rattle.hk_node.specs.Rows.{find_row, row_at}
 use Rattle.hk_node.specs.Sends.{letters_to}
 use Rattle.hk_node.specs.Stepped.{Stepped, idle}

@@ -19,7 +19,7 @@ use Rattle.hk_base.specs.declared.letter.CopyItem.{CopyItem}
 use Rattle.hk_base.specs.declared.view.View.{View}
 use Rattle.hk_base.specs.Register.{act}
 use Rattle.hk_base.specs.Stamp.{tag_of}
-use Rattle.hk_base.specs.View.{member_numbers}
+use Rattle.hk_base.specs.View.{member_numbers, is_member}
 use Rattle.hk_copy.specs.Batches.{is_nil, last_key}
 use Rattle.hk_key.specs.declared.row.Row.{Row}
 use Rattle.hk_key.specs.Notes.{all_noted}
@@ -30,7 +30,7 @@ use Rattle.hk_register.specs.Machine.{In, Message}
 use Rattle.hk_register.proofs.Grow.{in_either}
 use Rattle.hk_node.specs.Calls.{kind_of, next_stamp, register_in, at_limit, at_turn, at_state, lease_end, at_lease, called}
 use Rattle.hk_node.specs.Copies.{batch_behind, asks_copy, gives_copy, merged, is_next}
-use Rattle.hk_node.specs.Node.{NodeState, epoch_of, members_of, is_member, is_other}
+use Rattle.hk_node.specs.Node.{NodeState, epoch_of, members_of, is_other}
 use Rattle.hk_node.specs.Rows.{Rows, find_row, row_at, with_row}
 use Rattle.hk_node.specs.Sends.{letters_to, sent}
 use Rattle.hk_node.specs.Sound.{IsNode}

@@ -1,8 +1,7 @@
 //! Two nodes in one program. Each has a worker, by whose turns letters come to its shards, and a desk.
 
 ghost use Rattle.std.specs.Prelude.{◌≡◌, ◌∷◌, [], true};
-ghost use Rattle.hk_base.specs.View.{IsView};
-ghost use Rattle.hk_node.specs.Node.{is_member};
+ghost use Rattle.hk_base.specs.View.{IsView, is_member};
 ghost use Rattle.hk_locked.specs.Places.{node_names};
 ghost use Rattle.hk_worker.specs.Founding.{names_of};
 

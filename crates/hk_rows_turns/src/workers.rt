@@ -1,8 +1,7 @@
 //! Workers at the shards of node 0, which has node 1 and manager 0 beside it.
 
 ghost use Rattle.std.specs.Prelude.{◌≡◌, true};
-ghost use Rattle.hk_base.specs.View.{IsView};
-ghost use Rattle.hk_node.specs.Node.{is_member};
+ghost use Rattle.hk_base.specs.View.{IsView, is_member};
 ghost use Rattle.hk_locked.specs.Places.{node_names};
 ghost use Rattle.hk_worker.specs.Founding.{names_of};
 

@@ -2,8 +2,7 @@
 
 ghost use Rattle.std.specs.Prelude.{◌≡◌, ◌≤◌, true};
 ghost use Rattle.hk_base.specs.declared.time.TheConstants.{MAX_TIME};
-ghost use Rattle.hk_base.specs.View.{IsView};
-ghost use Rattle.hk_node.specs.Node.{is_member};
+ghost use Rattle.hk_base.specs.View.{IsView, is_member};
 
 use crate::completing::Quiet;
 use hk_base::{Content, Data, Key, MAX_TIME, Members, NodeId, Op, Sequence, View};

@@ -168,7 +168,7 @@ module _ (run : RunState) (key : List ℕ) (event : Event) (a : Accepted) (e : w
   longer : (said : List Item) × (now.history ≡ said ++ t.history)
   longer = let next = traced_history key t event a (acting_of a) in (next.0, ap (λ (z : Trace). z.history) (trace_then key run event a e) ∙ next.1)
 
-  -- the looks more are those that the event says
+  -- the read-only calls more are those that the event says
   looks_said : (s : ℕ) → calls_in (goes.looked s).more ≡ looks_at s longer.0
   looks_said s =
       let added = goes.looked s in

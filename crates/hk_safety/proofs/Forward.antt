@@ -63,7 +63,7 @@ module _ (last : ℕ) (old now : List Placed) (i least : ℕ) (x : Placed) (with
         least_is = low ∙ sym least_here ∙ ap (least_of last) (sym from_here);
       }
 
-  -- a look
+  -- a read-only call
   pub forward_same : (next : List Placed) (next_least : ℕ) → is_some x.entry.tag ≡ false → next_least ≡ least → next ≡ now → IsForward last old next i next_least
   forward_same next next_least untagged is same_items =
       let items : at_moments last (x ∷ behind) ≡ x ∷ at_moments last behind =

@@ -327,7 +327,7 @@ module _ (key : List ℕ) (t : Trace) (event : Event) (a : Accepted) (id : NodeI
   abbrev said : List Item
   said = items_of key event (t.world.calls + 1) was x (told_at key a.told)
 
-  -- items, updates and looks go on with the trace
+  -- items, updates and read-only calls go on with the trace
   followed_by : IsSaid k0 k1 lines said (updates_of id.0 was said) → k2 ≡ with_lines k1 lines → IsSameBut k2 k3 →
       ((s : ℕ) → 1 ≤ s → IsKnown (After a) (project key (added key t event a id.0 was x)) s (at_stamp s k3).evidence) →
       IsKeyOf key k3 (added key t event a id.0 was x)

@@ -33,7 +33,7 @@ use Rattle.hk_safety.proofs.KeptOrder.{Kept, Ordered, above_head, ordered_rest, 
 use Rattle.hk_safety.proofs.Places.{found_within, place_within}
 use Rattle.hk_safety.proofs.Slots.{found_is, is_found}
 
--- ---- looks are passed over
+-- ---- read-only calls are passed over
 least_looks : (last : ℕ) (read_only : List ReadOnlyCall) (more : List Placed) → least_of last (map look_placed read_only ++ more) ≡ least_of last more
 least_looks last [] more = refl
 least_looks last (l ∷ read_only) more = least_looks last read_only more

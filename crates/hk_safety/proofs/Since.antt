@@ -1,4 +1,4 @@
--- What one event makes of the evidence and the looks that are kept, one part after the other.
+-- What one event makes of the evidence and the read-only calls that are kept, one part after the other.
 use Rattle.std.proofs.Common.{◌≡◌, ℕ, List, [], ◌∷◌, ◌++◌, append-nil, append_assoc, ◌∙◌, sym, refl, ap, subst, ⊎_elim}
 use Rattle.hk_base.specs.declared.view.View.{View}
 use Rattle.hk_register.specs.Machine.{In}
@@ -30,7 +30,7 @@ since_shown v c (Evidence.Complete event) new shown = shown
 since_shown v c (Covers groups) (Evidence.Complete event) shown = shown.3
 since_shown v c (Covers groups) (Covers more) shown = tt
 
--- ---- looks
+-- ---- read-only calls
 pub looked_same : (n : ℕ) (old new : List ReadOnlyCall) → new ≡ old → AreLooked n old new
 looked_same n old new same = record { more = []; same = same ∙ sym (append-nil old); here = λ l h. absurd h }
 

@@ -95,7 +95,7 @@ IsSinceThen n (Evidence.Complete event) new = new ≡ Evidence.Complete event
 IsSinceThen n (Covers old) (Evidence.Complete event) = event ≡ n
 IsSinceThen n (Covers old) (Covers new) = ⊤
 
--- looks more, which were answered at this event
+-- read-only calls more, which were answered at this event
 pub record AreLooked (n : ℕ) (old new : List ReadOnlyCall) : Type 0 where
   pub more : List ReadOnlyCall
   pub same : new ≡ old ++ more

@@ -110,7 +110,7 @@ abbrev pub IsSince : RunState → List ℕ → ℕ → Evidence → Type 0
 IsSince run key s (Evidence.Complete event) = (completed_at run key s ≡ event) × (event ≤ length run.events)
 IsSince run key s (Covers groups) = completed_at run key s ≡ length run.events + 1
 
--- and a look with the event that replied to it
+-- and a read-only call with the event that replied to it
 abbrev pub IsRepliedAt : RunState → List ℕ → ReadOnlyCall → Type 0
 IsRepliedAt run key l = (replied_at run key l.call.0 ≡ l.event) × (l.event ≤ length run.events)
 

@@ -126,7 +126,7 @@ fn look_stamp(
     Ok(())
 }
 
-// What a call made of the stamps: it began an update, or looked, or was refused.
+// What a call made of the stamps: it began an update, or was read-only, or was refused.
 fn turn_stamps(
     stamps: &mut BTreeMap<u64, AtStamp>,
     alloc: Global,

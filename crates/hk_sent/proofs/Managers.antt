@@ -14,7 +14,8 @@ use Rattle.hk_base.specs.declared.letter.Body.TheVariants as Body
 use Rattle.hk_base.specs.Range.{IsLetter}
 use Rattle.hk_frame.specs.Laws.{KeepsBatchLimit}
 use Rattle.hk_lease.specs.declared.grants.NotPast.{NotPast as StillRuns}
-use Rattle.hk_lease.specs.Past.{is_member, past_answer}
+use Rattle.hk_lease.specs.Past.{past_answer}
+use Rattle.hk_base.specs.View.{is_member}
 use Rattle.hk_paxos.specs.declared.acceptor.Promise.{Promise}
 use Rattle.hk_paxos.specs.declared.proposer.Proposer.{Proposer}
 use Rattle.hk_paxos.specs.Paxos.{acceptor_on_prepare, acceptor_on_accept, proposer_on_promise, proposer_on_accepted}
@@ -73,7 +74,7 @@ accepted_keep : (proposer : Proposer) (m : ManagerState) (from : ℕ) (ballot : 
 accepted_keep proposer m from ballot = reports_keep (record m { proposal = Some (proposer_on_accepted proposer from ballot).after }) (proposer_on_accepted proposer from ballot).answer
 
 node_keep : (body : Body) (m : ManagerState) (from : NodeId) → Keep (from_node body m from)
-node_keep (Body.LeaseAsk asked) m from = by_if (is_member m.held from) m _ (tt, tt)
+node_keep (Body.LeaseAsk asked) m from = by_if (is_member from m.held.members) m _ (tt, tt)
 node_keep (Body.Inv key s kind content) m from = tt
 node_keep (Body.Ack key s top) m from = tt
 node_keep (Body.Val key s) m from = tt

@@ -18,7 +18,8 @@ use Rattle.hk_key.specs.declared.row.Row.{Row}
 use Rattle.hk_key.specs.Table.{Done}
 use Rattle.hk_node.specs.declared.event.NodeEvent.TheVariants.{Call, Receive, Resend, Replay, AskLease, AskCopy, Tick, Grant, Install}
 use Rattle.hk_node.specs.Rows.{find_row, row_at}
-use Rattle.hk_node.specs.Node.{NodeState, epoch_of, is_member, is_other}
+use Rattle.hk_node.specs.Node.{NodeState, epoch_of, is_other}
+use Rattle.hk_base.specs.View.{is_member}
 use Rattle.hk_node.specs.Heard.{raised, is_greatest, has_majority}
 use Rattle.hk_node.specs.Copies.{is_next}
 use Rattle.hk_node.specs.Stepped.{Stepped, idle}

@@ -1,6 +1,6 @@
 //! A shard of a node: its part of the keys, with the journal of what happened there.
 //!
-//! Each key belongs to one of eight shards of its node, and each shard is a [`Node`](hk_node::Node) of its own, its *part*. Undo
+//! Each key belongs to one of eight shards of its node, and each shard is a [`Node`](hk_node::Node) of its own, its *part*. Beside
 //! the part a [`Shard`] keeps its *base*, the node as it was when the journal began, and the *journal*: the part is the replay of
 //! the journal from the base, at every moment. A checkpoint hands the journal out, and the part becomes the base. The base is not held: of
 //! each step since then the shard keeps what it replaced, by which the base is made of the part when it is asked for.

@@ -3,7 +3,7 @@
 ghost use Rattle.std.specs.Prelude.{◌≡◌, IfOk};
 ghost use Rattle.hk_shard.specs.Replaced.{replaced_of};
 
-use hk_base::{Key, Memory, Sequence, View};
+use hk_base::{Memory, Sequence, copy_view, share_key};
 use hk_key::Row;
 use hk_node::{NodeOut, PriorRow, PriorRows, Report, Undo};
 use std::alloc::Global;
@@ -62,30 +62,6 @@ fn copy_numbers(alloc: Global, numbers: &Sequence<u64>) -> Result<Sequence<u64>,
 {
     let same = numbers.as_slice().to_vec(alloc)?;
     Ok(Sequence::from_vec(same))
-}
-
-fn copy_view(alloc: Global, view: &Option<View>) -> Result<Option<View>, Memory>
-    ensures { IfOk result (λ same. same ≡ view.now) }
-{
-    match view {
-        Some(view) => {
-            let same = view.copy(alloc)?;
-            Ok(Some(same))
-        }
-        None => Ok(None),
-    }
-}
-
-fn share_key(key: &Option<Key>) -> Result<Option<Key>, Memory>
-    ensures { IfOk result (λ same. same ≡ key.now) }
-{
-    match key {
-        Some(key) => {
-            let same = key.share()?;
-            Ok(Some(same))
-        }
-        None => Ok(None),
-    }
 }
 
 fn copy_undo(alloc: Global, undo: &Undo) -> Result<Undo, Memory>

@@ -5,7 +5,8 @@ use Rattle.std.specs.Option.{option_map, is_some}
 use Rattle.std.proofs.lemmas.Bool.{lt-ltb, false≢true}
 use Rattle.hk_base.specs.declared.stamp.NodeId.{NodeId}
 use Rattle.hk_base.specs.declared.view.View.{View}
-use Rattle.hk_node.specs.Node.{NodeState, is_member, epoch_of}
+use Rattle.hk_node.specs.Node.{NodeState, epoch_of}
+use Rattle.hk_base.specs.View.{is_member}
 use Rattle.hk_node.specs.declared.event.NodeEvent.TheVariants as NodeEvent
 use Rattle.hk_node.specs.Steps.{installs}
 use Rattle.hk_world.specs.declared.event.Event.TheVariants.{Install}

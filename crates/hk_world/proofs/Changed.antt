@@ -3,7 +3,7 @@ use Rattle.std.proofs.Common.{◌≡◌, ◌++◌, Bool, true, false, cond, List
 use Rattle.hk_base.specs.declared.view.View.{View}
 use Rattle.hk_base.specs.declared.view.Change.{Change}
 use Rattle.hk_base.specs.declared.view.Change.TheVariants.{Drop, Add}
-use Rattle.hk_node.specs.Node.{is_member}
+use Rattle.hk_base.specs.View.{is_member}
 use Rattle.hk_world.specs.declared.event.Event.TheVariants.{Agree}
 use Rattle.hk_world.specs.declared.shown.Shown.{Shown}
 use Rattle.hk_world.specs.declared.refused.Refused.{Refused}

@@ -26,8 +26,8 @@ use Rattle.hk_world.specs.World.{Processes, by_number}
 use Rattle.hk_world.specs.Start.{counted, founding_view, founding_process, founding_manager, founding_paces, first_pace}
 use Rattle.hk_world.specs.Sound.{IsHeader}
 use Rattle.hk_base.specs.declared.view.View.{View}
-use Rattle.hk_base.specs.View.{IsView}
-use Rattle.hk_node.specs.Node.{NodeState, is_member}
+use Rattle.hk_base.specs.View.{IsView, is_member}
+use Rattle.hk_node.specs.Node.{NodeState}
 use Rattle.hk_node.specs.Made.{founder}
 use Rattle.hk_world.proofs.Starting.{counted_below, founder_keys, counted_has, founding_is_view}
 

@@ -13,7 +13,8 @@ use Rattle.hk_base.specs.declared.letter.Body.TheVariants as Body
 use Rattle.hk_paxos.specs.declared.proposer.Proposer.{Proposer}
 use Rattle.hk_paxos.specs.Paxos.{proposer_on_accepted}
 use Rattle.hk_lease.specs.declared.grants.NotPast.{NotPast as StillRuns}
-use Rattle.hk_lease.specs.Past.{is_member, past_answer}
+use Rattle.hk_lease.specs.Past.{past_answer}
+use Rattle.hk_base.specs.View.{is_member}
 use Rattle.hk_manager.specs.declared.instance.TheConstants.{MAX_EPOCH, MAX_ROUND}
 use Rattle.hk_manager.specs.declared.event.ManagerEvent.{ManagerEvent}
 use Rattle.hk_manager.specs.declared.event.ManagerEvent.TheVariants.{Propose, Receive, Activate, Tick}
@@ -107,7 +108,7 @@ at_proposal_steady m step None each = rests m
 at_proposal_steady m step (Some p) each = each p
 
 node_steady : (body : Body) (m : ManagerState) (from : NodeId) → IsSteady m (from_node body m from)
-node_steady (Body.LeaseAsk asked) m from = choice m (is_member m.held from) _ _ (still _ _ refl refl refl refl) (rests m)
+node_steady (Body.LeaseAsk asked) m from = choice m (is_member from m.held.members) _ _ (still _ _ refl refl refl refl) (rests m)
 node_steady (Body.Inv key s kind content) m from = rests m
 node_steady (Body.Ack key s top) m from = rests m
 node_steady (Body.Val key s) m from = rests m

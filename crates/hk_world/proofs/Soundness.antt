@@ -16,7 +16,7 @@ use Rattle.hk_base.specs.declared.view.Change.TheVariants.{Drop, Add}
 use Rattle.hk_base.specs.declared.letter.Actor.{Actor}
 use Rattle.hk_base.specs.declared.letter.Actor.TheVariants.{Node, Manager}
 use Rattle.hk_base.specs.declared.letter.Letter.{Letter}
-use Rattle.hk_base.specs.View.{IsView}
+use Rattle.hk_base.specs.View.{IsView, is_member}
 use Rattle.hk_base.specs.Range.{IsLetter}
 use Rattle.hk_clocks.specs.declared.fault.ClockFault.{ClockFault}
 use Rattle.hk_clocks.specs.declared.pace.Pace.{Pace}
@@ -33,7 +33,7 @@ use Rattle.hk_manager.specs.Sound.{IsManager, IsManagerEvent}
 use Rattle.hk_manager.specs.Laws.{OfStep, StepKeepsManager, LettersInRange as ManagerLetters}
 use Rattle.hk_node.specs.declared.event.NodeEvent.{NodeEvent}
 use Rattle.hk_node.specs.declared.event.NodeEvent.TheVariants as NodeEvent
-use Rattle.hk_node.specs.Node.{NodeState, is_member, epoch_of}
+use Rattle.hk_node.specs.Node.{NodeState, epoch_of}
 use Rattle.hk_node.specs.Made.{joiner}
 use Rattle.hk_node.specs.Stepped.{Stepped}
 use Rattle.hk_node.specs.Steps.{node_step, ticks}

@@ -15,14 +15,13 @@ use Rattle.hk_base.specs.declared.stamp.NodeId.{NodeId}
 use Rattle.hk_base.specs.declared.view.View.{View}
 use Rattle.hk_base.specs.declared.letter.Actor.{Actor}
 use Rattle.hk_base.specs.declared.letter.Actor.TheVariants.{Node, Manager}
-use Rattle.hk_base.specs.View.{IsView, member_numbers}
+use Rattle.hk_base.specs.View.{IsView, member_numbers, is_member}
 use Rattle.hk_clocks.specs.declared.pace.Pace.{Pace}
 use Rattle.hk_clocks.specs.Clocks.{Paces, by_actor, clock_of, pace_of}
 use Rattle.hk_clocks.specs.Sound.{IsPace, AreClocks}
 use Rattle.hk_clocks.proofs.Entries.{sorted_nil as no_actors, sorted_cons as actor_first, itself}
 use Rattle.hk_manager.specs.Sound.{IsInstance, IsManager, manager_new}
 use Rattle.hk_node.proofs.Managed.{nothing_heard}
-use Rattle.hk_node.specs.Node.{is_member}
 use Rattle.hk_node.specs.Made.{founder}
 use Rattle.hk_node.specs.Sound.{IsNode}
 use Rattle.hk_world.specs.declared.event.Header.{Header}

@@ -15,7 +15,8 @@ use Rattle.hk_base.specs.declared.view.View.{View}
 use Rattle.hk_base.specs.Register.{act}
 use Rattle.hk_key.specs.declared.row.Row.{Row}
 use Rattle.hk_key.specs.Table.{Done}
-use Rattle.hk_node.specs.Node.{NodeState, epoch_of, is_member, is_other}
+use Rattle.hk_node.specs.Node.{NodeState, epoch_of, is_other}
+use Rattle.hk_base.specs.View.{is_member}
 use Rattle.hk_node.specs.Rows.{row_at, find_row}
 use Rattle.hk_node.specs.Stepped.{Stepped}
 use Rattle.hk_node.specs.Calls.{called, at_lease, at_state, at_turn, at_limit, lease_end, next_stamp, kind_of, register_in}

@@ -13,8 +13,7 @@ use Rattle.std.proofs.lemmas.Map.Keys.{sorted_head, sorted_tail, sorted_from_str
 use Rattle.std.specs.Cmp.{both_ways}
 use Rattle.hk_base.specs.declared.stamp.NodeId.{NodeId}
 use Rattle.hk_base.specs.declared.view.View.{View}
-use Rattle.hk_base.specs.View.{IsView, member_numbers}
-use Rattle.hk_node.specs.Node.{is_member}
+use Rattle.hk_base.specs.View.{IsView, member_numbers, is_member}
 use Rattle.hk_world.specs.World.{numbered, last_view}
 use Rattle.hk_world.specs.Steps.{was_member}
 use Rattle.hk_world.specs.Sound.{AreViews}

@@ -2,7 +2,7 @@
 use Rattle.std.specs.Prelude.{ℕ, ◌+◌, List, [], ◌∷◌, Bool, true, false, not, nat_lt, nat_le, ◌&&◌, if◌then◌else◌}
 use Rattle.hk_base.specs.declared.stamp.NodeId.{NodeId}
 use Rattle.hk_base.specs.declared.view.View.{View}
-use Rattle.hk_node.specs.Node.{is_member}
+use Rattle.hk_base.specs.View.{is_member}
 use Rattle.hk_node.specs.Made.{joiner}
 use Rattle.hk_node.specs.Steps.{ticks}
 use Rattle.hk_world.specs.declared.process.Process.{Process}

@@ -23,7 +23,8 @@ use Rattle.hk_manager.specs.declared.fault.ManagerFault.{ManagerFault}
 use Rattle.hk_manager.specs.declared.fault.ManagerFault.TheVariants as ManagerFault
 use Rattle.hk_manager.specs.Manager.{ManagerState}
 use Rattle.hk_manager.specs.Steps.{ManagerStepped, manager_step, manager_ticks}
-use Rattle.hk_node.specs.Node.{NodeState, epoch_of, is_member}
+use Rattle.hk_node.specs.Node.{NodeState, epoch_of}
+use Rattle.hk_base.specs.View.{is_member}
 use Rattle.hk_node.specs.Made.{joiner}
 use Rattle.hk_node.specs.Stepped.{Stepped, replies_of}
 use Rattle.hk_node.specs.Report.{report}

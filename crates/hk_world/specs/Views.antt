@@ -5,7 +5,7 @@ use Rattle.hk_base.specs.declared.stamp.NodeId.{NodeId}
 use Rattle.hk_base.specs.declared.view.View.{View}
 use Rattle.hk_base.specs.declared.view.Change.{Change}
 use Rattle.hk_base.specs.declared.view.Change.TheVariants.{Drop, Add}
-use Rattle.hk_node.specs.Node.{is_member}
+use Rattle.hk_base.specs.View.{is_member}
 use Rattle.hk_world.specs.declared.refused.Refused.{Refused}
 use Rattle.hk_world.specs.declared.refused.Refused.TheVariants.{NoSuchMember, LastMember, Full, NoNumbers}
 use Rattle.hk_world.specs.declared.refused.WorldFault.{WorldFault}

@@ -9,7 +9,6 @@ ghost use Rattle.hk_manager.specs.Outs.{IsMadeOf, IsStepOf};
 
 use super::Manager;
 use super::post::idle;
-use crate::change::is_member;
 use crate::fault::ManagerFault;
 use crate::out::{ManagerOut, Replaced};
 use hk_base::{Actor, Body, Letters, MAX_TIME, Memory, NodeId};
@@ -39,7 +38,7 @@ impl Manager {
         ensures made { IsMadeOf result self.old self.new (asks_lease self.old from asked) }
         ensures replaced { TellsReplaced result self.old self.new }
     {
-        if !is_member(&self.held, from) {
+        if !self.held.has_member(from) {
             return Ok(idle(alloc));
         }
         let end = (asked + self.lease).min(MAX_TIME);

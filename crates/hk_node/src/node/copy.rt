@@ -5,7 +5,7 @@ ghost use Rattle.hk_node.specs.Rows.{put_row};
 
 use super::Node;
 use crate::heard::share;
-use hk_base::{Key, Memory, View};
+use hk_base::{Key, Memory, copy_view, share_key};
 use hk_key::Row;
 use std::alloc::Global;
 use std::collections::{BTreeMap, BTreeSet};
@@ -35,37 +35,13 @@ fn copy_rows(alloc: Global, rows: &BTreeMap<Key, Row>) -> Result<BTreeMap<Key, R
     Ok(same)
 }
 
-fn copy_view(alloc: Global, view: &Option<View>) -> Result<Option<View>, Memory>
-    ensures { IfOk result (λ same. same ≡ view.now) }
-{
-    match view {
-        Some(view) => {
-            let same = view.copy(alloc)?;
-            Ok(Some(same))
-        }
-        None => Ok(None),
-    }
-}
-
-fn copy_key(key: &Option<Key>) -> Result<Option<Key>, Memory>
-    ensures { IfOk result (λ same. same ≡ key.now) }
-{
-    match key {
-        Some(key) => {
-            let same = key.share()?;
-            Ok(Some(same))
-        }
-        None => Ok(None),
-    }
-}
-
 impl Node {
     /// An equal node, which shares keys and contents.
     pub fn copy(&self, alloc: Global) -> Result<Node, Memory>
         ensures { IfOk result (λ node. node ≡ self.now) }
     {
         let view = copy_view(alloc, &self.view)?;
-        let cursor = copy_key(&self.cursor)?;
+        let cursor = share_key(&self.cursor)?;
         let ends = share(alloc, &self.ends)?;
         let activated = share(alloc, &self.activated)?;
         let rows = copy_rows(alloc, &self.rows)?;

@@ -10,22 +10,9 @@ use super::Node;
 use crate::letters::post;
 use crate::out::NodeOut;
 use crate::report::Undo;
-use hk_base::{Body, Key, Letters, Memory, NodeId, Replies};
+use hk_base::{Body, Key, Letters, Memory, NodeId, Replies, share_key};
 use hk_copy::batch;
 use std::alloc::Global;
-
-/// The same key, if there is one.
-pub(super) fn share_key(key: &Option<Key>) -> Result<Option<Key>, Memory>
-    ensures { IfOk result (λ same. same ≡ key.now) }
-{
-    match key {
-        Some(key) => {
-            let same = key.share()?;
-            Ok(Some(same))
-        }
-        None => Ok(None),
-    }
-}
 
 impl Node {
     // One letter is sent to another member, and nothing changes.

@@ -1,13 +1,12 @@
 //! Views that are installed.
 
 ghost use Rattle.std.specs.Prelude.{◌≡◌, length, true, ◌&&◌, Some, nat_lt, IfOk, OnOk, OnErr};
-ghost use Rattle.hk_base.specs.View.{IsView};
-ghost use Rattle.hk_node.specs.Node.{epoch_of, is_member};
+ghost use Rattle.hk_base.specs.View.{IsView, is_member};
+ghost use Rattle.hk_node.specs.Node.{epoch_of};
 ghost use Rattle.hk_node.specs.Steps.{installs};
 ghost use Rattle.hk_node.specs.Outs.{IsOutOf};
 
 use super::Node;
-use super::receive::is_member;
 use crate::give::give_rows_back;
 use crate::heard::share;
 use crate::open::mend;
@@ -23,7 +22,7 @@ impl Node {
     pub(super) fn installs(&self, view: &View) -> bool
         ensures { result ≡ (nat_lt (epoch_of self.now) view.now.epoch && is_member self.now.id view.now.members) }
     {
-        self.epoch() < view.epoch && is_member(self.id, view.members.as_slice())
+        self.epoch() < view.epoch && view.has_member(self.id)
     }
 
     /// Installs such a view, and keeps these ACTIVATEs.

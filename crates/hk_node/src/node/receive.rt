@@ -3,7 +3,7 @@
 ghost use Rattle.std.specs.Prelude.{◌≡◌, true, None, Some, IfOk, OnOk, OnErr, ◌&&◌, ◌==◌, not};
 ghost use Rattle.hk_base.specs.Range.{IsWithin, Leaves, IsLetter, IsRoom, IsBatch};
 ghost use Rattle.hk_base.specs.declared.letter.Body.TheVariants.{Inv, Ack, Val, CopyAsk, CopyGive};
-ghost use Rattle.hk_node.specs.Node.{epoch_of, is_member, is_other};
+ghost use Rattle.hk_node.specs.Node.{epoch_of, is_other};
 ghost use Rattle.hk_node.specs.Rows.{find_row, row_at};
 ghost use Rattle.hk_node.specs.Steps.{is_addressed, received, receives};
 ghost use Rattle.hk_node.specs.Sound.{IsNode};
@@ -15,20 +15,13 @@ use hk_base::{Actor, Body, Content, Key, Kind, Letter, Memory, NodeId, Stamp, sh
 use hk_key::{Out, Row};
 use std::alloc::Global;
 
-/// Whether the node is among the members.
-pub(super) fn is_member(node: NodeId, members: &[NodeId]) -> bool
-    ensures { result ≡ is_member node members.now }
-{
-    members.iter().any(|member| member.0 == node.0)
-}
-
 impl Node {
     /// Whether it is another member of the node's view.
     pub(super) fn is_other(&self, from: NodeId) -> bool
         ensures { result ≡ is_other self.now from }
     {
         match &self.view {
-            Some(view) => is_member(from, view.members.as_slice()) && from.0 != self.id.0,
+            Some(view) => view.has_member(from) && from.0 != self.id.0,
             None => false,
         }
     }

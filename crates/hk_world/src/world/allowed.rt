@@ -2,8 +2,7 @@
 
 ghost use Rattle.std.specs.Prelude.{◌≡◌, ◌≤◌, length, Err, None, IfOk, IfErr};
 ghost use Rattle.std.specs.List.{list_any};
-ghost use Rattle.hk_base.specs.View.{IsView};
-ghost use Rattle.hk_node.specs.Node.{is_member as is_node_member};
+ghost use Rattle.hk_base.specs.View.{IsView, is_member};
 ghost use Rattle.hk_node.specs.declared.event.NodeEvent.TheVariants.{Grant, Install as NodeInstall};
 ghost use Rattle.hk_world.specs.declared.event.Event.TheVariants.{Install, Lease};
 ghost use Rattle.hk_world.specs.World.{last_view};
@@ -14,7 +13,7 @@ ghost use Rattle.hk_world.specs.Allowed.{is_managed};
 
 use super::World;
 use super::numbers::numbered;
-use super::scan::{first_running, is_member};
+use super::scan::first_running;
 use crate::process::ManagerProcess;
 use crate::refused::Refused;
 use hk_base::{NodeId, View};
@@ -34,11 +33,11 @@ fn given_before(views: &[View], epoch: u64) -> u32
 
 // Whether some manager holds a view that has the node as a member, also where it has crashed.
 fn is_held(id: NodeId, managers: &[ManagerProcess]) -> bool
-    ensures { result ≡ list_any (λ p. is_node_member id p.manager.held.members) managers.now }
+    ensures { result ≡ list_any (λ p. is_member id p.manager.held.members) managers.now }
 {
     managers
         .iter()
-        .any(|process| is_member(id, process.manager.held()))
+        .any(|process| process.manager.held().has_member(id))
 }
 
 impl World {
@@ -60,7 +59,7 @@ impl World {
     pub(super) fn may_join(&self, id: NodeId) -> bool
         ensures { result ≡ may_join self.now id }
     {
-        is_member(id, self.last_view()) || is_held(id, &self.managers)
+        self.last_view().has_member(id) || is_held(id, &self.managers)
     }
 
     /// The view of the epoch. It is installed by a member that is in a lower epoch, and only where no lease outside the view
@@ -80,7 +79,7 @@ impl World {
         let Some(view) = numbered(epoch, &self.views) else {
             return Err(Refused::NoView);
         };
-        if !is_member(id, view) {
+        if !view.has_member(id) {
             return Err(Refused::NotMember);
         }
         if view.epoch <= held {
@@ -103,7 +102,7 @@ impl World {
         if let Err(refused) = self.live(id) {
             return Err(refused);
         }
-        if !is_member(id, self.last_view()) {
+        if !self.last_view().has_member(id) {
             return Err(Refused::NotMember);
         }
         Ok(id)

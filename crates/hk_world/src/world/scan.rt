@@ -4,7 +4,6 @@ ghost use Rattle.std.specs.Prelude.{◌≡◌, ◌+◌, ◌≤◌, map, nat_le};
 ghost use Rattle.std.specs.List.{find};
 ghost use Rattle.std.specs.Option.{option_map};
 ghost use Rattle.hk_base.specs.declared.time.TheConstants.{MAX_TIME};
-ghost use Rattle.hk_node.specs.Node.{is_member};
 ghost use Rattle.hk_world.specs.declared.refused.Refused.TheVariants.{LeaseRuns};
 ghost use Rattle.hk_world.specs.Steps.{process_ticked, manager_ticked};
 ghost use Rattle.hk_world.specs.Allowed.{may_run_by};
@@ -14,13 +13,6 @@ use crate::refused::Refused;
 use hk_base::{NodeId, View};
 use std::alloc::Global;
 use std::collections::BTreeMap;
-
-/// Whether the view has the node as a member.
-pub(super) fn is_member(id: NodeId, view: &View) -> bool
-    ensures { result ≡ is_member id view.now.members }
-{
-    view.members.as_slice().contains(&id)
-}
 
 // Whether the lease may not be over yet on every clock.
 fn may_last(clock: u64, skew: u64, granted: u64) -> bool
@@ -34,7 +26,7 @@ fn may_run(skew: u64, given: u32, view: &View, id: NodeId, process: &Process) ->
 {
     !process.crashed
         && u32::from(id.0) < given
-        && !is_member(id, view)
+        && !view.has_member(id)
         && may_last(process.node.now(), skew, process.node.granted())
 }
 

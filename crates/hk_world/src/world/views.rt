@@ -7,7 +7,6 @@ ghost use Rattle.hk_world.specs.Views.{dropped, added, next_of, IsNextOf};
 ghost use Rattle.hk_world.specs.Sound.{IsStepOf};
 
 use super::World;
-use super::scan::is_member;
 use crate::refused::{Refused, WorldFault};
 use crate::shown::Shown;
 use hk_base::{Change, Letters, Members, Memory, NodeId, Replies, View};
@@ -51,7 +50,7 @@ fn next_view(alloc: Global, view: &View, change: Change) -> Result<View, WorldFa
     };
     match change {
         Change::Drop(id) => {
-            if !is_member(id, view) {
+            if !view.has_member(id) {
                 return Err(WorldFault::Refused(Refused::NoSuchMember));
             }
             if view.members.len() == 1 {

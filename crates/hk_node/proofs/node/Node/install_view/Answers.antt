@@ -1,5 +1,6 @@
 use Rattle.std.proofs.Common.{rules, ◌≡◌, ◌∙◌, ◌&&◌, sym, ap, subst, true, false, nat_lt, Some, refl, length}
-use Rattle.hk_node.specs.Node.{NodeState, epoch_of, is_member}
+use Rattle.hk_node.specs.Node.{NodeState, epoch_of}
+use Rattle.hk_base.specs.View.{is_member}
 use Rattle.hk_node.specs.Steps.{installs}
 use Rattle.hk_node.specs.declared.out.NodeOut.{NodeOut}
 use Rattle.hk_node.specs.declared.report.Undo.TheVariants as Undo

@@ -3,7 +3,8 @@ use Rattle.std.specs.Option.{option_map}
 use Rattle.std.specs.List.{find}
 use Rattle.hk_base.specs.declared.stamp.NodeId.{NodeId}
 use Rattle.hk_base.specs.declared.view.View.{View}
-use Rattle.hk_node.specs.Node.{epoch_of, is_member}
+use Rattle.hk_node.specs.Node.{epoch_of}
+use Rattle.hk_base.specs.View.{is_member}
 use Rattle.hk_world.specs.declared.process.Process.{Process}
 use Rattle.hk_world.specs.declared.refused.Refused.{Refused}
 use Rattle.hk_world.specs.declared.refused.Refused.TheVariants.{LeaseRuns}
@@ -30,7 +31,7 @@ returns-in-Some-first_running-clause-err c =
     let runs : running (process_at c.args.id w.processes) ≡ Ok node = subst (λ (o : WorldState). running (process_at c.args.id o.processes) ≡ Ok node) (sym c.self.view_is) c.in-Ok.ensures.ok in
     let at : numbered c.args.epoch w.views ≡ Some view = ap (λ (vs : List View). numbered c.args.epoch vs) (sym c.deref.ensures.value) ∙ sym c.in-Some.ensures in
     let low : epoch_of node < view.epoch = subst (λ (n : ℕ). n < view.epoch) c.epoch-held.ensures c.if-view-held.false in
-    let member : is_member c.args.id view.members ≡ true = sym c.is_member.ensures ∙ c.if-not-is_member.false in
+    let member : is_member c.args.id view.members ≡ true = sym c.has_member.ensures ∙ c.if-not-has_member.false in
     let given : c.given_before-given.result ≡ given_before w.views c.args.epoch = c.given_before-given.ensures ∙ ap (λ (vs : List View). given_before vs c.args.epoch) c.deref-2.ensures.value in
     let first : told_of (find (may_run_by w.skew (given_before w.views c.args.epoch) view) w.processes) ≡ Some c.in-Some-first_running.refused =
     ap (λ (g : ℕ). told_of (find (may_run_by w.skew g view) w.processes)) (sym given) ∙ sym c.in-Some-first_running.ensures in
@@ -46,7 +47,7 @@ returns-in-None-clause-ok c =
     let runs : running (process_at c.args.id w.processes) ≡ Ok node = subst (λ (o : WorldState). running (process_at c.args.id o.processes) ≡ Ok node) (sym c.self.view_is) c.in-Ok.ensures.ok in
     let at : numbered c.args.epoch w.views ≡ Some view = ap (λ (vs : List View). numbered c.args.epoch vs) (sym c.deref.ensures.value) ∙ sym c.in-Some.ensures in
     let low : epoch_of node < view.epoch = subst (λ (n : ℕ). n < view.epoch) c.epoch-held.ensures c.if-view-held.false in
-    let member : is_member c.args.id view.members ≡ true = sym c.is_member.ensures ∙ c.if-not-is_member.false in
+    let member : is_member c.args.id view.members ≡ true = sym c.has_member.ensures ∙ c.if-not-has_member.false in
     let given : c.given_before-given.result ≡ given_before w.views c.args.epoch = c.given_before-given.ensures ∙ ap (λ (vs : List View). given_before vs c.args.epoch) c.deref-2.ensures.value in
     let first : told_of (find (may_run_by w.skew (given_before w.views c.args.epoch) view) w.processes) ≡ None =
     ap (λ (g : ℕ). told_of (find (may_run_by w.skew g view) w.processes)) (sym given) ∙ sym c.in-None.ensures in
