@@ -2,8 +2,8 @@
 
 use bytes_told::{put, put_bytes, put_number, put_op};
 use hk_base::{Actor, Change, Key, Memory, NodeId};
+use hk_event::Event;
 use hk_script::{LineFault, read_event, read_header};
-use hk_world::Event;
 use std::alloc::Global;
 
 fn put_counted(out: &mut Vec<u8>, name: &[u8], number: u64) -> Result<(), Memory> {

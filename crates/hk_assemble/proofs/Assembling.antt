@@ -5,8 +5,8 @@ use Rattle.std.proofs.lemmas.Option.{slice_get_within}
 use Rattle.hk_base.specs.declared.stamp.NodeId.{NodeId}
 use Rattle.hk_base.specs.declared.call.Answer.{Answer}
 use Rattle.hk_journal.specs.declared.step_entry.JournalEntry.{JournalEntry}
-use Rattle.hk_world.specs.declared.event.Header.{Header}
-use Rattle.hk_world.specs.declared.event.Event.{Event}
+use Rattle.hk_event.specs.declared.event.Header.{Header}
+use Rattle.hk_event.specs.declared.event.Event.{Event}
 use Rattle.hk_world.specs.World.{WorldState}
 use Rattle.hk_world.specs.Start.{start}
 use Rattle.hk_safety.specs.Run.{RunState, world_of}

@@ -2,7 +2,7 @@
 use Rattle.std.specs.Prelude.{◌≡◌, ⊤, List, [], ◌∷◌, ◌++◌, Result, Ok, Err}
 use Rattle.hk_base.specs.declared.stamp.NodeId.{NodeId}
 use Rattle.hk_journal.specs.declared.step_entry.JournalEntry.{JournalEntry}
-use Rattle.hk_world.specs.declared.event.Header.{Header}
+use Rattle.hk_event.specs.declared.event.Header.{Header}
 use Rattle.hk_merge.specs.Merged.{Item, Step, tickets_of}
 use Rattle.hk_safety.specs.Run.{RunState, world_of}
 use Rattle.hk_assemble.specs.declared.gap.Gap.{Gap}

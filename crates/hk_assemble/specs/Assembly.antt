@@ -4,7 +4,7 @@ use Rattle.std.specs.Ordering.{nat_cmp}
 use Rattle.std.specs.BTreeMap.{is_at}
 use Rattle.std.specs.Map.{lookup}
 use Rattle.hk_base.specs.declared.call.Answer.{Answer}
-use Rattle.hk_world.specs.declared.event.Header.{Header}
+use Rattle.hk_event.specs.declared.event.Header.{Header}
 use Rattle.hk_world.specs.Start.{start}
 use Rattle.hk_merge.specs.Merged.{Item, tickets_of, Goes}
 use Rattle.hk_merge.specs.Shows.{ReadShows}

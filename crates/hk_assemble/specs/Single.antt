@@ -1,7 +1,7 @@
 -- Of one input one answer is told, but for want of memory.
 use Rattle.std.specs.Prelude.{◌≡◌, ⊤, List, Ok, Err, length}
 use Rattle.hk_base.specs.declared.stamp.NodeId.{NodeId}
-use Rattle.hk_world.specs.declared.event.Header.{Header}
+use Rattle.hk_event.specs.declared.event.Header.{Header}
 use Rattle.hk_safety.specs.Run.{RunState}
 use Rattle.hk_merge.specs.declared.note.Note.{Note}
 use Rattle.hk_merge.specs.Merged.{JournalList, Rises, journal_of}

@@ -3,7 +3,7 @@
 ghost use Rattle.std.specs.Prelude.{◌≡◌, [], List, None, map, IfOk, OnOk};
 ghost use Rattle.std.specs.Ordering.{nat_cmp};
 ghost use Rattle.std.specs.BTreeMap.{insert_entry};
-ghost use Rattle.hk_world.specs.declared.event.Header.{Header};
+ghost use Rattle.hk_event.specs.declared.event.Header.{Header};
 ghost use Rattle.hk_world.specs.Sound.{IsHeader};
 ghost use Rattle.hk_merge.specs.Merged.{Item, Step, LocalRead};
 ghost use Rattle.hk_merge.specs.Placed.{item_of};
@@ -16,10 +16,10 @@ use crate::sent::{SentLetters, note_letters};
 use crate::stepping::{look, make_step, next_letter};
 use crate::taking::event_of;
 use hk_base::{Answer, Memory, NodeId};
+use hk_event::Header;
 use hk_journal::JournalEntry;
 use hk_merge::{Note, Slot, reads_leave};
 use hk_safety::Run;
-use hk_world::Header;
 use std::alloc::Global;
 use std::collections::BTreeMap;
 

@@ -7,10 +7,11 @@ ghost use Rattle.hk_assemble.specs.Stepping.{IsCompared, IsStepMade, IsLooked};
 
 use crate::gap::{Gap, Given};
 use hk_base::{Answer, Key, Letters, Memory, NodeId, Op, Replies};
+use hk_event::Event;
 use hk_journal::JournalEntry;
 use hk_merge::{reads_leave, same_letters, same_replies, sameness_is_equality};
 use hk_safety::Run;
-use hk_world::{Event, WorldFault};
+use hk_world::WorldFault;
 use std::alloc::Global;
 
 // Whether the step gave what the entry has, the numbers of the calls aside.

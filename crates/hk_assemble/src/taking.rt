@@ -4,7 +4,7 @@ ghost use Rattle.std.specs.Prelude.{◌≡◌, ◌↔◌, List, None, map, IfOk,
 ghost use Rattle.std.specs.List.{list_any};
 ghost use Rattle.hk_base.specs.declared.letter.Actor.TheVariants.{Node};
 ghost use Rattle.hk_node.specs.declared.event.NodeEvent.TheVariants.{Receive};
-ghost use Rattle.hk_world.specs.declared.event.Event.TheVariants.{Call};
+ghost use Rattle.hk_event.specs.declared.event.Event.TheVariants.{Call};
 ghost use Rattle.hk_world.specs.Sound.{IsEvent};
 ghost use Rattle.hk_merge.specs.Reads.{IsMerged};
 ghost use Rattle.hk_merge.specs.Merged.{Item};
@@ -15,10 +15,10 @@ ghost use Rattle.hk_assemble.specs.Taking.{is_copy, ticket_of, lower_of, least_f
 use crate::gap::Gap;
 use crate::sent::{SentLetters, find};
 use hk_base::{Actor, Key, Letter, Memory, NodeId, Op};
+use hk_event::Event;
 use hk_journal::JournalEntry;
 use hk_merge::{Slot, same_letter, sameness_is_equality};
 use hk_node::NodeEvent;
-use hk_world::Event;
 
 fn sends(letters: &[Letter], letter: &Letter) -> bool
     ensures { result ≡ list_any (is_copy letter.now) letters.now }

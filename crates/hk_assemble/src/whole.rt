@@ -9,9 +9,9 @@ ghost use Rattle.hk_assemble.specs.Assembled.{IsAssembled};
 use crate::assembly::follow;
 use crate::checking::check_notes;
 use crate::gap::Gap;
+use hk_event::Header;
 use hk_merge::{Journals, Notes, kept_is_shown, merge, merge_is_merged};
 use hk_safety::Run;
-use hk_world::Header;
 use std::alloc::Global;
 
 /// The run of the journals and notes of one shard number, or why there is none. Entries are looked at first, by their tickets and then their nodes; then the notes, as they are

@@ -2,7 +2,7 @@
 use Rattle.std.specs.Prelude.{ℕ, ◌≤◌, List, map, Option, None, Some, String, string_bytes, codes, ⊤}
 use Rattle.hk_outside.specs.declared.status.Status.{Status}
 use Rattle.hk_drill.specs.Drilled.{EndsDrill}
-use Rattle.hk_drill.specs.Generated.{EndsGenerate}
+use Rattle.hk_generate.specs.Generated.{EndsGenerate}
 use Rattle.hk_storm.specs.Storm.{IsStorm}
 use Rattle.hk_storm.specs.Concluded.{EndsStorm}
 use Rattle.hk_accept.specs.Serving.{EndsServe}

@@ -3,9 +3,10 @@
 ghost use Rattle.std.specs.Prelude.{◌≡◌, ◌⊎◌, ℕ, ◌≤◌, take, Some, None, IfSome};
 ghost use Rattle.std.specs.Io.KnownBytes.{Appends};
 ghost use Rattle.hk_outside.specs.Causes.{Rose, Stayed};
-ghost use Rattle.hk_drill.specs.Drilled.{AllLegal, IsDone, IsExact, IsFront, IsStopped, HasTold};
+ghost use Rattle.hk_drill.specs.Drilled.{IsDone, IsExact, IsFront, IsStopped, HasTold};
+ghost use Rattle.hk_safety.specs.Run.{AllLegal};
 ghost use Rattle.hk_drill.specs.Together.{IsJointDone, IsJointFront, IsJointTold};
-ghost use Rattle.hk_drill.specs.Generated.{generated, summary};
+ghost use Rattle.hk_generate.specs.Generated.{generated, summary};
 ghost use Rattle.hk_storm.specs.Stormed.{IsStormed};
 ghost use Rattle.hk_group.specs.declared.group.Group.{Group as GroupOf};
 ghost use Rattle.hk_group.specs.Jobs.{HasServedBeside, own_jobs};
@@ -20,7 +21,8 @@ ghost use Rattle.hk_cli.specs.Words.{IsCommand};
 ghost use Rattle.hk_cli.specs.Commands.{texts, IsNoCommand, usage_line, MayEnd, IsInRange};
 
 use crate::words::{Command, read_command};
-use hk_drill::{drill, generate_run, joint};
+use hk_drill::{drill, joint};
+use hk_generate::generate_run;
 use hk_group::serve;
 use hk_joint_storm::joint_storm;
 use hk_outside::{Clock, Doors, Sink, Source, Spawner, Status, write_all};

@@ -1,7 +1,7 @@
 -- What taking a line keeps of a state, and what the code of one line does.
 use Rattle.std.proofs.Common.{◌≡◌, ℕ, ◌+◌, ◌≤◌, List, length, Bool, true, false, Option, Some, None, Result, Ok, Err, IfOk, [], nat_lt, if◌then◌else◌, refl, sym, ap, subst, ◌∙◌, arith}
-use Rattle.hk_world.specs.declared.event.Event.{Event}
-use Rattle.hk_world.specs.declared.refused.Refused.{Refused}
+use Rattle.hk_event.specs.declared.event.Event.{Event}
+use Rattle.hk_event.specs.declared.refused.Refused.{Refused}
 use Rattle.hk_world.specs.declared.shown.Shown.{Shown}
 use Rattle.hk_world.specs.World.{WorldState}
 use Rattle.hk_world.specs.Steps.{Accepted, world_step}
@@ -14,11 +14,11 @@ use Rattle.hk_safety.specs.Push.{with_event, IsPushed}
 use Rattle.hk_drill.specs.declared.stop.Stop.{Stop}
 use Rattle.hk_drill.specs.declared.stop.Stop.TheVariants.{Bad, Letters}
 use Rattle.hk_drill.specs.declared.drill_state.TheConstants.{MAX_LETTERS}
-use Rattle.hk_drill.specs.Text.{shown_text}
+use Rattle.hk_drill.specs.Shown.{shown_text}
 use Rattle.hk_drill.specs.Transcript.{DrillState, Next, state_with, event_at, read_at, line_at, limit_at, is_skipped}
 use Rattle.hk_drill.specs.Taken.{IsTaken, state_shown}
 use Rattle.hk_drill.proofs.Reading.{read_event_ok, event_refused}
-use Rattle.hk_drill.proofs.Runs.{world_pushed, run_more}
+use Rattle.hk_safety.proofs.Runs.{world_pushed, run_more}
 
 -- what a line makes of a state: a run still, and at most one event line more
 pub record IsNext (c d : DrillState) : Type 0 where

@@ -1,12 +1,11 @@
 -- What a drill prints of each key is legal.
 use Rattle.std.proofs.Common.{◌≡◌, ℕ, ◌+◌, List, [], ◌∷◌, Bool, true, false, Option, Some, None, Result, Ok, Err, IfSome, IfOk, if◌then◌else◌, refl}
-use Rattle.hk_world.specs.declared.event.Header.{Header}
+use Rattle.hk_event.specs.declared.event.Header.{Header}
 use Rattle.hk_world.specs.Sound.{IsHeader}
 use Rattle.hk_script.specs.Lines.{header_of}
-use Rattle.hk_safety.specs.Run.{RunState, IsRun, RunsAreLegal}
+use Rattle.hk_safety.specs.Run.{RunState, IsRun, RunsAreLegal, AllLegal}
 use Rattle.hk_drill.specs.declared.stop.Stop.{Stop}
 use Rattle.hk_drill.specs.Transcript.{DrillState, Next, Outcome, line_at, limit_at, is_skipped, first_state, follow, follow_under, script_from, lines_of, followed}
-use Rattle.hk_drill.specs.Drilled.{AllLegal}
 use Rattle.hk_drill.proofs.Reading.{read_header_ok}
 use Rattle.hk_drill.proofs.DrillStates.{LeadsOn, line_next}
 use Rattle.hk_drill.proofs.Following.{go_on, follow-cons, begin_at, script_from-cons}

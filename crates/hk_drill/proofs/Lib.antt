@@ -1,5 +1,4 @@
 pub mod Reading
-pub mod Runs
 pub mod DrillStates
 pub mod Cutting
 pub mod Following
@@ -10,6 +9,5 @@ pub mod Legality
 pub mod Drilling
 pub mod Turns
 pub mod Answering
-pub mod Drawings
 pub mod Marking
 pub mod Jointly

@@ -7,7 +7,7 @@ use Rattle.hk_history.specs.declared.event.Entry.{Entry}
 use Rattle.hk_safety.specs.declared.marked.Mark.{Mark}
 use Rattle.hk_safety.specs.Marks.{mark_of}
 use Rattle.hk_script.specs.Words.{word_of}
-use Rattle.hk_drill.specs.Text.{history_text, order_text, key_text}
+use Rattle.hk_drill.specs.Keys.{history_text, order_text, key_text}
 use Rattle.hk_drill.specs.Marks.{marks_text, marked_text}
 
 marks_of : (items : List Item) → marks_text (map mark_of items) ≡ history_text items

@@ -7,7 +7,7 @@ use Rattle.hk_safety.specs.Run.{RunState, history, printed}
 use Rattle.hk_drill.specs.declared.stop.Stop.{Stop}
 use Rattle.hk_drill.specs.declared.fault.Fault.{Fault}
 use Rattle.hk_drill.specs.declared.fault.Fault.TheVariants.{Memory, Read, Write}
-use Rattle.hk_drill.specs.Text.{key_text}
+use Rattle.hk_drill.specs.Keys.{key_text}
 use Rattle.hk_drill.specs.Transcript.{DrillState, Outcome, behind, lines_of, keys_text, status_of, stop_text, written, written_of}
 use Rattle.hk_drill.specs.Progress.{HasFront, IsRest, further, ending}
 use Rattle.hk_drill.specs.Drilled.{IsSinkFault}

@@ -5,8 +5,7 @@ use Rattle.hk_outside.specs.Causes.{Rose}
 use Rattle.hk_outside.specs.Records.{HasRead}
 use Rattle.hk_outside.specs.declared.status.Status.{Status}
 use Rattle.hk_outside.specs.declared.status.Status.TheVariants as Status
-use Rattle.hk_history.specs.Legal.{Legal}
-use Rattle.hk_safety.specs.Run.{RunState, history, printed}
+use Rattle.hk_safety.specs.Run.{AllLegal}
 use Rattle.hk_drill.specs.declared.fault.Fault.{Fault}
 use Rattle.hk_drill.specs.declared.fault.Fault.TheVariants.{Memory, Read, Write}
 use Rattle.hk_drill.specs.declared.stop.Stop.{Stop}
@@ -25,10 +24,6 @@ EndsDrill Status.TooLong = ⊤
 EndsDrill Status.Gap = ⊥
 EndsDrill Status.DoorFault = ⊥
 EndsDrill Status.SpawnFault = ⊥
-
--- the order that is printed for a key is legal for the history that is printed for it
-abbrev pub AllLegal : RunState → Type 0
-AllLegal run = (key : List ℕ) → Legal (history run key) (printed run key)
 
 -- In what follows `left` and `given` are what the source tells that it has left and what it records that it gave, and `held` is what the sink
 -- tells that it holds; each before the drill, and with a mark behind it.

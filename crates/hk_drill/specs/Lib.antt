@@ -1,8 +1,8 @@
-pub mod Text
+pub mod Keys
+pub mod Shown
 pub mod Transcript
 pub mod Taken
 pub mod Progress
 pub mod Drilled
-pub mod Generated
 pub mod Marks
 pub mod Together

@@ -4,7 +4,7 @@ use Rattle.hk_history.specs.declared.event.Entry.{Entry}
 use Rattle.hk_safety.specs.declared.marked.Mark.{Mark}
 use Rattle.hk_safety.specs.declared.marked.Mark.TheVariants as Mark
 use Rattle.hk_script.specs.Words.{word_of}
-use Rattle.hk_drill.specs.Text.{order_text}
+use Rattle.hk_drill.specs.Keys.{order_text}
 
 -- a mark is written as the event that it stands for
 abbrev pub mark_text : Mark → List ℕ

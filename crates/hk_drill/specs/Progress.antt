@@ -4,7 +4,7 @@ use Rattle.std.specs.List.{AllByRecursion}
 use Rattle.std.specs.Io.KnownBytes.{Appends, Consumes}
 use Rattle.hk_drill.specs.declared.stop.Stop.{Stop}
 use Rattle.hk_outside.specs.Records.{Gave}
-use Rattle.hk_world.specs.declared.event.Header.{Header}
+use Rattle.hk_event.specs.declared.event.Header.{Header}
 use Rattle.hk_script.specs.Lines.{header_of}
 use Rattle.hk_drill.specs.declared.stop.Stop.TheVariants.{Bad}
 use Rattle.hk_drill.specs.declared.line.TheConstants.{MAX_LINE_LEN, MAX_LINES}

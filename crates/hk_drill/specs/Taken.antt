@@ -5,7 +5,7 @@ use Rattle.hk_safety.specs.Run.{world_of}
 use Rattle.hk_drill.specs.declared.stop.Stop.{Stop}
 use Rattle.hk_drill.specs.declared.stop.Stop.TheVariants.{Letters}
 use Rattle.hk_drill.specs.declared.drill_state.TheConstants.{MAX_LETTERS}
-use Rattle.hk_drill.specs.Text.{shown_text}
+use Rattle.hk_drill.specs.Shown.{shown_text}
 use Rattle.hk_drill.specs.Transcript.{DrillState, Next}
 
 -- a state whose run has just made the event that showed this

@@ -12,7 +12,7 @@ use Rattle.hk_joint.specs.Joint.{joint_order, entries_of}
 use Rattle.hk_joint.specs.Batch.{batches, calls_of}
 use Rattle.hk_joint.specs.Legal.{JointLegal}
 use Rattle.hk_drill.specs.declared.stop.Stop.{Stop}
-use Rattle.hk_drill.specs.Text.{order_text}
+use Rattle.hk_drill.specs.Keys.{order_text}
 use Rattle.hk_drill.specs.Transcript.{DrillState, Outcome, Transcript, stop_text, counts_text, written_of, followed}
 use Rattle.hk_drill.specs.Progress.{Came}
 use Rattle.hk_drill.specs.Drilled.{MayFollow, EndsDrill}

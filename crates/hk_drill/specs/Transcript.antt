@@ -3,9 +3,9 @@ use Rattle.std.specs.Prelude.{ℕ, ◌+◌, ◌-◌, List, [], ◌∷◌, ◌++�
 use Rattle.std.specs.List.{slice_split}
 use Rattle.hk_outside.specs.declared.status.Status.{Status}
 use Rattle.hk_outside.specs.declared.status.Status.TheVariants.{Done, BadLine, TooLong}
-use Rattle.hk_world.specs.declared.event.Header.{Header}
-use Rattle.hk_world.specs.declared.event.Event.{Event}
-use Rattle.hk_world.specs.declared.refused.Refused.{Refused}
+use Rattle.hk_event.specs.declared.event.Header.{Header}
+use Rattle.hk_event.specs.declared.event.Event.{Event}
+use Rattle.hk_event.specs.declared.refused.Refused.{Refused}
 use Rattle.hk_world.specs.Steps.{Accepted, world_step}
 use Rattle.hk_script.specs.Lines.{event_of, header_of}
 use Rattle.hk_safety.specs.Run.{RunState, world_of, history, printed, named}
@@ -14,7 +14,9 @@ use Rattle.hk_drill.specs.declared.stop.Stop.{Stop}
 use Rattle.hk_drill.specs.declared.stop.Stop.TheVariants.{Bad, Long, Lines, Letters}
 use Rattle.hk_drill.specs.declared.line.TheConstants.{MAX_LINE_LEN, MAX_LINES}
 use Rattle.hk_drill.specs.declared.drill_state.TheConstants.{MAX_LETTERS}
-use Rattle.hk_drill.specs.Text.{shown_text, refused_text, key_text, end_text}
+use Rattle.hk_drill.specs.Keys.{key_text}
+use Rattle.hk_drill.specs.Shown.{shown_text}
+use Rattle.hk_transcript.specs.Text.{refused_text, end_text}
 
 -- ---- lines
 abbrev pub is_feed : ℕ → Bool

@@ -1,12 +1,14 @@
 //! How far a script has come behind its header.
 
 use crate::line::is_skipped;
+use crate::shown::put_shown;
 use crate::stop::Stop;
-use crate::text::{put_refused, put_shown};
 use hk_base::Memory;
+use hk_event::{Event, Header, Refused};
 use hk_joint::NotedRun;
 use hk_script::{LineFault, read_event};
-use hk_world::{Event, Header, Refused, Shown, WorldFault};
+use hk_transcript::put_refused;
+use hk_world::{Shown, WorldFault};
 use std::alloc::Global;
 use std::marker::Model;
 
@@ -31,7 +33,7 @@ impl Model for DrillState {
 impl DrillState {
     ghost use Rattle.std.specs.Prelude.{◌≡◌, ◌+◌, ◌++◌, ◌≤◌, ◌<◌, ◌^◌, Some, None, IfOk, OnOk};
     ghost use Rattle.hk_world.specs.Sound.{IsHeader, IsEvent};
-    ghost use Rattle.hk_drill.specs.Text.{refused_text};
+    ghost use Rattle.hk_transcript.specs.Text.{refused_text};
     ghost use Rattle.hk_drill.specs.Transcript.{first_state, event_at, read_at};
     ghost use Rattle.hk_drill.specs.Taken.{IsTaken, state_shown};
 

@@ -3,7 +3,8 @@
 ghost use Rattle.std.specs.Prelude.{◌≡◌, ◌++◌, ◌≤◌, [], IfOk, OnOk, IfErr};
 ghost use Rattle.std.specs.Io.KnownBytes.{Appends};
 ghost use Rattle.hk_outside.specs.Causes.{Rose};
-ghost use Rattle.hk_drill.specs.Text.{key_text, end_text};
+ghost use Rattle.hk_drill.specs.Keys.{key_text};
+ghost use Rattle.hk_transcript.specs.Text.{end_text};
 ghost use Rattle.hk_drill.specs.Transcript.{stop_text, status_of, keys_text, counts_text, drill_text, written_of};
 ghost use Rattle.hk_drill.specs.Progress.{HasNoFeed, HasFront, IsCounted, further, ending};
 ghost use Rattle.hk_drill.specs.Drilled.{IsSinkFault};
@@ -11,13 +12,14 @@ ghost use Rattle.hk_safety.specs.Run.{history, printed, named};
 
 use crate::drill_state::DrillState;
 use crate::fault::Fault;
+use crate::keys::put_key;
 use crate::script::Script;
 use crate::stop::Stop;
-use crate::text::{put_end, put_key};
 use hk_base::{Key, Memory};
 use hk_outside::{Sink, Status, write_all};
 use hk_safety::LiveRun;
 use hk_script::{put_number, put_text};
+use hk_transcript::put_end;
 use std::alloc::Global;
 
 // The line that tells where a script stops, and why.

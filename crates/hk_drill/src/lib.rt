@@ -11,18 +11,17 @@
 mod drill_state;
 mod end;
 mod fault;
-mod generate;
+mod joined;
+mod keys;
 mod line;
 mod script;
+mod shown;
 mod stop;
-mod text;
 mod together;
 mod top;
 
 pub use drill_state::MAX_LETTERS;
-pub use generate::generate as generate_run;
 pub use line::{MAX_LINE_LEN, MAX_LINES};
 pub use stop::Stop;
-pub use text::put_answer;
 pub use together::joint;
 pub use top::drill;

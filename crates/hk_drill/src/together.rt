@@ -11,9 +11,9 @@ ghost use Rattle.hk_drill.specs.Together.{joint_lines, joint_text, joint_of, IsJ
 use crate::drill_state::DrillState;
 use crate::end::{write_end, write_stop, write_text};
 use crate::fault::Fault;
+use crate::joined::put_joined;
 use crate::script::Script;
 use crate::stop::Stop;
-use crate::text::put_joined;
 use crate::top::follow;
 use hk_base::Memory;
 use hk_joint::{NotedRun, joint_orders_are_legal, live_joint_order};

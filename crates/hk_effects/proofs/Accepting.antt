@@ -23,11 +23,11 @@ use Rattle.hk_register.specs.Machine.{In}
 use Rattle.hk_node.specs.Node.{NodeState, epoch_of}
 use Rattle.hk_node.specs.Stepped.{Stepped}
 use Rattle.hk_node.specs.Steps.{receives, installs, ticks, grants}
-use Rattle.hk_world.specs.declared.event.Event.TheVariants.{Propose, Activate}
+use Rattle.hk_event.specs.declared.event.Event.TheVariants.{Propose, Activate}
 use Rattle.hk_world.specs.declared.process.Process.{Process}
 use Rattle.hk_world.specs.declared.process.ManagerProcess.{ManagerProcess}
-use Rattle.hk_world.specs.declared.refused.Refused.{Refused}
-use Rattle.hk_world.specs.declared.refused.Refused.TheVariants.{NotMember, Behind, NoSuchMember, LastMember, Full, NoNumbers}
+use Rattle.hk_event.specs.declared.refused.Refused.{Refused}
+use Rattle.hk_event.specs.declared.refused.Refused.TheVariants.{NotMember, Behind, NoSuchMember, LastMember, Full, NoNumbers}
 use Rattle.hk_world.specs.World.{WorldState, Processes, process_at, put_process, manager_at, put_manager, clocks_of, paces_by, numbered, last_view}
 use Rattle.hk_world.specs.Steps.{Accepted, acts, aside, nothing, running_at, live_at, live, managing_at, live_manager_at, live_manager, manager_acts, with_manager_step, manager_shown, manager_ticks_at, manager_ticked_by, manager_crashes_at, live_actor, takes, ticked_by, ticks_at, process_ticked, manager_ticked, all_ticked_by, all_tick, crashes_at, joining, may_join, starts_at, unmanaged as only_unmanaged, agreed_on, agrees, may_run, guarded_by, installs_at, leases_at, world_step}
 use Rattle.hk_effects.specs.Own.{IsDropped, IsAdded, IsChain}

@@ -31,7 +31,7 @@ use Rattle.hk_node.specs.Rows.{row_at, is_touched}
 use Rattle.hk_node.specs.Node.{NodeState, epoch_of, members_of}
 use Rattle.hk_node.specs.Stepped.{Stepped, row_step, told_of}
 use Rattle.hk_node.specs.Calls.{kind_of, next_stamp, register_in, answers, at_limit, at_turn, at_state, lease_end, at_lease, called}
-use Rattle.hk_world.specs.declared.event.Event.TheVariants.{Call}
+use Rattle.hk_event.specs.declared.event.Event.TheVariants.{Call}
 use Rattle.hk_world.specs.Steps.{Accepted, calls_at, live}
 use Rattle.hk_effects.specs.Projection.{key_node, has_copied, told_at, reply_item, read_only_item, call_items, Trace, project}
 use Rattle.hk_effects.specs.Own.{IsOwn, IsTrace, Agrees}

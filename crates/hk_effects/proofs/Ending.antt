@@ -5,8 +5,8 @@ use Rattle.hk_base.specs.declared.view.View.{View}
 use Rattle.hk_base.specs.View.{IsView, member_numbers, is_member}
 use Rattle.hk_register.specs.Machine.{In, Mark}
 use Rattle.hk_node.specs.Node.{NodeState, epoch_of}
-use Rattle.hk_world.specs.declared.event.Event.{Event}
-use Rattle.hk_world.specs.declared.event.Header.{Header}
+use Rattle.hk_event.specs.declared.event.Event.{Event}
+use Rattle.hk_event.specs.declared.event.Header.{Header}
 use Rattle.hk_world.specs.World.{WorldState, process_at, node_of, numbered, last_view}
 use Rattle.hk_world.specs.Start.{start}
 use Rattle.hk_world.specs.Steps.{acting_of, Accepted, world_step}

@@ -12,8 +12,8 @@ use Rattle.hk_node.specs.Copies.{asks_copy}
 use Rattle.hk_node.specs.Rows.{find_row}
 use Rattle.hk_key.specs.Table.{resend}
 use Rattle.hk_node.specs.Steps.{receives, resent, replayed, asks_lease, installed_in, installs, grants}
-use Rattle.hk_world.specs.declared.event.Event.{Event}
-use Rattle.hk_world.specs.declared.event.Event.TheVariants.{Call, Take, Tick, TickAll, Crash, Resend, Replay, Copy, Start, Agree, Install, Lease, AskLease, Propose, Activate}
+use Rattle.hk_event.specs.declared.event.Event.{Event}
+use Rattle.hk_event.specs.declared.event.Event.TheVariants.{Call, Take, Tick, TickAll, Crash, Resend, Replay, Copy, Start, Agree, Install, Lease, AskLease, Propose, Activate}
 use Rattle.hk_world.specs.World.{WorldState, process_at, numbered, last_view}
 use Rattle.hk_world.specs.Steps.{Accepted, with_step, acts, live, calls_at, ticks_at, manager_ticks_at, crashes_at, manager_crashes_at, agreed_on, agrees, was_member, may_run, installs_at, leases_at, world_step}
 use Rattle.hk_effects.specs.Own.{Ended, IsOwn}

@@ -14,8 +14,8 @@ use Rattle.hk_node.specs.Node.{NodeState, epoch_of}
 use Rattle.hk_node.specs.Stepped.{Stepped, idle}
 use Rattle.hk_node.specs.Copies.{asks_copy}
 use Rattle.hk_node.specs.Steps.{resent, replayed, asks_lease, installs, ticks, grants}
-use Rattle.hk_world.specs.declared.event.Event.{Event}
-use Rattle.hk_world.specs.declared.event.Event.TheVariants.{Call, Take, Tick, TickAll, Crash, Resend, Replay, Copy, Start, Agree, Install, Lease, AskLease, Propose, Activate}
+use Rattle.hk_event.specs.declared.event.Event.{Event}
+use Rattle.hk_event.specs.declared.event.Event.TheVariants.{Call, Take, Tick, TickAll, Crash, Resend, Replay, Copy, Start, Agree, Install, Lease, AskLease, Propose, Activate}
 use Rattle.hk_world.specs.declared.process.Process.{Process}
 use Rattle.hk_world.specs.World.{WorldState, process_at, put_process, node_of, numbered, last_view}
 use Rattle.hk_world.specs.Steps.{Accepted, acts, aside, nothing, live, live_actor, ticks_at, manager_ticks_at, process_ticked, all_tick, crashes_at, manager_crashes_at, joining, starts_at, unmanaged as only_unmanaged, agrees as changes_view, installs_at, leases_at, world_step}

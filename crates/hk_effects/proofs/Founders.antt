@@ -13,7 +13,7 @@ use Rattle.hk_register.specs.Parts.{Parts, NodeOk, MarkOk}
 use Rattle.hk_register.specs.Calls.{CallParts}
 use Rattle.hk_register.proofs.Keep.{weaker_ok}
 use Rattle.hk_node.specs.Node.{NodeState, epoch_of}
-use Rattle.hk_world.specs.declared.event.Header.{Header}
+use Rattle.hk_event.specs.declared.event.Header.{Header}
 use Rattle.hk_world.specs.declared.process.Process.{Process}
 use Rattle.hk_world.specs.declared.process.ManagerProcess.{ManagerProcess}
 use Rattle.hk_world.specs.World.{process_at, manager_at, by_number, node_of, numbered}

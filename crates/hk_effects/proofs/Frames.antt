@@ -9,7 +9,7 @@ use Rattle.hk_register.proofs.Grow.{in_left, in_right, in_either}
 use Rattle.hk_clocks.specs.Clocks.{Paces}
 use Rattle.hk_node.specs.Node.{NodeState}
 use Rattle.hk_node.specs.Stepped.{Stepped}
-use Rattle.hk_world.specs.declared.event.Event.{Event}
+use Rattle.hk_event.specs.declared.event.Event.{Event}
 use Rattle.hk_world.specs.World.{WorldState, put_process}
 use Rattle.hk_world.specs.Steps.{Accepted, with_step, shown_of}
 use Rattle.hk_effects.specs.Projection.{key_node, node_at, letter_of, letters_of, Trace, project, step_marks, told_at, items_of, updates_of, traced}

@@ -14,8 +14,8 @@ use Rattle.hk_clocks.specs.Clocks.{Paces}
 use Rattle.hk_node.specs.Node.{NodeState, epoch_of, epoch_in, members_of}
 use Rattle.hk_node.specs.Sound.{IsNode}
 use Rattle.hk_node.specs.Stepped.{Stepped}
-use Rattle.hk_world.specs.declared.event.Event.{Event}
-use Rattle.hk_world.specs.declared.refused.Refused.{Refused}
+use Rattle.hk_event.specs.declared.event.Event.{Event}
+use Rattle.hk_event.specs.declared.refused.Refused.{Refused}
 use Rattle.hk_world.specs.World.{WorldState, process_at, node_of}
 use Rattle.hk_world.specs.Steps.{Accepted, acting_of, aside}
 use Rattle.hk_world.specs.declared.shown.Shown.{Shown}

@@ -7,8 +7,8 @@ use Rattle.hk_register.specs.Machine.{In, Phase, Node, Message, Mark, Item, call
 use Rattle.hk_register.specs.Machine.Item.{Called, Answered, Dropped, ReadOnly, Rejected}
 use Rattle.hk_register.specs.Effects.{row_mark, cover_mark}
 use Rattle.hk_register.proofs.Grow.{in_either}
-use Rattle.hk_world.specs.declared.event.Event.{Event}
-use Rattle.hk_world.specs.declared.event.Event.TheVariants.{Call, Take, Tick, TickAll, Crash, Resend, Replay, Copy, Start, Agree, Install, Lease, AskLease, Propose, Activate}
+use Rattle.hk_event.specs.declared.event.Event.{Event}
+use Rattle.hk_event.specs.declared.event.Event.TheVariants.{Call, Take, Tick, TickAll, Crash, Resend, Replay, Copy, Start, Agree, Install, Lease, AskLease, Propose, Activate}
 use Rattle.hk_effects.specs.Projection.{is_same_key, pending_marks, moment_marks, install_marks, ack_marks, step_marks, told_at, pending_stamp, reply_item, read_only_item, call_items, items_of}
 use Rattle.hk_effects.proofs.NodesKept.{AreAnswered}
 use Rattle.hk_effects.proofs.WorldKept.{calls_after}

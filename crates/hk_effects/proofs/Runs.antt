@@ -11,8 +11,8 @@ use Rattle.hk_register.proofs.Runs.{effect_kept}
 use Rattle.hk_register.proofs.Calls.{effect_calls}
 use Rattle.hk_register.proofs.Grow.{in_either, in_left}
 use Rattle.hk_node.specs.Node.{NodeState, epoch_of}
-use Rattle.hk_world.specs.declared.event.Event.{Event}
-use Rattle.hk_world.specs.declared.event.Header.{Header}
+use Rattle.hk_event.specs.declared.event.Event.{Event}
+use Rattle.hk_event.specs.declared.event.Header.{Header}
 use Rattle.hk_world.specs.World.{WorldState}
 use Rattle.hk_world.specs.Steps.{acting_of, Accepted, world_step}
 use Rattle.hk_world.specs.Sound.{IsHeader, IsEvent}

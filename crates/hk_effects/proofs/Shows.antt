@@ -11,8 +11,8 @@ use Rattle.hk_register.specs.Runs.{played, Plays}
 use Rattle.hk_register.specs.Worked.{five}
 use Rattle.hk_register.proofs.Grow.{in_either}
 use Rattle.hk_register.proofs.Worked.{noted_after}
-use Rattle.hk_world.specs.declared.event.Event.{Event}
-use Rattle.hk_world.specs.declared.refused.Refused.{Refused}
+use Rattle.hk_event.specs.declared.event.Event.{Event}
+use Rattle.hk_event.specs.declared.refused.Refused.{Refused}
 use Rattle.hk_world.specs.Steps.{Accepted, world_step}
 use Rattle.hk_world.specs.Sound.{IsEvent}
 use Rattle.hk_world.specs.Worked.{managed, key}

@@ -27,12 +27,12 @@ use Rattle.hk_node.specs.Stepped.{Stepped, idle, row_step}
 use Rattle.hk_node.specs.Heard.{raised, is_greatest, has_majority}
 use Rattle.hk_node.specs.Copies.{gives_copy, takes_copy}
 use Rattle.hk_node.specs.Steps.{granted_by, heard, received, receives, receives_from, is_addressed, installed_in, installs, installs_by_majority}
-use Rattle.hk_world.specs.declared.event.Event.TheVariants.{Take}
+use Rattle.hk_event.specs.declared.event.Event.TheVariants.{Take}
 use Rattle.hk_world.specs.World.{numbered}
 use Rattle.hk_manager.specs.declared.event.ManagerEvent.{ManagerEvent}
 use Rattle.hk_manager.specs.declared.event.ManagerEvent.TheVariants as ManagerEvent
 use Rattle.hk_manager.specs.Steps.{manager_step}
-use Rattle.hk_world.specs.declared.event.Event.{Event}
+use Rattle.hk_event.specs.declared.event.Event.{Event}
 use Rattle.hk_world.specs.Steps.{Accepted, live_manager, manager_acts, with_manager_step, manager_shown, takes}
 use Rattle.hk_effects.specs.Projection.{has_copied, letters_of, Trace, project}
 use Rattle.hk_effects.specs.Own.{IsPendingOf, IsOwn, IsTrace, Agrees}

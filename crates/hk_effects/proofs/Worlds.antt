@@ -11,7 +11,7 @@ use Rattle.hk_register.specs.Machine.{In}
 use Rattle.hk_node.specs.Node.{NodeState}
 use Rattle.hk_node.specs.Steps.{ticks}
 use Rattle.hk_world.specs.declared.process.Process.{Process}
-use Rattle.hk_world.specs.declared.refused.Refused.{Refused}
+use Rattle.hk_event.specs.declared.refused.Refused.{Refused}
 use Rattle.hk_world.specs.World.{WorldState, Processes, process_at}
 use Rattle.hk_world.specs.Steps.{Accepted, process_ticked}
 use Rattle.hk_world.specs.Sound.{IsWorld, IsProcess}

@@ -6,7 +6,7 @@ use Rattle.hk_register.specs.Parts.{Parts}
 use Rattle.hk_world.specs.World.{WorldState}
 use Rattle.hk_world.specs.Steps.{Accepted, world_step}
 use Rattle.hk_world.specs.Sound.{IsEvent}
-use Rattle.hk_world.specs.declared.event.Event.{Event}
+use Rattle.hk_event.specs.declared.event.Event.{Event}
 use Rattle.hk_effects.specs.Projection.{Trace, project, traced}
 use Rattle.hk_effects.specs.Own.{IsLed, IsOwn, IsTrace, Agrees}
 

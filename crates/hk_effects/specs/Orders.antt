@@ -6,8 +6,8 @@ use Rattle.hk_history.specs.declared.event.Event.{Event as Item}
 use Rattle.hk_history.specs.declared.event.Entry.{Entry}
 use Rattle.hk_history.specs.Legal.{Legal}
 use Rattle.hk_register.specs.Printed.{events_of, entries, printed}
-use Rattle.hk_world.specs.declared.event.Header.{Header}
-use Rattle.hk_world.specs.declared.event.Event.{Event}
+use Rattle.hk_event.specs.declared.event.Header.{Header}
+use Rattle.hk_event.specs.declared.event.Event.{Event}
 use Rattle.hk_world.specs.World.{numbered}
 use Rattle.hk_effects.specs.Projection.{Trace, project}
 use Rattle.hk_world.specs.Sound.{IsHeader}

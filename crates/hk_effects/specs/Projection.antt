@@ -29,8 +29,8 @@ use Rattle.hk_register.specs.Runs.{absent}
 use Rattle.hk_node.specs.Rows.{row_at}
 use Rattle.hk_node.specs.Node.{NodeState, epoch_of}
 use Rattle.hk_node.specs.Calls.{kind_of}
-use Rattle.hk_world.specs.declared.event.Event.{Event}
-use Rattle.hk_world.specs.declared.event.Event.TheVariants.{Call}
+use Rattle.hk_event.specs.declared.event.Event.{Event}
+use Rattle.hk_event.specs.declared.event.Event.TheVariants.{Call}
 use Rattle.hk_world.specs.World.{WorldState, Processes, process_at, node_of}
 use Rattle.hk_world.specs.Steps.{acting_of, Accepted}
 

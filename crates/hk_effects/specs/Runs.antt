@@ -4,8 +4,8 @@ use Rattle.hk_register.specs.Effects.{row_mark}
 use Rattle.hk_register.specs.Runs.{founder}
 use Rattle.hk_register.specs.Parts.{Parts}
 use Rattle.hk_register.specs.Calls.{CallParts}
-use Rattle.hk_world.specs.declared.event.Header.{Header}
-use Rattle.hk_world.specs.declared.event.Event.{Event}
+use Rattle.hk_event.specs.declared.event.Header.{Header}
+use Rattle.hk_event.specs.declared.event.Event.{Event}
 use Rattle.hk_world.specs.Start.{start, counted}
 use Rattle.hk_world.specs.Steps.{Accepted, world_step}
 use Rattle.hk_world.specs.Sound.{IsHeader, IsEvent}

@@ -16,8 +16,8 @@ use Rattle.hk_register.specs.Effects.Effect.{KeepVal, StartReplay, Resend, Insta
 use Rattle.hk_register.specs.Effects.Effect.{GiveRow, CopyRow, PassRow, CopyValid, GetReady, Serve, Refuse, Quiet}
 use Rattle.hk_register.specs.Runs.{after, played, Plays}
 use Rattle.hk_register.specs.Worked.{five, six, nine, aborted, exactly, with_more, write, increment, waits, waits_again, takes}
-use Rattle.hk_world.specs.declared.event.Event.{Event}
-use Rattle.hk_world.specs.declared.event.Event.TheVariants as Event
+use Rattle.hk_event.specs.declared.event.Event.{Event}
+use Rattle.hk_event.specs.declared.event.Event.TheVariants as Event
 use Rattle.hk_world.specs.Steps.{Accepted, world_step}
 use Rattle.hk_world.specs.Sound.{IsEvent}
 use Rattle.hk_world.specs.Worked.{managed, node, key, call, take, stamp}

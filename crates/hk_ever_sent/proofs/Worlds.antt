@@ -24,10 +24,10 @@ use Rattle.hk_node.specs.declared.event.NodeEvent.TheVariants as NodeEvent
 use Rattle.hk_node.specs.Node.{NodeState, epoch_of}
 use Rattle.hk_base.specs.View.{is_member}
 use Rattle.hk_node.specs.Steps.{node_step}
-use Rattle.hk_world.specs.declared.event.Event.{Event}
-use Rattle.hk_world.specs.declared.event.Event.TheVariants.{Call, Take, Tick, TickAll, Crash, Resend, Replay, Copy, Start, Agree, Install, Lease, AskLease, Propose, Activate}
-use Rattle.hk_world.specs.declared.refused.Refused.{Refused}
-use Rattle.hk_world.specs.declared.refused.Refused.TheVariants.{LastMember, NoSuchMember, Full, NoNumbers, NotMember, Behind}
+use Rattle.hk_event.specs.declared.event.Event.{Event}
+use Rattle.hk_event.specs.declared.event.Event.TheVariants.{Call, Take, Tick, TickAll, Crash, Resend, Replay, Copy, Start, Agree, Install, Lease, AskLease, Propose, Activate}
+use Rattle.hk_event.specs.declared.refused.Refused.{Refused}
+use Rattle.hk_event.specs.declared.refused.Refused.TheVariants.{LastMember, NoSuchMember, Full, NoNumbers, NotMember, Behind}
 use Rattle.hk_world.specs.declared.process.Process.{Process}
 use Rattle.hk_world.specs.declared.process.ManagerProcess.{ManagerProcess}
 use Rattle.hk_world.specs.World.{WorldState, process_at, manager_at, clocks_of, numbered, last_view}

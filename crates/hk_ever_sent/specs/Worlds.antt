@@ -1,9 +1,9 @@
 -- The letters of worlds.
 use Rattle.std.specs.Prelude.{List, [], ◌∷◌, Result, Ok, Err}
 use Rattle.std.specs.List.{AllByRecursion}
-use Rattle.hk_world.specs.declared.event.Header.{Header}
-use Rattle.hk_world.specs.declared.event.Event.{Event}
-use Rattle.hk_world.specs.declared.refused.Refused.{Refused}
+use Rattle.hk_event.specs.declared.event.Header.{Header}
+use Rattle.hk_event.specs.declared.event.Event.{Event}
+use Rattle.hk_event.specs.declared.refused.Refused.{Refused}
 use Rattle.hk_world.specs.World.{WorldState}
 use Rattle.hk_world.specs.Start.{start}
 use Rattle.hk_world.specs.Steps.{Accepted, world_step}

@@ -11,9 +11,9 @@ use Rattle.hk_history.specs.declared.event.Event.{Event as HistoryEvent}
 use Rattle.hk_history.specs.declared.event.Event.TheVariants as HistoryEvent
 use Rattle.hk_history.specs.History.{op_of, answer_of}
 use Rattle.hk_register.specs.Machine.{In}
-use Rattle.hk_world.specs.declared.event.Event.{Event}
-use Rattle.hk_world.specs.declared.event.Event.TheVariants.{Call}
-use Rattle.hk_world.specs.declared.refused.Refused.{Refused}
+use Rattle.hk_event.specs.declared.event.Event.{Event}
+use Rattle.hk_event.specs.declared.event.Event.TheVariants.{Call}
+use Rattle.hk_event.specs.declared.refused.Refused.{Refused}
 use Rattle.hk_world.specs.World.{WorldState, numbered}
 use Rattle.hk_world.specs.Steps.{Accepted, world_step}
 use Rattle.hk_world.specs.Sound.{IsEvent}

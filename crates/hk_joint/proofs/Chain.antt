@@ -5,8 +5,8 @@ use Rattle.hk_register.specs.Machine.{In, Mark, Update, Item, RegisterState}
 use Rattle.hk_register.specs.Facts.{Complete}
 use Rattle.hk_register.specs.Parts.{Parts}
 use Rattle.hk_register.proofs.Grow.{in_either}
-use Rattle.hk_world.specs.declared.event.Event.{Event}
-use Rattle.hk_world.specs.declared.event.Header.{Header}
+use Rattle.hk_event.specs.declared.event.Event.{Event}
+use Rattle.hk_event.specs.declared.event.Header.{Header}
 use Rattle.hk_world.specs.World.{WorldState}
 use Rattle.hk_world.specs.Steps.{Accepted, acting_of, world_step}
 use Rattle.hk_world.specs.Sound.{IsHeader, IsEvent}

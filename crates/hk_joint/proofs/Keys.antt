@@ -8,9 +8,9 @@ use Rattle.hk_register.specs.Machine.{In, Item, Update, RegisterState}
 use Rattle.hk_register.specs.Printed.{Slot}
 use Rattle.hk_register.specs.Printed as register
 use Rattle.hk_register.proofs.Grow.{in_left}
-use Rattle.hk_world.specs.declared.event.Event.{Event}
-use Rattle.hk_world.specs.declared.event.Event.TheVariants.{Call}
-use Rattle.hk_world.specs.declared.event.Header.{Header}
+use Rattle.hk_event.specs.declared.event.Event.{Event}
+use Rattle.hk_event.specs.declared.event.Event.TheVariants.{Call}
+use Rattle.hk_event.specs.declared.event.Header.{Header}
 use Rattle.hk_world.specs.World.{WorldState}
 use Rattle.hk_world.specs.Steps.{Accepted, acting_of}
 use Rattle.hk_world.specs.Sound.{IsHeader}

@@ -30,8 +30,8 @@ use Rattle.hk_node.specs.Node.{NodeState}
 use Rattle.hk_node.specs.Rows.{row_at}
 use Rattle.hk_node.specs.Stepped.{Stepped}
 use Rattle.hk_node.specs.Steps.{node_step}
-use Rattle.hk_world.specs.declared.event.Event.{Event}
-use Rattle.hk_world.specs.declared.event.Event.TheVariants.{Call}
+use Rattle.hk_event.specs.declared.event.Event.{Event}
+use Rattle.hk_event.specs.declared.event.Event.TheVariants.{Call}
 use Rattle.hk_world.specs.World.{WorldState}
 use Rattle.hk_world.specs.Steps.{Accepted, acting_of, world_step}
 use Rattle.hk_effects.specs.Projection.{Trace, project, key_node, node_at, told_at, read_only_item, call_items, items_of, moment_marks, pending_marks, install_marks, step_marks, traced}

@@ -6,9 +6,9 @@ use Rattle.hk_base.specs.declared.call.CallNo.{CallNo}
 use Rattle.hk_base.specs.declared.call.Reply.{Reply}
 use Rattle.hk_history.specs.declared.event.Event.{Event as HistoryEvent}
 use Rattle.hk_history.specs.History.{is_call, is_reply}
-use Rattle.hk_world.specs.declared.event.Event.{Event}
-use Rattle.hk_world.specs.declared.event.Event.TheVariants.{Call}
-use Rattle.hk_world.specs.declared.refused.Refused.{Refused}
+use Rattle.hk_event.specs.declared.event.Event.{Event}
+use Rattle.hk_event.specs.declared.event.Event.TheVariants.{Call}
+use Rattle.hk_event.specs.declared.refused.Refused.{Refused}
 use Rattle.hk_world.specs.World.{WorldState}
 use Rattle.hk_world.specs.Steps.{Accepted, world_step}
 use Rattle.hk_safety.specs.Run.{world_with}

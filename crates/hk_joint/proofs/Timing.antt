@@ -12,7 +12,7 @@ use Rattle.hk_register.specs.Printed.{Slot, entry_of}
 use Rattle.hk_register.proofs.Once.{slot_stands}
 use Rattle.hk_register.proofs.Printing.{printed_is}
 use Rattle.hk_register.proofs.Tests.{any_in, in_any}
-use Rattle.hk_world.specs.declared.event.Event.{Event}
+use Rattle.hk_event.specs.declared.event.Event.{Event}
 use Rattle.hk_world.specs.World.{WorldState}
 use Rattle.hk_world.specs.Start.{start}
 use Rattle.hk_effects.specs.Projection.{Trace, project}

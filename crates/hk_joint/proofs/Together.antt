@@ -18,8 +18,8 @@ use Rattle.hk_register.proofs.Grow.{in_either}
 use Rattle.hk_register.proofs.Once.{look_slot, own_slot, slot_stands}
 use Rattle.hk_register.proofs.Printing.{printed_is}
 use Rattle.hk_register.proofs.Tests.{any_in, in_any}
-use Rattle.hk_world.specs.declared.event.Event.{Event}
-use Rattle.hk_world.specs.declared.event.Event.TheVariants.{Call}
+use Rattle.hk_event.specs.declared.event.Event.{Event}
+use Rattle.hk_event.specs.declared.event.Event.TheVariants.{Call}
 use Rattle.hk_world.specs.World.{numbered}
 use Rattle.hk_world.specs.Start.{start}
 use Rattle.hk_world.specs.Steps.{world_step}

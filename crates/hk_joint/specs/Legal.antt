@@ -8,9 +8,9 @@ use Rattle.hk_history.specs.History.{op_of, answer_of, Before}
 use Rattle.hk_history.specs.Legal.{FitsCall, Timely, is_entry}
 use Rattle.hk_register.specs.Machine.{In}
 use Rattle.hk_register.specs.Printed.{entry_of}
-use Rattle.hk_world.specs.declared.event.Event.{Event}
-use Rattle.hk_world.specs.declared.event.Event.TheVariants.{Call}
-use Rattle.hk_world.specs.declared.refused.Refused.{Refused}
+use Rattle.hk_event.specs.declared.event.Event.{Event}
+use Rattle.hk_event.specs.declared.event.Event.TheVariants.{Call}
+use Rattle.hk_event.specs.declared.refused.Refused.{Refused}
 use Rattle.hk_world.specs.World.{WorldState}
 use Rattle.hk_world.specs.Start.{start}
 use Rattle.hk_world.specs.Steps.{Accepted, world_step}

@@ -3,8 +3,8 @@ use Rattle.std.specs.Prelude.{◌≡◌, ℕ, List, [], ◌∷◌, None, Some, m
 use Rattle.hk_base.specs.declared.call.Op.TheVariants.{Read, Write}
 use Rattle.hk_base.specs.declared.call.Content.{Content}
 use Rattle.hk_history.specs.declared.event.Entry.{Entry}
-use Rattle.hk_world.specs.declared.event.Event.{Event}
-use Rattle.hk_world.specs.declared.event.Event.TheVariants.{Call}
+use Rattle.hk_event.specs.declared.event.Event.{Event}
+use Rattle.hk_event.specs.declared.event.Event.TheVariants.{Call}
 use Rattle.hk_world.specs.Worked.{group, node, take}
 use Rattle.hk_safety.specs.Run.{RunState}
 use Rattle.hk_safety.specs.Moment.{moment}

@@ -4,7 +4,8 @@ ghost use Rattle.std.specs.Prelude.{◌≡◌, [], ◌∷◌, ◌++◌, map, IfO
 ghost use Rattle.hk_joint.specs.Batch.{is_told, reading_by, reading_in, goes_on, calls_of};
 
 use hk_base::{Answer, CallNo, Key, Memory, NodeId, Op, Reply, Sequence};
-use hk_world::{Event, Shown};
+use hk_event::Event;
+use hk_world::Shown;
 use std::alloc::Global;
 use std::marker::Model;
 

@@ -6,8 +6,9 @@ ghost use Rattle.hk_joint.specs.Batch.{reading_in, noted};
 use crate::batch::{Batches, Batching};
 use crate::laws::batches_are_found;
 use hk_base::Memory;
+use hk_event::{Event, Header};
 use hk_safety::LiveRun;
-use hk_world::{Event, Header, Shown, WorldFault};
+use hk_world::{Shown, WorldFault};
 use std::alloc::Global;
 use std::marker::Model;
 

@@ -13,7 +13,7 @@ use Rattle.hk_earned.specs.Machine.{Setting, State, first_untils, times, start a
 use Rattle.hk_earned.proofs.Beginning.{start_parts, until_first}
 use Rattle.hk_earned.proofs.Parts.{Parts, Rate}
 use Rattle.hk_earned.proofs.Places.{same_node}
-use Rattle.hk_world.specs.declared.event.Header.{Header}
+use Rattle.hk_event.specs.declared.event.Header.{Header}
 use Rattle.hk_world.specs.declared.process.ManagerProcess.{ManagerProcess}
 use Rattle.hk_world.specs.World.{WorldState, process_at, manager_at, clocks_of, node_clock, manager_clock}
 use Rattle.hk_world.specs.Start.{counted, founding_process, founding_manager, start}

@@ -33,12 +33,12 @@ use Rattle.hk_node.specs.Copies.{asks_copy}
 use Rattle.hk_node.specs.Steps.{heard, received, is_addressed, receives_from, receives, resent, replayed, asks_lease, ticks, activated_by}
 use Rattle.hk_earned.specs.Machine.{In}
 use Rattle.hk_earned.proofs.Places.{which_node}
-use Rattle.hk_world.specs.declared.event.Event.{Event}
-use Rattle.hk_world.specs.declared.event.Event.TheVariants.{Call, Take, Tick, TickAll, Crash, Resend, Replay, Copy, Start, Agree, Install, Lease, AskLease, Propose, Activate}
+use Rattle.hk_event.specs.declared.event.Event.{Event}
+use Rattle.hk_event.specs.declared.event.Event.TheVariants.{Call, Take, Tick, TickAll, Crash, Resend, Replay, Copy, Start, Agree, Install, Lease, AskLease, Propose, Activate}
 use Rattle.hk_world.specs.declared.process.Process.{Process}
 use Rattle.hk_world.specs.declared.process.ManagerProcess.{ManagerProcess}
-use Rattle.hk_world.specs.declared.refused.Refused.{Refused}
-use Rattle.hk_world.specs.declared.refused.Refused.TheVariants.{NotMember}
+use Rattle.hk_event.specs.declared.refused.Refused.{Refused}
+use Rattle.hk_event.specs.declared.refused.Refused.TheVariants.{NotMember}
 use Rattle.hk_world.specs.World.{WorldState, Processes, by_number, process_at, put_process, manager_at, put_manager, clocks_of, paces_by, numbered, last_view}
 use Rattle.hk_world.specs.Steps.{Accepted, nothing, aside, with_step, shown_of, acts, with_manager_step, manager_shown, manager_acts, calls_at, takes, ticked_by, ticks_at, manager_ticked_by, manager_ticks_at, is_live, process_ticked, manager_ticked, all_ticked_by, crashes_at, manager_crashes_at, joining, may_join, starts_at, agrees, installs_at, leases_at, live, world_step}
 use Rattle.hk_world.specs.Sound.{IsWorld, IsEvent}

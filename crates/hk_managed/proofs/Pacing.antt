@@ -28,12 +28,12 @@ use Rattle.hk_base.specs.View.{is_member}
 use Rattle.hk_node.specs.Copies.{asks_copy}
 use Rattle.hk_node.specs.Steps.{receives, resent, replayed, asks_lease}
 use Rattle.hk_earned.proofs.Clocked.{skew_kept}
-use Rattle.hk_world.specs.declared.event.Event.{Event}
-use Rattle.hk_world.specs.declared.event.Event.TheVariants.{Call, Take, Tick, TickAll, Crash, Resend, Replay, Copy, Start, Agree, Install, Lease, AskLease, Propose, Activate}
+use Rattle.hk_event.specs.declared.event.Event.{Event}
+use Rattle.hk_event.specs.declared.event.Event.TheVariants.{Call, Take, Tick, TickAll, Crash, Resend, Replay, Copy, Start, Agree, Install, Lease, AskLease, Propose, Activate}
 use Rattle.hk_world.specs.declared.process.Process.{Process}
 use Rattle.hk_world.specs.declared.process.ManagerProcess.{ManagerProcess}
-use Rattle.hk_world.specs.declared.refused.Refused.{Refused}
-use Rattle.hk_world.specs.declared.refused.Refused.TheVariants.{NotMember}
+use Rattle.hk_event.specs.declared.refused.Refused.{Refused}
+use Rattle.hk_event.specs.declared.refused.Refused.TheVariants.{NotMember}
 use Rattle.hk_world.specs.World.{WorldState, process_at, put_process, manager_at, clocks_of, paces_by, numbered, last_view}
 use Rattle.hk_world.specs.Start.{founding_actors, founding_paces, first_pace, start}
 use Rattle.hk_world.specs.Steps.{Accepted, nothing, aside, acts, running_at, live_at, live, managing_at, live_manager_at, live_actor, manager_acts, calls_at, takes, ticked_by, ticks_at, manager_ticked_by, manager_ticks_at, all_ticked_by, all_tick, crashes_at, manager_crashes_at, joining, may_join, starts_at, unmanaged, agrees, may_run, guarded_by, installs_at, leases_at, world_step}

@@ -7,8 +7,8 @@ use Rattle.hk_base.specs.declared.stamp.NodeId.{NodeId}
 use Rattle.hk_base.specs.declared.view.View.{View}
 use Rattle.hk_council.specs.Agreed.{Agreement}
 use Rattle.hk_node.specs.Node.{epoch_of}
-use Rattle.hk_world.specs.declared.event.Header.{Header}
-use Rattle.hk_world.specs.declared.event.Event.{Event}
+use Rattle.hk_event.specs.declared.event.Header.{Header}
+use Rattle.hk_event.specs.declared.event.Event.{Event}
 use Rattle.hk_world.specs.declared.process.ManagerProcess.{ManagerProcess}
 use Rattle.hk_world.specs.World.{WorldState, by_number, process_at, manager_at, numbered}
 use Rattle.hk_world.specs.Start.{counted, founding_view, founding_process, founding_manager, start}

@@ -4,8 +4,8 @@ use Rattle.hk_base.specs.declared.stamp.NodeId.{NodeId}
 use Rattle.hk_base.specs.declared.view.View.{View}
 use Rattle.hk_node.specs.Node.{NodeState, epoch_of}
 use Rattle.hk_base.specs.View.{is_member}
-use Rattle.hk_world.specs.declared.event.Header.{Header}
-use Rattle.hk_world.specs.declared.event.Event.{Event}
+use Rattle.hk_event.specs.declared.event.Header.{Header}
+use Rattle.hk_event.specs.declared.event.Event.{Event}
 use Rattle.hk_world.specs.World.{WorldState, process_at, node_of, numbered}
 use Rattle.hk_world.specs.Start.{start}
 use Rattle.hk_world.specs.Sound.{IsHeader}

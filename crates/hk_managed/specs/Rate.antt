@@ -2,8 +2,8 @@
 use Rattle.std.specs.Prelude.{ℕ, zero, suc, List, [], ◌∷◌, length, is_some, unwrap_or}
 use Rattle.std.specs.List.{AllByRecursion}
 use Rattle.hk_clocks.specs.Paced.{Moment, IsPaced}
-use Rattle.hk_world.specs.declared.event.Header.{Header}
-use Rattle.hk_world.specs.declared.event.Event.{Event}
+use Rattle.hk_event.specs.declared.event.Header.{Header}
+use Rattle.hk_event.specs.declared.event.Event.{Event}
 use Rattle.hk_world.specs.World.{WorldState, live_clock}
 use Rattle.hk_world.specs.Start.{start}
 use Rattle.hk_world.specs.Steps.{world_step}

@@ -4,9 +4,9 @@ use Rattle.std.specs.Option.{option_map}
 use Rattle.hk_base.specs.declared.stamp.NodeId.{NodeId}
 use Rattle.hk_base.specs.declared.view.Change.TheVariants.{Drop}
 use Rattle.hk_node.specs.Node.{epoch_of}
-use Rattle.hk_world.specs.declared.event.Header.{Header}
-use Rattle.hk_world.specs.declared.event.Event.{Event}
-use Rattle.hk_world.specs.declared.event.Event.TheVariants.{Take, TickAll, Propose, Activate}
+use Rattle.hk_event.specs.declared.event.Header.{Header}
+use Rattle.hk_event.specs.declared.event.Event.{Event}
+use Rattle.hk_event.specs.declared.event.Event.TheVariants.{Take, TickAll, Propose, Activate}
 use Rattle.hk_world.specs.World.{WorldState, process_at, node_of, numbered}
 use Rattle.hk_world.specs.Start.{start}
 use Rattle.hk_world.specs.Steps.{world_step}

@@ -6,8 +6,8 @@ use Rattle.hk_base.specs.declared.letter.Actor.TheVariants.{Node}
 use Rattle.hk_base.specs.declared.letter.Letter.{Letter}
 use Rattle.hk_node.specs.Node.{NodeState}
 use Rattle.hk_node.specs.Laws.{key_in}
-use Rattle.hk_world.specs.declared.event.Event.{Event}
-use Rattle.hk_world.specs.declared.event.Event.TheVariants.{Call, Take, Resend, Replay}
+use Rattle.hk_event.specs.declared.event.Event.{Event}
+use Rattle.hk_event.specs.declared.event.Event.TheVariants.{Call, Take, Resend, Replay}
 use Rattle.hk_world.specs.declared.process.Process.{Process}
 use Rattle.hk_world.specs.World.{WorldState, process_at, numbered}
 use Rattle.hk_world.specs.Steps.{Accepted, world_step}

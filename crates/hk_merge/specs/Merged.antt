@@ -19,8 +19,8 @@ use Rattle.hk_node.specs.declared.event.NodeEvent.TheVariants as NodeEvent
 use Rattle.hk_node.specs.Node.{NodeState}
 use Rattle.hk_node.specs.Laws.{key_of}
 use Rattle.hk_journal.specs.declared.step_entry.JournalEntry.{JournalEntry}
-use Rattle.hk_world.specs.declared.event.Event.{Event}
-use Rattle.hk_world.specs.declared.event.Event.TheVariants.{Call, Take, Resend, Replay}
+use Rattle.hk_event.specs.declared.event.Event.{Event}
+use Rattle.hk_event.specs.declared.event.Event.TheVariants.{Call, Take, Resend, Replay}
 use Rattle.hk_world.specs.declared.shown.Shown.{Shown}
 use Rattle.hk_world.specs.World.{WorldState, process_at, numbered}
 use Rattle.hk_world.specs.Steps.{Accepted, world_step}

@@ -4,9 +4,9 @@ use Rattle.hk_base.specs.declared.stamp.NodeId.{NodeId}
 use Rattle.hk_base.specs.declared.letter.Letter.{Letter}
 use Rattle.hk_base.specs.declared.letter.Actor.TheVariants.{Node}
 use Rattle.hk_node.specs.Node.{NodeState}
-use Rattle.hk_world.specs.declared.event.Header.{Header}
-use Rattle.hk_world.specs.declared.event.Event.{Event}
-use Rattle.hk_world.specs.declared.event.Event.TheVariants.{Call, Take, Resend, Replay}
+use Rattle.hk_event.specs.declared.event.Header.{Header}
+use Rattle.hk_event.specs.declared.event.Event.{Event}
+use Rattle.hk_event.specs.declared.event.Event.TheVariants.{Call, Take, Resend, Replay}
 use Rattle.hk_world.specs.World.{WorldState, process_at, numbered}
 use Rattle.hk_world.specs.Start.{start}
 use Rattle.hk_world.specs.Steps.{Accepted, world_step}

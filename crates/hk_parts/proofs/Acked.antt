@@ -6,8 +6,8 @@ use Rattle.hk_register.specs.Machine.{In, Marked}
 use Rattle.hk_register.specs.Facts.{Exact}
 use Rattle.hk_register.specs.Effects.{row_mark}
 use Rattle.hk_register.specs.Runs.{founder}
-use Rattle.hk_world.specs.declared.event.Event.{Event}
-use Rattle.hk_world.specs.declared.event.Header.{Header}
+use Rattle.hk_event.specs.declared.event.Event.{Event}
+use Rattle.hk_event.specs.declared.event.Header.{Header}
 use Rattle.hk_world.specs.Start.{counted}
 use Rattle.hk_world.specs.Steps.{Accepted, world_step}
 use Rattle.hk_world.specs.Sound.{IsHeader, IsEvent}

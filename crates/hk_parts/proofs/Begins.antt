@@ -15,9 +15,9 @@ use Rattle.hk_node.specs.Calls.{lease_end, at_lease, at_state, called}
 use Rattle.hk_node.specs.Node.{NodeState}
 use Rattle.hk_node.specs.Rows.{row_at}
 use Rattle.hk_node.specs.Stepped.{Stepped}
-use Rattle.hk_world.specs.declared.event.Event.{Event}
-use Rattle.hk_world.specs.declared.event.Event.TheVariants.{Call, Take, Tick, TickAll, Crash, Resend, Replay, Copy, Start, Agree, Install, Lease, AskLease, Propose, Activate}
-use Rattle.hk_world.specs.declared.event.Header.{Header}
+use Rattle.hk_event.specs.declared.event.Event.{Event}
+use Rattle.hk_event.specs.declared.event.Event.TheVariants.{Call, Take, Tick, TickAll, Crash, Resend, Replay, Copy, Start, Agree, Install, Lease, AskLease, Propose, Activate}
+use Rattle.hk_event.specs.declared.event.Header.{Header}
 use Rattle.hk_world.specs.World.{WorldState, node_of}
 use Rattle.hk_world.specs.Steps.{acting_of, Accepted, calls_at, world_step}
 use Rattle.hk_world.specs.Sound.{IsHeader, IsEvent}

@@ -30,8 +30,8 @@ use Rattle.hk_node.specs.Sends.{letters_to}
 use Rattle.hk_node.specs.Stepped.{Stepped, idle}
 use Rattle.hk_node.specs.Heard.{raised, is_greatest, has_majority}
 use Rattle.hk_node.specs.Steps.{on_found, installed_in, received, is_addressed, receives_from, receives, installs, installs_by_majority, heard}
-use Rattle.hk_world.specs.declared.event.Event.{Event}
-use Rattle.hk_world.specs.declared.event.Event.TheVariants as Event
+use Rattle.hk_event.specs.declared.event.Event.{Event}
+use Rattle.hk_event.specs.declared.event.Event.TheVariants as Event
 use Rattle.hk_world.specs.World.{WorldState, numbered}
 use Rattle.hk_effects.specs.Projection.{is_behind, has_copied, item_at, first_item, covers}
 use Rattle.hk_effects.specs.Own.{IsTold}

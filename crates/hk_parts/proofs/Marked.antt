@@ -10,8 +10,8 @@ use Rattle.hk_register.proofs.Helps.{pending_of}
 use Rattle.hk_node.specs.Node.{NodeState}
 use Rattle.hk_node.specs.Rows.{Rows, row_at}
 use Rattle.hk_base.specs.Stamp.{tag_of}
-use Rattle.hk_world.specs.declared.event.Event.{Event}
-use Rattle.hk_world.specs.declared.event.Header.{Header}
+use Rattle.hk_event.specs.declared.event.Event.{Event}
+use Rattle.hk_event.specs.declared.event.Header.{Header}
 use Rattle.hk_world.specs.Start.{counted}
 use Rattle.hk_world.specs.Steps.{acting_of, Accepted, world_step}
 use Rattle.hk_world.specs.World.{WorldState}

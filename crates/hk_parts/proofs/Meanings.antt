@@ -9,8 +9,8 @@ use Rattle.hk_base.specs.Stamp.{tag_of}
 use Rattle.hk_register.specs.Machine.{In, Mark, Node, Message}
 use Rattle.hk_register.specs.Machine.Message.{Inv, Ack, Val, Give}
 use Rattle.hk_register.proofs.Grow.{in_right, in_either}
-use Rattle.hk_world.specs.declared.event.Event.{Event}
-use Rattle.hk_world.specs.declared.event.Header.{Header}
+use Rattle.hk_event.specs.declared.event.Event.{Event}
+use Rattle.hk_event.specs.declared.event.Header.{Header}
 use Rattle.hk_world.specs.Steps.{acting_of, Accepted, world_step}
 use Rattle.hk_world.specs.Sound.{IsHeader, IsEvent}
 use Rattle.hk_world.specs.World.{WorldState, node_of}

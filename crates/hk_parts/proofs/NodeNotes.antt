@@ -32,8 +32,8 @@ use Rattle.hk_node.specs.Sends.{letters_to}
 use Rattle.hk_node.specs.Stepped.{Stepped, idle, row_step}
 use Rattle.hk_node.specs.Heard.{raised, is_greatest, has_majority}
 use Rattle.hk_node.specs.Steps.{on_found, installed_in, installs, installs_by_majority, heard, received, is_addressed, receives_from, receives}
-use Rattle.hk_world.specs.declared.event.Event.{Event}
-use Rattle.hk_world.specs.declared.event.Event.TheVariants as Event
+use Rattle.hk_event.specs.declared.event.Event.{Event}
+use Rattle.hk_event.specs.declared.event.Event.TheVariants as Event
 use Rattle.hk_world.specs.World.{WorldState}
 use Rattle.hk_effects.specs.Projection.{number_of, letters_of}
 use Rattle.hk_effects.proofs.Order.{same_of}

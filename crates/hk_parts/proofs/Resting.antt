@@ -5,8 +5,8 @@ use Rattle.hk_register.specs.Machine.{In, Mark, Node, Phase, Message}
 use Rattle.hk_register.specs.Machine.Message.{Inv, Ack, Val, Give}
 use Rattle.hk_register.specs.Effects.{row_mark, cover_mark}
 use Rattle.hk_register.proofs.Grow.{in_either}
-use Rattle.hk_world.specs.declared.event.Event.{Event}
-use Rattle.hk_world.specs.declared.event.Header.{Header}
+use Rattle.hk_event.specs.declared.event.Event.{Event}
+use Rattle.hk_event.specs.declared.event.Header.{Header}
 use Rattle.hk_world.specs.Steps.{acting_of, Accepted}
 use Rattle.hk_world.specs.World.{WorldState}
 use Rattle.hk_effects.specs.Projection.{Trace, project, traced, traced_by, key_node, node_at, letters_of, pending_marks, moment_marks, install_marks, ack_marks, step_marks}

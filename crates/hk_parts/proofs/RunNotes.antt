@@ -14,8 +14,8 @@ use Rattle.hk_register.specs.Effects.{Has}
 use Rattle.hk_register.proofs.Helps.{pending_of}
 use Rattle.hk_node.specs.Node.{NodeState}
 use Rattle.hk_node.specs.Rows.{Rows, row_at}
-use Rattle.hk_world.specs.declared.event.Event.{Event}
-use Rattle.hk_world.specs.declared.event.Header.{Header}
+use Rattle.hk_event.specs.declared.event.Event.{Event}
+use Rattle.hk_event.specs.declared.event.Header.{Header}
 use Rattle.hk_world.specs.declared.process.Process.{Process}
 use Rattle.hk_world.specs.Start.{counted, founding_process}
 use Rattle.hk_world.specs.World.{WorldState, Processes, node_of}

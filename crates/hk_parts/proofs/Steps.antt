@@ -37,8 +37,8 @@ use Rattle.hk_node.specs.Sound.{IsNode}
 use Rattle.hk_node.specs.Stepped.{Stepped, idle, row_step}
 use Rattle.hk_node.specs.Heard.{raised, is_greatest, has_majority}
 use Rattle.hk_node.specs.Steps.{on_found, resent, replayed, asks_lease, viewed, installed_in, installs, installs_by_majority, heard, received, is_addressed, receives_from, receives}
-use Rattle.hk_world.specs.declared.event.Event.{Event}
-use Rattle.hk_world.specs.declared.event.Event.TheVariants.{Call, Take, Tick, TickAll, Crash, Resend, Replay, Copy, Start, Agree, Install, Lease, AskLease, Propose, Activate}
+use Rattle.hk_event.specs.declared.event.Event.{Event}
+use Rattle.hk_event.specs.declared.event.Event.TheVariants.{Call, Take, Tick, TickAll, Crash, Resend, Replay, Copy, Start, Agree, Install, Lease, AskLease, Propose, Activate}
 use Rattle.hk_world.specs.World.{WorldState}
 use Rattle.hk_effects.specs.Projection.{letter_of}
 use Rattle.hk_effects.proofs.Batches.{batch_tells}

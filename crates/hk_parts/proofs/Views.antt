@@ -3,8 +3,8 @@ use Rattle.std.proofs.Common.{◌≡◌, ◌⊎◌, ℕ, List, [], ◌∷◌, �
 use Rattle.hk_base.specs.declared.view.View.{View}
 use Rattle.hk_register.specs.Machine.{In}
 use Rattle.hk_register.proofs.Grow.{in_left}
-use Rattle.hk_world.specs.declared.event.Event.{Event}
-use Rattle.hk_world.specs.declared.event.Header.{Header}
+use Rattle.hk_event.specs.declared.event.Event.{Event}
+use Rattle.hk_event.specs.declared.event.Header.{Header}
 use Rattle.hk_world.specs.Start.{founding_view}
 use Rattle.hk_world.specs.World.{WorldState}
 use Rattle.hk_world.specs.Steps.{acting_of, Accepted, world_step}

@@ -1,6 +1,6 @@
 -- The invariant of a run: its three parts, of each key and at every moment.
 use Rattle.std.specs.Prelude.{ℕ, List}
-use Rattle.hk_world.specs.declared.event.Event.{Event}
+use Rattle.hk_event.specs.declared.event.Event.{Event}
 use Rattle.hk_effects.specs.Projection.{Trace}
 use Rattle.hk_world.specs.Sound.{IsHeader}
 use Rattle.hk_parts.specs.Moments.{Run, Ends, Moment, with_event}

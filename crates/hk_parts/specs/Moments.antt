@@ -6,9 +6,9 @@ use Rattle.hk_base.specs.declared.letter.Letter.{Letter}
 use Rattle.hk_register.specs.Machine.{In, Update}
 use Rattle.hk_register.specs.Machine.Phase.{Valid}
 use Rattle.hk_node.specs.Node.{NodeState, epoch_of}
-use Rattle.hk_world.specs.declared.event.Header.{Header}
-use Rattle.hk_world.specs.declared.event.Event.{Event}
-use Rattle.hk_world.specs.declared.event.Event.TheVariants.{Call}
+use Rattle.hk_event.specs.declared.event.Header.{Header}
+use Rattle.hk_event.specs.declared.event.Event.{Event}
+use Rattle.hk_event.specs.declared.event.Event.TheVariants.{Call}
 use Rattle.hk_world.specs.Steps.{Accepted, world_step}
 use Rattle.hk_effects.specs.Projection.{Trace, project, traced, node_at}
 use Rattle.hk_effects.specs.Runs.{start_trace, Follows}

@@ -14,7 +14,7 @@ use Rattle.hk_register.specs.Machine.Message.{Give}
 use Rattle.hk_node.specs.Node.{NodeState, epoch_of}
 use Rattle.hk_node.specs.Rows.{row_at}
 use Rattle.hk_node.specs.Copies.{copy_of}
-use Rattle.hk_world.specs.declared.event.Event.TheVariants.{Take}
+use Rattle.hk_event.specs.declared.event.Event.TheVariants.{Take}
 use Rattle.hk_world.specs.World.{numbered}
 use Rattle.hk_effects.specs.Projection.{Trace, project, traced, node_at, has_copied, covers}
 use Rattle.hk_effects.specs.Own.{IsDropped, IsAdded, Ended}

@@ -3,8 +3,8 @@
 ghost use Rattle.hk_world.specs.Sound.{IsEvent};
 
 use hk_base::{Content, Data, Key, MAX_VERSION, NodeId, Op, Stamp};
+use hk_event::{Event, Header};
 use hk_safety::Run;
-use hk_world::{Event, Header};
 use std::alloc::Global;
 use std::process::Abort;
 

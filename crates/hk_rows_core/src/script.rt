@@ -1,8 +1,8 @@
 //! Lines of scripts, read and printed.
 
 use hk_base::{Actor, Change, Data, Key, NodeId, Op};
+use hk_event::Event;
 use hk_script::{LineFault, print_event, print_header, read_event, read_header};
-use hk_world::Event;
 use std::alloc::Global;
 use std::process::Abort;
 

@@ -4,7 +4,8 @@ ghost use Rattle.std.specs.Prelude.{◌≤◌};
 ghost use Rattle.hk_world.specs.Sound.{IsEvent};
 
 use hk_base::{Answer, Content, Data, Key, NodeId, Op};
-use hk_world::{Event, Header, Shown, World};
+use hk_event::{Event, Header};
+use hk_world::{Shown, World};
 use std::alloc::Global;
 use std::process::Abort;
 

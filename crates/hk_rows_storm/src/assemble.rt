@@ -5,12 +5,12 @@ use hk_base::{
     Actor, Answer, Body, CallNo, Content, Data, Key, Kind, Letter, Letters, NodeId, Op, Replies,
     Reply, Sequence, Stamp,
 };
+use hk_event::Header;
 use hk_journal::JournalEntry;
 use hk_merge::{Journals, Note, Notes};
 use hk_node::NodeEvent;
 use hk_safety::{Run, order_of};
 use hk_script::print_event;
-use hk_world::Header;
 use std::alloc::Global;
 use std::process::Abort;
 

@@ -38,8 +38,8 @@ use Rattle.hk_node.proofs.Stamps.{begin_raises}
 use Rattle.hk_node.proofs.Waits.{calls_are_taken}
 use Rattle.hk_node.proofs.Exact.{reports_are_exact}
 use Rattle.hk_node.proofs.InOrder.{told_in_order}
-use Rattle.hk_world.specs.declared.event.Event.{Event}
-use Rattle.hk_world.specs.declared.event.Event.TheVariants.{Call, Take, Tick, TickAll, Crash, Resend, Replay, Copy, Start, Agree, Install, Lease, AskLease, Propose, Activate}
+use Rattle.hk_event.specs.declared.event.Event.{Event}
+use Rattle.hk_event.specs.declared.event.Event.TheVariants.{Call, Take, Tick, TickAll, Crash, Resend, Replay, Copy, Start, Agree, Install, Lease, AskLease, Propose, Activate}
 use Rattle.hk_world.specs.declared.shown.Shown.{Shown}
 use Rattle.hk_world.specs.World.{WorldState, process_at, put_process, numbered, last_view}
 use Rattle.hk_world.specs.Steps.{Accepted, acting_of, world_step, aside, nothing, live, live_manager, manager_acts, with_manager_step, manager_shown, acts, calls_at, process_ticked, joining, agrees, ticks_at, manager_ticks_at, crashes_at, manager_crashes_at, installs_at, leases_at}

@@ -3,8 +3,8 @@ use Rattle.std.proofs.Common.{◌≡◌, ℕ, Bool, true, false, cond, eqb, ◌+
 use Rattle.std.specs.List.Sorted.{IsStrictlySortedBy}
 use Rattle.std.specs.Ordering.{nat_cmp}
 use Rattle.std.specs.Map.{keys_of}
-use Rattle.hk_world.specs.declared.event.Header.{Header}
-use Rattle.hk_world.specs.declared.event.Event.{Event}
+use Rattle.hk_event.specs.declared.event.Header.{Header}
+use Rattle.hk_event.specs.declared.event.Event.{Event}
 use Rattle.hk_world.specs.declared.shown.Shown.{Shown}
 use Rattle.hk_world.specs.Sound.{IsEvent}
 use Rattle.hk_world.proofs.Viewed.{sorted_nil}

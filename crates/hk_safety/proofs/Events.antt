@@ -14,9 +14,9 @@ use Rattle.hk_register.specs.Printed.{is_complete, events_of}
 use Rattle.hk_register.proofs.Grow.{in_left, in_right, in_either}
 use Rattle.hk_register.proofs.Orders.{the_update}
 use Rattle.hk_register.proofs.Tests.{any_in, in_any}
-use Rattle.hk_world.specs.declared.event.Event.{Event}
-use Rattle.hk_world.specs.declared.event.Header.{Header}
-use Rattle.hk_world.specs.declared.refused.Refused.{Refused}
+use Rattle.hk_event.specs.declared.event.Event.{Event}
+use Rattle.hk_event.specs.declared.event.Header.{Header}
+use Rattle.hk_event.specs.declared.refused.Refused.{Refused}
 use Rattle.hk_world.specs.Steps.{Accepted, acting_of, world_step}
 use Rattle.hk_effects.specs.Projection.{Trace, project, key_node, node_at, told_at, items_of, traced, traced_by}
 use Rattle.hk_effects.specs.Orders.{family, history_of}

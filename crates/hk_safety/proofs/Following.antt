@@ -11,7 +11,7 @@ use Rattle.hk_register.specs.Facts.{Complete}
 use Rattle.hk_register.specs.Parts.{Parts}
 use Rattle.hk_register.specs.Printed.{is_mark, events_of, item_events}
 use Rattle.hk_register.proofs.Tests.{any_in, all_in}
-use Rattle.hk_world.specs.declared.event.Event.{Event}
+use Rattle.hk_event.specs.declared.event.Event.{Event}
 use Rattle.hk_world.specs.Steps.{Accepted, world_step}
 use Rattle.hk_effects.specs.Projection.{Trace, project}
 use Rattle.hk_effects.specs.Own.{IsOwn, Agrees}

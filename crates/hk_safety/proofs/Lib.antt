@@ -31,3 +31,4 @@ pub mod Making
 pub mod Histories
 pub mod Lines
 pub mod Remade
+pub mod Runs

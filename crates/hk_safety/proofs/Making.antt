@@ -33,8 +33,8 @@ use Rattle.hk_node.specs.Laws.{IsAnsweredAlone}
 use Rattle.hk_manager.proofs.Kept.{keeps_managers, letters_in_range as manager_letters}
 use Rattle.hk_node.proofs.KeepsMore.{step_keeps_node}
 use Rattle.hk_node.proofs.Ranged.{letters_in_range}
-use Rattle.hk_world.specs.declared.event.Event.{Event}
-use Rattle.hk_world.specs.declared.event.Event.TheVariants.{Call}
+use Rattle.hk_event.specs.declared.event.Event.{Event}
+use Rattle.hk_event.specs.declared.event.Event.TheVariants.{Call}
 use Rattle.hk_world.specs.declared.shown.Acted.{Acted}
 use Rattle.hk_world.specs.declared.shown.Shown.{Shown}
 use Rattle.hk_world.specs.World.{WorldState, node_of, numbered}

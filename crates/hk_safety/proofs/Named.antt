@@ -7,8 +7,8 @@ use Rattle.std.specs.Map.{keys_of}
 use Rattle.std.proofs.lemmas.Bool.{false≢true}
 use Rattle.hk_copy.specs.Batches.{key_cmp}
 use Rattle.hk_register.specs.Machine.{In}
-use Rattle.hk_world.specs.declared.event.Event.{Event}
-use Rattle.hk_world.specs.declared.event.Event.TheVariants.{Call}
+use Rattle.hk_event.specs.declared.event.Event.{Event}
+use Rattle.hk_event.specs.declared.event.Event.TheVariants.{Call}
 use Rattle.hk_world.specs.World.{numbered}
 use Rattle.hk_effects.proofs.Order.{equal_keys, key_itself}
 use Rattle.hk_safety.specs.Run.{RunState, with_key, with_named, named_from, named}

@@ -1,7 +1,7 @@
 -- A run that is made again says of a key what the run said.
 use Rattle.std.proofs.Common.{◌≡◌, ℕ, List, [], ◌∷◌, ◌++◌, append_assoc, Result, Ok, OnOk, sym, ap, subst, ◌∙◌}
 use Rattle.hk_history.specs.declared.event.Event.{Event as HistoryEvent}
-use Rattle.hk_world.specs.declared.event.Event.{Event}
+use Rattle.hk_event.specs.declared.event.Event.{Event}
 use Rattle.hk_world.specs.declared.shown.Shown.{Shown}
 use Rattle.hk_world.specs.World.{WorldState}
 use Rattle.hk_world.specs.Steps.{Accepted, world_step}

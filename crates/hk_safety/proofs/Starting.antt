@@ -4,7 +4,7 @@ use Rattle.hk_base.specs.declared.stamp.NodeId.{NodeId}
 use Rattle.hk_register.specs.Machine.{In, Mark}
 use Rattle.hk_register.specs.Effects.{row_mark}
 use Rattle.hk_register.specs.Runs.{founder}
-use Rattle.hk_world.specs.declared.event.Header.{Header}
+use Rattle.hk_event.specs.declared.event.Header.{Header}
 use Rattle.hk_world.specs.Start.{counted, start}
 use Rattle.hk_world.specs.Sound.{IsHeader}
 use Rattle.hk_effects.specs.Runs.{start_trace}

@@ -1,8 +1,8 @@
 -- What the last event of a run adds to its world and to the traces of its keys.
 use Rattle.std.proofs.Common.{◌≡◌, ℕ, List, [], ◌∷◌, ◌++◌, ◌∙◌, sym, refl, ap, subst, Option, Some, None, Result, Ok, Err}
 use Rattle.hk_base.specs.declared.stamp.NodeId.{NodeId}
-use Rattle.hk_world.specs.declared.event.Event.{Event}
-use Rattle.hk_world.specs.declared.refused.Refused.{Refused}
+use Rattle.hk_event.specs.declared.event.Event.{Event}
+use Rattle.hk_event.specs.declared.refused.Refused.{Refused}
 use Rattle.hk_world.specs.World.{WorldState}
 use Rattle.hk_world.specs.Start.{start}
 use Rattle.hk_world.specs.Steps.{Accepted, acting_of, world_step}

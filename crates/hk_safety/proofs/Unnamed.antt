@@ -8,8 +8,8 @@ use Rattle.hk_register.specs.Machine.Item.{Answered, Dropped}
 use Rattle.hk_register.specs.Parts.{Parts, MarkBegun}
 use Rattle.hk_register.specs.Calls.{CallItem}
 use Rattle.hk_register.proofs.Grow.{in_left}
-use Rattle.hk_world.specs.declared.event.Event.{Event}
-use Rattle.hk_world.specs.declared.event.Event.TheVariants.{Call}
+use Rattle.hk_event.specs.declared.event.Event.{Event}
+use Rattle.hk_event.specs.declared.event.Event.TheVariants.{Call}
 use Rattle.hk_world.specs.Steps.{Accepted, acting_of}
 use Rattle.hk_effects.specs.Projection.{Trace, project, key_node, node_at, told_at, pending_stamp, reply_item, call_items, items_of, updates_of, added, traced, traced_by}
 use Rattle.hk_effects.specs.Orders.{family}

@@ -16,8 +16,8 @@ use Rattle.hk_register.specs.Machine.Item.{Called, Answered, Dropped, ReadOnly, 
 use Rattle.hk_register.specs.Facts.{Complete}
 use Rattle.hk_register.specs.Printed.{is_mark}
 use Rattle.hk_world.specs.World.{WorldState}
-use Rattle.hk_world.specs.declared.event.Event.{Event}
-use Rattle.hk_world.specs.declared.event.Event.TheVariants.{Call}
+use Rattle.hk_event.specs.declared.event.Event.{Event}
+use Rattle.hk_event.specs.declared.event.Event.TheVariants.{Call}
 use Rattle.hk_effects.specs.Projection.{Trace, project}
 use Rattle.hk_effects.specs.Orders.{family, history_of}
 use Rattle.hk_safety.specs.declared.evidence.Group.{Group}

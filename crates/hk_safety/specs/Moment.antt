@@ -5,7 +5,7 @@ use Rattle.hk_history.specs.History.{is_reply}
 use Rattle.hk_register.specs.Machine.{In, Update}
 use Rattle.hk_register.specs.Facts.{Complete}
 use Rattle.hk_register.specs.Printed.{is_complete}
-use Rattle.hk_world.specs.declared.event.Event.{Event}
+use Rattle.hk_event.specs.declared.event.Event.{Event}
 use Rattle.hk_world.specs.Steps.{world_step}
 use Rattle.hk_effects.specs.Projection.{Trace, project}
 use Rattle.hk_effects.specs.Runs.{start_trace}

@@ -1,8 +1,8 @@
 -- What a push tells.
 use Rattle.std.specs.Prelude.{◌≡◌, [], ◌∷◌, ◌++◌, Result, Ok, Err}
-use Rattle.hk_world.specs.declared.event.Event.{Event}
-use Rattle.hk_world.specs.declared.refused.WorldFault.{WorldFault}
-use Rattle.hk_world.specs.declared.refused.WorldFault.TheVariants.{Memory, Refused}
+use Rattle.hk_event.specs.declared.event.Event.{Event}
+use Rattle.hk_world.specs.declared.fault.WorldFault.{WorldFault}
+use Rattle.hk_world.specs.declared.fault.WorldFault.TheVariants.{Memory, Refused}
 use Rattle.hk_world.specs.declared.shown.Shown.{Shown}
 use Rattle.hk_world.specs.Steps.{Accepted, world_step}
 use Rattle.hk_safety.specs.Run.{RunState, world_of}

@@ -5,10 +5,10 @@ use Rattle.hk_copy.specs.Batches.{key_cmp}
 use Rattle.hk_history.specs.declared.event.Event.{Event as Item}
 use Rattle.hk_history.specs.declared.event.Entry.{Entry}
 use Rattle.hk_history.specs.Legal.{Legal}
-use Rattle.hk_world.specs.declared.event.Header.{Header}
-use Rattle.hk_world.specs.declared.event.Event.{Event}
-use Rattle.hk_world.specs.declared.event.Event.TheVariants.{Call}
-use Rattle.hk_world.specs.declared.refused.Refused.{Refused}
+use Rattle.hk_event.specs.declared.event.Header.{Header}
+use Rattle.hk_event.specs.declared.event.Event.{Event}
+use Rattle.hk_event.specs.declared.event.Event.TheVariants.{Call}
+use Rattle.hk_event.specs.declared.refused.Refused.{Refused}
 use Rattle.hk_world.specs.World.{WorldState}
 use Rattle.hk_world.specs.Start.{start}
 use Rattle.hk_world.specs.Steps.{Accepted, world_step}
@@ -64,9 +64,13 @@ history run key = history_of (trace_of key run)
 abbrev pub printed : RunState → List ℕ → List Entry
 printed run key = order_of key (trace_of key run)
 
--- After every run the printed order of each key is legal for the key's history.
+-- the order that is printed for each key is legal for the key's history
+abbrev pub AllLegal : RunState → Type 0
+AllLegal run = (key : List ℕ) → Legal (history run key) (printed run key)
+
+-- That holds after every run.
 abbrev pub RunsAreLegal : Type 0
-RunsAreLegal = (run : RunState) → IsRun run → (key : List ℕ) → Legal (history run key) (printed run key)
+RunsAreLegal = (run : RunState) → IsRun run → AllLegal run
 
 -- ---- the keys that calls named
 -- the key in its place by its bytes, unless it stands there

@@ -12,8 +12,9 @@ ghost use Rattle.hk_safety.specs.Again.{IsAccepted, IsRemade, IsTakenAgain};
 
 use crate::kept::call_key;
 use hk_base::{CallNo, Key, Memory, Op, Reply};
+use hk_event::{Event, Header};
 use hk_history::{Event as Item, Items};
-use hk_world::{Event, Header, Shown, World, WorldFault};
+use hk_world::{Shown, World, WorldFault};
 use std::alloc::Global;
 
 fn is_same_key(key: &Key, other: &Key) -> bool

@@ -2,7 +2,7 @@
 
 ghost use Rattle.std.specs.Prelude.{◌≡◌, List, [], ◌∷◌, ◌++◌};
 ghost use Rattle.std.specs.Borrow.{ftrue};
-ghost use Rattle.hk_world.specs.declared.event.Event.{Event};
+ghost use Rattle.hk_event.specs.declared.event.Event.{Event};
 
 use std::marker::{Model, PhantomData};
 
@@ -28,7 +28,7 @@ impl Past {
     }
 
     /// Notes the event behind all others.
-    pub(crate) fn note(&mut self, _event: &hk_world::Event)
+    pub(crate) fn note(&mut self, _event: &hk_event::Event)
         ensures { self.new.events ≡ self.old.events ++ _event.now ∷ [] }
     {}
 }

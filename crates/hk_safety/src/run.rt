@@ -7,8 +7,9 @@ use crate::again::again;
 use crate::laws::histories_are_histories;
 use crate::live::{Keys, LiveRun};
 use hk_base::{Key, Memory, Stamp};
+use hk_event::{Event, Header};
 use hk_history::Items;
-use hk_world::{Event, Header, Shown, World, WorldFault};
+use hk_world::{Shown, World, WorldFault};
 use std::alloc::Global;
 use std::marker::Model;
 

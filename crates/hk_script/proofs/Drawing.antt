@@ -1,6 +1,6 @@
 -- The draws of one event, one after the other.
 use Rattle.std.proofs.Common.{◌≡◌, ℕ, ap, ◌∙◌}
-use Rattle.hk_world.specs.declared.event.Event.{Event}
+use Rattle.hk_event.specs.declared.event.Event.{Event}
 use Rattle.rand_pcg.specs.Lcg.{Lcg}
 use Rattle.hk_script.specs.Drawn.{GeneratorState, draw, kind_drawn, event_drawn, generator_step}
 

@@ -7,9 +7,9 @@ use Rattle.hk_base.specs.declared.call.Op.TheVariants.{Read, Write, Cas, Incr, D
 use Rattle.hk_base.specs.declared.call.Op.TheVariants as operation
 use Rattle.hk_base.specs.declared.view.Change.{Change}
 use Rattle.hk_base.specs.declared.view.Change.TheVariants.{Drop, Add}
-use Rattle.hk_world.specs.declared.event.Header.{Header}
-use Rattle.hk_world.specs.declared.event.Event.{Event}
-use Rattle.hk_world.specs.declared.event.Event.TheVariants.{Call, Take, Tick, TickAll, Crash, Resend, Replay, Copy, Start, Agree, Install, Lease, AskLease, Propose, Activate}
+use Rattle.hk_event.specs.declared.event.Header.{Header}
+use Rattle.hk_event.specs.declared.event.Event.{Event}
+use Rattle.hk_event.specs.declared.event.Event.TheVariants.{Call, Take, Tick, TickAll, Crash, Resend, Replay, Copy, Start, Agree, Install, Lease, AskLease, Propose, Activate}
 use Rattle.hk_script.specs.Grammar.{IsOp, IsChange, IsWritten, IsEventLine, IsHeaderWritten, IsHeaderLine, op_words, change_words, event_words, header_words}
 use Rattle.hk_script.specs.Parts.{is_text, fields, number_of}
 use Rattle.hk_script.specs.Lines.{one, two, three, call_of, propose_of, group_event_of, actor_event_of, event_of_words, event_of, header, header_with, is_header, header_of_words, header_of}

@@ -10,8 +10,8 @@ use Rattle.hk_base.specs.declared.letter.Actor.TheVariants.{Manager}
 use Rattle.hk_base.specs.declared.time.TheConstants.{MAX_TIME}
 use Rattle.hk_base.specs.declared.view.Change.{Change}
 use Rattle.hk_base.specs.declared.view.Change.TheVariants.{Drop, Add}
-use Rattle.hk_world.specs.declared.event.Event.{Event}
-use Rattle.hk_world.specs.declared.event.Event.TheVariants.{Call, Take, Crash, Resend, Replay, Copy, Start, Agree, Install, Lease, AskLease, Propose, Activate}
+use Rattle.hk_event.specs.declared.event.Event.{Event}
+use Rattle.hk_event.specs.declared.event.Event.TheVariants.{Call, Take, Crash, Resend, Replay, Copy, Start, Agree, Install, Lease, AskLease, Propose, Activate}
 use Rattle.hk_script.specs.Words.{word_of, actor_word}
 use Rattle.hk_script.specs.Grammar.{IsOp, IsContent, IsChange, IsWritten, op_words, change_words, event_words}
 use Rattle.hk_script.specs.Parts.{number_64, flags_of, time_of, some_of, key_of, data_of, node_of, manager_of, actor_of, target_of}

@@ -2,7 +2,7 @@
 use Rattle.std.proofs.Common.{◌≡◌, ℕ, List, [], ◌∷◌, true, Some, codes, sym, ap, subst, ◌∙◌}
 use Rattle.std.specs.Option.{option_map}
 use Rattle.std.specs.Cmp.Lexicographic.{same_text}
-use Rattle.hk_world.specs.declared.event.Event.TheVariants.{Take}
+use Rattle.hk_event.specs.declared.event.Event.TheVariants.{Take}
 use Rattle.hk_script.specs.Parts.{fields, is_text, number_64}
 use Rattle.hk_script.specs.Lines.{one, actor_event_of, event_of_words, event_of}
 use Rattle.hk_script.proofs.Spaces.{NoSpace, fields_of}

@@ -3,8 +3,9 @@ use Rattle.std.specs.Prelude.{ℕ, ◌+◌, ◌-◌, ◌%◌, ◌==◌, min, nat
 use Rattle.hk_base.specs.declared.call.Op.{Op}
 use Rattle.hk_base.specs.declared.call.Op.TheVariants.{Read, Write, Incr, Decr}
 use Rattle.hk_base.specs.declared.stamp.NodeId.{NodeId}
-use Rattle.hk_world.specs.declared.event.Event.{Event}
-use Rattle.hk_world.specs.declared.event.Event.TheVariants.{Call, Take, Resend, Replay}
+use Rattle.hk_event.specs.declared.event.Header.{Header}
+use Rattle.hk_event.specs.declared.event.Event.{Event}
+use Rattle.hk_event.specs.declared.event.Event.TheVariants.{Call, Take, Resend, Replay}
 use Rattle.rand_pcg.specs.Lcg.{Lcg, started, increment_of}
 use Rattle.rand_pcg.specs.Pcg.{multiplier_64, pcg32}
 
@@ -74,3 +75,7 @@ pub record GeneratorState : Type 0 where
 -- one event, and the generator behind it
 abbrev pub generator_step : GeneratorState → ℕ → Event × GeneratorState
 generator_step s letters = ((event_drawn s.nodes letters s.numbers).0, record s { numbers = (event_drawn s.nodes letters s.numbers).1 })
+
+-- the group of a run that is drawn, whose leases end at the limit of the clocks, which stay together
+abbrev pub group_of : ℕ → Header
+group_of nodes = record { nodes = nodes; managers = 0; lease = 1000000000000; skew = 0 }

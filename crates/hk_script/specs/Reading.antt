@@ -1,7 +1,7 @@
 -- What the reader tells of a line.
 use Rattle.std.specs.Prelude.{◌≡◌, ℕ, ◌≤◌, List, Option, Some, None, Result, Ok, Err, decimal, ⊤}
-use Rattle.hk_world.specs.declared.event.Header.{Header}
-use Rattle.hk_world.specs.declared.event.Event.{Event}
+use Rattle.hk_event.specs.declared.event.Header.{Header}
+use Rattle.hk_event.specs.declared.event.Event.{Event}
 use Rattle.hk_script.specs.declared.fault.LineFault.{LineFault}
 use Rattle.hk_script.specs.declared.fault.LineFault.TheVariants.{Memory, Bad}
 use Rattle.hk_script.specs.Grammar.{IsEventLine, IsHeaderLine}

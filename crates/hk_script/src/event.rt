@@ -1,7 +1,7 @@
 //! What the words of an event stand for.
 
 ghost use Rattle.std.specs.Prelude.{◌≡◌, map};
-ghost use Rattle.hk_world.specs.declared.event.Event.TheVariants.{Take, Crash, Resend, Replay, Copy, Start, Install, Lease, AskLease, Activate};
+ghost use Rattle.hk_event.specs.declared.event.Event.TheVariants.{Take, Crash, Resend, Replay, Copy, Start, Install, Lease, AskLease, Activate};
 ghost use Rattle.hk_script.specs.Parts.{Reads, number_64, time_of, some_of, key_of, node_of, manager_of, actor_of, target_of};
 ghost use Rattle.hk_script.specs.Lines.{one, two, three, tick, call_of, propose_of, group_event_of, actor_event_of, event_of_words};
 
@@ -9,7 +9,7 @@ use crate::op::{change, op};
 use crate::parts::{actor, key, manager, node, some, target, time};
 use crate::words::{is, number};
 use hk_base::{Actor, Memory};
-use hk_world::Event;
+use hk_event::Event;
 use std::alloc::Global;
 
 /// The event that the words of a line are.

@@ -6,7 +6,7 @@ ghost use Rattle.hk_script.specs.Drawn.{draw, key_drawn, update_drawn, op_drawn,
 
 use crate::put::put_number;
 use hk_base::{Content, Data, Key, Memory, NodeId, Op};
-use hk_world::Event;
+use hk_event::Event;
 use rand_core::utils::NextWord;
 use rand_pcg::Pcg32;
 use std::alloc::Global;

@@ -6,7 +6,7 @@ ghost use Rattle.hk_script.specs.Lines.{three, header, header_with, is_header, h
 
 use crate::parts::{some, time};
 use crate::words::{cut, is, number};
-use hk_world::Header;
+use hk_event::Header;
 
 fn is_header(group: &[u8], managers: &[u8], lease: &[u8], skew: &[u8]) -> bool
     ensures { result ≡ is_header group.now managers.now lease.now skew.now }

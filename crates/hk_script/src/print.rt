@@ -2,13 +2,13 @@
 
 ghost use Rattle.std.specs.Prelude.{◌≡◌, ◌++◌, OnOk, codes, decimal};
 ghost use Rattle.hk_base.specs.declared.letter.Actor.TheVariants.{Manager};
-ghost use Rattle.hk_world.specs.declared.event.Event.TheVariants.{Call, Tick, Copy, Agree, AskLease, Propose};
+ghost use Rattle.hk_event.specs.declared.event.Event.TheVariants.{Call, Tick, Copy, Agree, AskLease, Propose};
 ghost use Rattle.hk_script.specs.Words.{word_of, actor_word};
 ghost use Rattle.hk_script.specs.Grammar.{IsHeaderWritten, event_line, header_line};
 
 use crate::put::{put, put_actor, put_change, put_node, put_number, put_op, put_word};
 use hk_base::{Actor, Change, Key, Memory, NodeId, Op};
-use hk_world::{Event, Header};
+use hk_event::{Event, Header};
 
 fn put_named(out: &mut Vec<u8>, name: &[u8], number: u64) -> Result<(), Memory>
     ensures { OnOk result (out.new.items ≡ out.old.items ++ (name.now ++ codes " " ++ decimal number)) }

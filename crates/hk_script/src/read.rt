@@ -11,7 +11,7 @@ use crate::fault::LineFault;
 use crate::header::header;
 use crate::words::{Words, cut, is, number, split};
 use hk_base::Memory;
-use hk_world::{Event, Header};
+use hk_event::{Event, Header};
 use std::alloc::Global;
 
 /// Reads the header of a script: `group N managers M lease L skew E`, with N from 1 to 16, M from 0 to 9, and L and E times.

@@ -1,6 +1,6 @@
 -- The calls of a run are put one after the other.
 use Rattle.std.proofs.Common.{◌≡◌, ℕ, ◌+◌, List, ◌++◌, drop, Option, Some, None, sym, ap, ◌∙◌, append_assoc}
-use Rattle.hk_world.specs.declared.event.Event.{Event}
+use Rattle.hk_event.specs.declared.event.Event.{Event}
 use Rattle.hk_world.specs.World.{numbered}
 use Rattle.hk_storm.specs.declared.calls.StormCall.{StormCall}
 use Rattle.hk_storm.specs.Calls.{called_at, calls_in}

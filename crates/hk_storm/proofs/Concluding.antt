@@ -6,8 +6,8 @@ use Rattle.hk_base.specs.declared.stamp.NodeId.{NodeId}
 use Rattle.hk_base.specs.declared.letter.Letter.{Letter}
 use Rattle.hk_node.specs.declared.event.NodeEvent.{NodeEvent}
 use Rattle.hk_node.specs.declared.event.NodeEvent.TheVariants as NodeEvent
-use Rattle.hk_world.specs.declared.event.Header.{Header}
-use Rattle.hk_world.specs.declared.event.Event.{Event}
+use Rattle.hk_event.specs.declared.event.Header.{Header}
+use Rattle.hk_event.specs.declared.event.Event.{Event}
 use Rattle.hk_world.specs.declared.shown.Shown.{Shown}
 use Rattle.hk_world.specs.World.{WorldState}
 use Rattle.hk_world.specs.Start.{start}
@@ -17,7 +17,7 @@ use Rattle.hk_merge.specs.Merged.{Item, Step, LocalRead, IsOf, IsEventOf, ticket
 use Rattle.hk_assemble.specs.declared.gap.Gap.{Gap}
 use Rattle.hk_assemble.specs.declared.gap.Gap.TheVariants as Gap
 use Rattle.hk_assemble.specs.Assembled.{IsAssembled}
-use Rattle.hk_drill.specs.Generated.{group_of}
+use Rattle.hk_script.specs.Drawn.{group_of}
 use Rattle.hk_storm.specs.declared.groups.StormGroup.{StormGroup}
 use Rattle.hk_storm.specs.Storm.{IsGroup, AreGroups}
 use Rattle.hk_storm.specs.Concluded.{AreAssembled, IsFirstUnfit, EachRun, EachLegal}

@@ -1,8 +1,7 @@
 -- What runs come to.
 use Rattle.std.proofs.Common.{◌≡◌, ◌+◌, List, length, ap, subst, arith}
 use Rattle.hk_safety.specs.Run.{RunState, RunsAreLegal}
-use Rattle.hk_script.specs.Drawn.{numbers_from}
-use Rattle.hk_drill.specs.Generated.{group_of}
+use Rattle.hk_script.specs.Drawn.{numbers_from, group_of}
 use Rattle.hk_storm.specs.declared.opts.StormOpts.{StormOpts}
 use Rattle.hk_storm.specs.declared.groups.StormGroup.{StormGroup}
 use Rattle.hk_storm.specs.declared.calls.StormCall.{StormCall}

@@ -3,8 +3,8 @@ use Rattle.std.specs.Prelude.{◌≡◌, ◌≢◌, ◌⊎◌, ◌<◌, ℕ, zer
 use Rattle.hk_base.specs.declared.stamp.NodeId.{NodeId}
 use Rattle.hk_base.specs.declared.call.Op.{Op}
 use Rattle.hk_base.specs.declared.memory.Memory.{Memory}
-use Rattle.hk_world.specs.declared.event.Event.{Event}
-use Rattle.hk_world.specs.declared.event.Event.TheVariants.{Call}
+use Rattle.hk_event.specs.declared.event.Event.{Event}
+use Rattle.hk_event.specs.declared.event.Event.TheVariants.{Call}
 use Rattle.rand_pcg.specs.Lcg.{Lcg}
 use Rattle.hk_script.specs.Drawn.{numbers_from, ask_drawn}
 use Rattle.hk_safety.specs.Run.{RunState}

@@ -3,13 +3,12 @@ use Rattle.std.specs.Prelude.{◌≡◌, ℕ, ◌+◌, List, [], ◌∷◌, ◌+
 use Rattle.std.specs.Io.KnownBytes.{Appends}
 use Rattle.hk_outside.specs.declared.status.Status.{Status}
 use Rattle.hk_outside.specs.declared.status.Status.TheVariants as Status
-use Rattle.hk_world.specs.declared.event.Header.{Header}
-use Rattle.hk_safety.specs.Run.{RunState, IsRun}
+use Rattle.hk_event.specs.declared.event.Header.{Header}
+use Rattle.hk_safety.specs.Run.{RunState, IsRun, AllLegal}
 use Rattle.hk_assemble.specs.declared.gap.Gap.{Gap}
 use Rattle.hk_assemble.specs.Assembled.{IsAssembled}
 use Rattle.hk_assemble.specs.Single.{IsTelling}
-use Rattle.hk_drill.specs.Drilled.{AllLegal}
-use Rattle.hk_drill.specs.Generated.{group_of}
+use Rattle.hk_script.specs.Drawn.{group_of}
 use Rattle.hk_storm.specs.declared.opts.StormOpts.{StormOpts}
 use Rattle.hk_storm.specs.declared.groups.StormGroup.{StormGroup}
 use Rattle.hk_storm.specs.declared.compare.Unlike.{Unlike}

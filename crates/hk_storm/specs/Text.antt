@@ -3,7 +3,7 @@ use Rattle.std.specs.Prelude.{ℕ, List, [], ◌++◌, Option, Some, None, codes
 use Rattle.hk_base.specs.declared.call.Answer.{Answer}
 use Rattle.hk_assemble.specs.declared.gap.Gap.{Gap}
 use Rattle.hk_assemble.specs.declared.gap.Gap.TheVariants as Gap
-use Rattle.hk_drill.specs.Text.{answer_text}
+use Rattle.hk_transcript.specs.Text.{answer_text}
 use Rattle.hk_storm.specs.declared.opts.StormOpts.{StormOpts}
 use Rattle.hk_storm.specs.declared.compare.Unlike.{Unlike}
 use Rattle.hk_storm.specs.declared.outcomes.Outcomes.{Outcomes}

@@ -5,8 +5,8 @@ ghost use Rattle.std.specs.Option.{option_copied};
 ghost use Rattle.hk_storm.specs.Calls.{called, called_at, calls_of, all_calls};
 
 use hk_base::{Key, Memory, NodeId, Op};
+use hk_event::Event;
 use hk_safety::Run;
-use hk_world::Event;
 use std::alloc::Global;
 
 /// A call at a node.

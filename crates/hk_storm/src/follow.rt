@@ -8,8 +8,8 @@ ghost use Rattle.hk_storm.specs.Concluded.{AreAssembled, IsFirstUnfit};
 use crate::groups::StormGroup;
 use hk_assemble::{Gap, assemble};
 use hk_base::Memory;
+use hk_event::Header;
 use hk_safety::Run;
-use hk_world::Header;
 use std::alloc::Global;
 
 fn put_run(runs: &mut Vec<Run>, run: Run) -> Result<(), Memory>

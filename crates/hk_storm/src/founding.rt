@@ -1,7 +1,7 @@
 //! The nodes of a storm.
 
 ghost use Rattle.std.specs.Prelude.{◌≡◌, ◌<◌, ◌≤◌, ◌+◌, length, IfOk, OnOk};
-ghost use Rattle.hk_drill.specs.Generated.{group_of};
+ghost use Rattle.hk_script.specs.Drawn.{group_of};
 ghost use Rattle.hk_world.specs.Start.{founding_view, counted};
 ghost use Rattle.hk_locked.specs.Places.{node_names};
 ghost use Rattle.hk_worker.specs.Founding.{names_of, AreNamed};

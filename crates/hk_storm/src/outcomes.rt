@@ -15,8 +15,9 @@ ghost use Rattle.hk_storm.specs.Outcomes.{outcome_of, with_outcome, with_calls, 
 use crate::calls::put_calls;
 use crate::tally::one_more;
 use hk_base::{Answer, Memory, Reply};
+use hk_event::Event;
 use hk_safety::Run;
-use hk_world::{Event, World, WorldFault};
+use hk_world::{World, WorldFault};
 use std::alloc::Global;
 use std::collections::BTreeMap;
 

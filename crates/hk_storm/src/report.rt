@@ -3,7 +3,7 @@
 ghost use Rattle.std.specs.Prelude.{◌≡◌, List, IfOk};
 ghost use Rattle.hk_storm.specs.declared.groups.StormGroup.{StormGroup};
 ghost use Rattle.hk_storm.specs.declared.report.Report.TheVariants.{Unfit};
-ghost use Rattle.hk_drill.specs.Generated.{group_of};
+ghost use Rattle.hk_script.specs.Drawn.{group_of};
 ghost use Rattle.hk_storm.specs.Storm.{IsStorm, AreGroups};
 ghost use Rattle.hk_assemble.specs.Single.{IsTelling};
 ghost use Rattle.hk_storm.specs.Concluded.{AreAssembled, EachRun, IsReport};
@@ -17,8 +17,8 @@ use crate::opts::StormOpts;
 use crate::outcomes::{Outcomes, count_outcomes};
 use hk_assemble::Gap;
 use hk_base::Memory;
+use hk_event::Header;
 use hk_safety::{Run, runs_are_legal};
-use hk_world::Header;
 use std::alloc::Global;
 
 /// What journals and notes come to.

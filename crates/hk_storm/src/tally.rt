@@ -9,8 +9,8 @@ use crate::calls::StormCall;
 use crate::written::call_is_written;
 use bytes::Bytes;
 use hk_base::Memory;
+use hk_event::Event;
 use hk_script::print_event;
-use hk_world::Event;
 use std::alloc::Global;
 use std::collections::BTreeMap;
 

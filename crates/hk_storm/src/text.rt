@@ -10,8 +10,8 @@ use crate::outcomes::Outcomes;
 use crate::report::Report;
 use hk_assemble::Gap;
 use hk_base::{Answer, CallNo, Memory, NodeId};
-use hk_drill::put_answer;
 use hk_script::{put_number, put_text};
+use hk_transcript::put_answer;
 
 fn put_request(out: &mut Vec<u8>, opts: &StormOpts) -> Result<(), Memory>
     ensures { OnOk result (out.new.items ≡ out.old.items ++ request_line opts.now) }

@@ -9,11 +9,11 @@ use Rattle.hk_node.specs.Node.{NodeState, epoch_of}
 use Rattle.hk_base.specs.View.{is_member}
 use Rattle.hk_node.specs.declared.event.NodeEvent.TheVariants as NodeEvent
 use Rattle.hk_node.specs.Steps.{installs}
-use Rattle.hk_world.specs.declared.event.Event.TheVariants.{Install}
+use Rattle.hk_event.specs.declared.event.Event.TheVariants.{Install}
 use Rattle.hk_world.specs.declared.process.Process.{Process}
 use Rattle.hk_world.specs.declared.process.ManagerProcess.{ManagerProcess}
-use Rattle.hk_world.specs.declared.refused.Refused.{Refused}
-use Rattle.hk_world.specs.declared.refused.Refused.TheVariants.{LeaseRuns, Managed, Crashed}
+use Rattle.hk_event.specs.declared.refused.Refused.{Refused}
+use Rattle.hk_event.specs.declared.refused.Refused.TheVariants.{LeaseRuns, Managed, Crashed}
 use Rattle.hk_world.specs.World.{WorldState, Processes, process_at, numbered, last_view}
 use Rattle.hk_world.specs.Steps.{Accepted, world_step, live, live_at, running_at, acts, is_live, may_run, was_member, guarded_by, installs_at, unmanaged}
 use Rattle.hk_world.specs.Sound.{IsWorld, IsProcess}

@@ -22,10 +22,10 @@ use Rattle.hk_node.specs.Outs.{IsOutOf}
 use Rattle.hk_node.specs.Report.{rolled_back}
 use Rattle.hk_world.specs.declared.process.Process.{Process}
 use Rattle.hk_world.specs.declared.shown.Shown.{Shown}
-use Rattle.hk_world.specs.declared.refused.Refused.{Refused}
-use Rattle.hk_world.specs.declared.refused.Refused.TheVariants.{Crashed}
-use Rattle.hk_world.specs.declared.refused.WorldFault.{WorldFault}
-use Rattle.hk_world.specs.declared.refused.WorldFault.TheVariants as WorldFault
+use Rattle.hk_event.specs.declared.refused.Refused.{Refused}
+use Rattle.hk_event.specs.declared.refused.Refused.TheVariants.{Crashed}
+use Rattle.hk_world.specs.declared.fault.WorldFault.{WorldFault}
+use Rattle.hk_world.specs.declared.fault.WorldFault.TheVariants as WorldFault
 use Rattle.hk_world.specs.World.{WorldState, Processes, by_number, process_at, put_process}
 use Rattle.hk_world.specs.Steps.{Accepted, live, live_at, running_at, with_step, shown_of, acts_for, calls_at, view_of, installer_of, first_number}
 use Rattle.hk_world.specs.Sound.{IsAnswerOf}

@@ -4,10 +4,10 @@ use Rattle.hk_base.specs.declared.view.View.{View}
 use Rattle.hk_base.specs.declared.view.Change.{Change}
 use Rattle.hk_base.specs.declared.view.Change.TheVariants.{Drop, Add}
 use Rattle.hk_base.specs.View.{is_member}
-use Rattle.hk_world.specs.declared.event.Event.TheVariants.{Agree}
+use Rattle.hk_event.specs.declared.event.Event.TheVariants.{Agree}
 use Rattle.hk_world.specs.declared.shown.Shown.{Shown}
-use Rattle.hk_world.specs.declared.refused.Refused.{Refused}
-use Rattle.hk_world.specs.declared.refused.Refused.TheVariants.{LastMember, Full, NoNumbers, NoSuchMember}
+use Rattle.hk_event.specs.declared.refused.Refused.{Refused}
+use Rattle.hk_event.specs.declared.refused.Refused.TheVariants.{LastMember, Full, NoNumbers, NoSuchMember}
 use Rattle.hk_world.specs.World.{WorldState, last_view}
 use Rattle.hk_world.specs.Steps.{Accepted, world_step, nothing, agrees, agreed_on}
 use Rattle.hk_world.specs.Allowed.{is_managed}

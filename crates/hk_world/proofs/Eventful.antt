@@ -10,8 +10,8 @@ use Rattle.hk_manager.specs.Steps.{manager_step}
 use Rattle.hk_node.specs.declared.event.NodeEvent.{NodeEvent}
 use Rattle.hk_node.specs.declared.event.NodeEvent.TheVariants.{Receive}
 use Rattle.hk_node.specs.Steps.{receives}
-use Rattle.hk_world.specs.declared.event.Event.TheVariants.{Take}
-use Rattle.hk_world.specs.declared.refused.Refused.{Refused}
+use Rattle.hk_event.specs.declared.event.Event.TheVariants.{Take}
+use Rattle.hk_event.specs.declared.refused.Refused.{Refused}
 use Rattle.hk_world.specs.World.{WorldState, numbered}
 use Rattle.hk_world.specs.Steps.{Accepted, world_step, takes, live_actor, acts, manages, manager_acts}
 use Rattle.hk_world.specs.Acting.{made_by}

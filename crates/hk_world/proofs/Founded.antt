@@ -19,7 +19,7 @@ use Rattle.hk_clocks.specs.Steps.{clock_step, starts}
 use Rattle.hk_clocks.specs.Steps.{ClockEvent}
 use Rattle.hk_manager.specs.Manager.{ManagerState}
 use Rattle.hk_manager.specs.Sound.{manager_new}
-use Rattle.hk_world.specs.declared.event.Header.{Header}
+use Rattle.hk_event.specs.declared.event.Header.{Header}
 use Rattle.hk_world.specs.declared.process.Process.{Process}
 use Rattle.hk_world.specs.declared.process.ManagerProcess.{ManagerProcess}
 use Rattle.hk_world.specs.World.{Processes, by_number}

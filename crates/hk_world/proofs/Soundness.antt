@@ -40,10 +40,10 @@ use Rattle.hk_node.specs.Steps.{node_step, ticks}
 use Rattle.hk_node.specs.Sound.{IsNode, IsNodeEvent}
 use Rattle.hk_node.specs.Laws.{StepKeepsNode, LettersInRange}
 use Rattle.hk_node.proofs.Managed.{nothing_heard}
-use Rattle.hk_world.specs.declared.event.Event.{Event}
-use Rattle.hk_world.specs.declared.event.Event.TheVariants.{Call, Take, Tick, TickAll, Crash, Resend, Replay, Copy, Start, Agree, Install, Lease, AskLease, Propose, Activate}
-use Rattle.hk_world.specs.declared.refused.Refused.{Refused}
-use Rattle.hk_world.specs.declared.refused.Refused.TheVariants.{LastMember, Full, NoNumbers}
+use Rattle.hk_event.specs.declared.event.Event.{Event}
+use Rattle.hk_event.specs.declared.event.Event.TheVariants.{Call, Take, Tick, TickAll, Crash, Resend, Replay, Copy, Start, Agree, Install, Lease, AskLease, Propose, Activate}
+use Rattle.hk_event.specs.declared.refused.Refused.{Refused}
+use Rattle.hk_event.specs.declared.refused.Refused.TheVariants.{LastMember, Full, NoNumbers}
 use Rattle.hk_world.specs.declared.process.Process.{Process}
 use Rattle.hk_world.specs.declared.process.ManagerProcess.{ManagerProcess}
 use Rattle.hk_world.specs.World.{WorldState, Processes, by_number, process_at, put_process, manager_at, put_manager, clocks_of, paces_by, unless_crashed, node_clock, manager_clock, numbered, last_view}

@@ -24,7 +24,7 @@ use Rattle.hk_manager.specs.Sound.{IsInstance, IsManager, manager_new}
 use Rattle.hk_node.proofs.Managed.{nothing_heard}
 use Rattle.hk_node.specs.Made.{founder}
 use Rattle.hk_node.specs.Sound.{IsNode}
-use Rattle.hk_world.specs.declared.event.Header.{Header}
+use Rattle.hk_event.specs.declared.event.Header.{Header}
 use Rattle.hk_world.specs.declared.process.ManagerProcess.{ManagerProcess}
 use Rattle.hk_world.specs.World.{Processes, by_number, numbered, process_at, manager_at, node_clock, manager_clock, live_clock}
 use Rattle.hk_world.specs.Steps.{was_member}

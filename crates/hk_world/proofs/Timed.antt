@@ -33,9 +33,9 @@ use Rattle.hk_node.specs.Steps.{ticks}
 use Rattle.hk_world.specs.declared.process.Process.{Process}
 use Rattle.hk_world.specs.declared.process.ManagerProcess.{ManagerProcess}
 use Rattle.hk_world.specs.declared.shown.Shown.{Shown}
-use Rattle.hk_world.specs.declared.refused.Refused.{Refused}
-use Rattle.hk_world.specs.declared.refused.Refused.TheVariants.{Crashed, NotMember}
-use Rattle.hk_world.specs.declared.refused.WorldFault.{WorldFault}
+use Rattle.hk_event.specs.declared.refused.Refused.{Refused}
+use Rattle.hk_event.specs.declared.refused.Refused.TheVariants.{Crashed, NotMember}
+use Rattle.hk_world.specs.declared.fault.WorldFault.{WorldFault}
 use Rattle.hk_world.specs.World.{WorldState, Processes, by_number, process_at, put_process, manager_at, put_manager, clocks_of, paces_by}
 use Rattle.hk_world.specs.Steps.{Accepted, live, live_manager, live_manager_at, managing_at, nothing, clock_refusal, manager_refusal, ticks_at, ticked_by, manager_ticks_at, manager_ticked_by, all_tick, all_ticked_by, process_ticked, manager_ticked, crashes_at, manager_crashes_at, manages, manager_acts, learned, joining, may_join, starts_at}
 use Rattle.hk_world.specs.Faults.{clock_fault, manager_fault}

@@ -11,8 +11,8 @@ use Rattle.hk_node.specs.Sound.{IsNodeEvent}
 use Rattle.hk_node.specs.Node.{NodeState}
 use Rattle.hk_node.specs.Steps.{node_step}
 use Rattle.hk_world.specs.declared.process.Process.{Process}
-use Rattle.hk_world.specs.declared.refused.Refused.{Refused}
-use Rattle.hk_world.specs.declared.refused.Refused.TheVariants.{NoActor, Crashed}
+use Rattle.hk_event.specs.declared.refused.Refused.{Refused}
+use Rattle.hk_event.specs.declared.refused.Refused.TheVariants.{NoActor, Crashed}
 use Rattle.hk_world.specs.World.{WorldState}
 use Rattle.hk_world.specs.Steps.{Accepted, acts_for, live}
 

@@ -3,8 +3,8 @@ use Rattle.hk_clocks.specs.declared.fault.ClockFault.{ClockFault}
 use Rattle.hk_clocks.specs.declared.fault.ClockFault.TheVariants as ClockFault
 use Rattle.hk_manager.specs.declared.fault.ManagerFault.{ManagerFault}
 use Rattle.hk_manager.specs.declared.fault.ManagerFault.TheVariants as ManagerFault
-use Rattle.hk_world.specs.declared.refused.WorldFault.{WorldFault}
-use Rattle.hk_world.specs.declared.refused.WorldFault.TheVariants.{Memory, Refused}
+use Rattle.hk_world.specs.declared.fault.WorldFault.{WorldFault}
+use Rattle.hk_world.specs.declared.fault.WorldFault.TheVariants.{Memory, Refused}
 use Rattle.hk_world.specs.Steps.{clock_refusal, manager_refusal}
 
 abbrev pub clock_fault : ClockFault → WorldFault

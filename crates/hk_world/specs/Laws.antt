@@ -1,7 +1,7 @@
 -- What holds of every world.
 use Rattle.std.specs.Prelude.{◌≡◌, Ok}
-use Rattle.hk_world.specs.declared.event.Header.{Header}
-use Rattle.hk_world.specs.declared.event.Event.{Event}
+use Rattle.hk_event.specs.declared.event.Header.{Header}
+use Rattle.hk_event.specs.declared.event.Event.{Event}
 use Rattle.hk_world.specs.World.{WorldState}
 use Rattle.hk_world.specs.Start.{start}
 use Rattle.hk_world.specs.Steps.{Accepted, world_step}

@@ -13,12 +13,12 @@ use Rattle.hk_clocks.specs.Clocks.{clock_of}
 use Rattle.hk_clocks.specs.Sound.{AreClocks}
 use Rattle.hk_manager.specs.Sound.{IsManager}
 use Rattle.hk_node.specs.Sound.{IsNode}
-use Rattle.hk_world.specs.declared.event.Header.{Header}
-use Rattle.hk_world.specs.declared.event.Event.{Event}
-use Rattle.hk_world.specs.declared.event.Event.TheVariants.{Call, Take, Tick, TickAll, Crash, Resend, Replay, Copy, Start, Agree, Install, Lease, AskLease, Propose, Activate}
-use Rattle.hk_world.specs.declared.refused.Refused.{Refused as Refusal}
-use Rattle.hk_world.specs.declared.refused.WorldFault.{WorldFault}
-use Rattle.hk_world.specs.declared.refused.WorldFault.TheVariants.{Memory, Refused}
+use Rattle.hk_event.specs.declared.event.Header.{Header}
+use Rattle.hk_event.specs.declared.event.Event.{Event}
+use Rattle.hk_event.specs.declared.event.Event.TheVariants.{Call, Take, Tick, TickAll, Crash, Resend, Replay, Copy, Start, Agree, Install, Lease, AskLease, Propose, Activate}
+use Rattle.hk_event.specs.declared.refused.Refused.{Refused as Refusal}
+use Rattle.hk_world.specs.declared.fault.WorldFault.{WorldFault}
+use Rattle.hk_world.specs.declared.fault.WorldFault.TheVariants.{Memory, Refused}
 use Rattle.hk_world.specs.declared.process.Process.{Process}
 use Rattle.hk_world.specs.declared.process.ManagerProcess.{ManagerProcess}
 use Rattle.hk_world.specs.declared.shown.Shown.{Shown}

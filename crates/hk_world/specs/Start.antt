@@ -9,7 +9,7 @@ use Rattle.hk_clocks.specs.declared.pace.Pace.{Pace}
 use Rattle.hk_clocks.specs.Clocks.{Paces}
 use Rattle.hk_manager.specs.Sound.{manager_new}
 use Rattle.hk_node.specs.Made.{founder}
-use Rattle.hk_world.specs.declared.event.Header.{Header}
+use Rattle.hk_event.specs.declared.event.Header.{Header}
 use Rattle.hk_world.specs.declared.process.Process.{Process}
 use Rattle.hk_world.specs.declared.process.ManagerProcess.{ManagerProcess}
 use Rattle.hk_world.specs.World.{WorldState}

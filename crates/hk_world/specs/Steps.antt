@@ -31,10 +31,10 @@ use Rattle.hk_node.specs.Report.{report}
 use Rattle.hk_node.specs.Calls.{called}
 use Rattle.hk_node.specs.Copies.{asks_copy}
 use Rattle.hk_node.specs.Steps.{receives, resent, replayed, asks_lease, installs, ticks, grants}
-use Rattle.hk_world.specs.declared.event.Event.{Event}
-use Rattle.hk_world.specs.declared.event.Event.TheVariants.{Call, Take, Tick, TickAll, Crash, Resend, Replay, Copy, Start, Agree, Install, Lease, AskLease, Propose, Activate}
-use Rattle.hk_world.specs.declared.refused.Refused.{Refused}
-use Rattle.hk_world.specs.declared.refused.Refused.TheVariants.{NoActor, Crashed, NoLetter, Skew, ClockFalls, LeaseRuns, Managed, NoView, NotMember, Behind, NoSuchMember, LastMember, Full, NoNumbers, NotPast, Started}
+use Rattle.hk_event.specs.declared.event.Event.{Event}
+use Rattle.hk_event.specs.declared.event.Event.TheVariants.{Call, Take, Tick, TickAll, Crash, Resend, Replay, Copy, Start, Agree, Install, Lease, AskLease, Propose, Activate}
+use Rattle.hk_event.specs.declared.refused.Refused.{Refused}
+use Rattle.hk_event.specs.declared.refused.Refused.TheVariants.{NoActor, Crashed, NoLetter, Skew, ClockFalls, LeaseRuns, Managed, NoView, NotMember, Behind, NoSuchMember, LastMember, Full, NoNumbers, NotPast, Started}
 use Rattle.hk_world.specs.declared.process.Process.{Process}
 use Rattle.hk_world.specs.declared.process.ManagerProcess.{ManagerProcess}
 use Rattle.hk_world.specs.declared.shown.Shown.{Shown}

@@ -8,18 +8,16 @@
 //! definition, `specs/Steps.antt`. The caller owes times up to `MAX_TIME`, a header within its limits, and nothing else.
 #![tactic(auto)]
 
-mod event;
+mod fault;
 mod laws;
 mod process;
-mod refused;
 mod shown;
 mod worked;
 mod world;
 
-pub use event::{Event, Header};
+pub use fault::WorldFault;
 pub use laws::worlds_stay_sound;
 pub use process::{ManagerProcess, Process};
-pub use refused::{Refused, WorldFault};
 pub use shown::{Acted, Shown};
 pub use worked::worked_worlds;
 pub use world::World;

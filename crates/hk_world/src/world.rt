@@ -18,14 +18,14 @@ mod scan;
 mod start;
 mod views;
 
-use crate::event::{Event, Header};
+use crate::fault::WorldFault;
 use crate::laws::worlds_stay_sound;
 use crate::process::{ManagerProcess, Process};
-use crate::refused::WorldFault;
 use crate::shown::Shown;
 use founders::{founders, founding_clocks, founding_managers, founding_view};
 use hk_base::{Letter, Memory, NodeId, View};
 use hk_clocks::Clocks;
+use hk_event::{Event, Header};
 use hk_node::Node;
 use numbers::numbered;
 use std::alloc::Global;

@@ -8,9 +8,10 @@ ghost use Rattle.hk_world.specs.Acting.{IsAct, made_by, allowed, counting, runni
 
 use super::World;
 use super::post::post;
-use crate::refused::{Refused, WorldFault};
+use crate::fault::WorldFault;
 use crate::shown::Shown;
 use hk_base::{CallNo, Key, Memory, NodeId, Op};
+use hk_event::Refused;
 use hk_node::{Node, NodeEvent, steps_keep_nodes};
 use std::alloc::Global;
 

@@ -4,7 +4,7 @@ ghost use Rattle.std.specs.Prelude.{◌≡◌, ◌≤◌, length, Err, None, IfO
 ghost use Rattle.std.specs.List.{list_any};
 ghost use Rattle.hk_base.specs.View.{IsView, is_member};
 ghost use Rattle.hk_node.specs.declared.event.NodeEvent.TheVariants.{Grant, Install as NodeInstall};
-ghost use Rattle.hk_world.specs.declared.event.Event.TheVariants.{Install, Lease};
+ghost use Rattle.hk_event.specs.declared.event.Event.TheVariants.{Install, Lease};
 ghost use Rattle.hk_world.specs.World.{last_view};
 ghost use Rattle.hk_world.specs.Views.{given_before};
 ghost use Rattle.hk_world.specs.Steps.{may_join, world_step};
@@ -15,8 +15,8 @@ use super::World;
 use super::numbers::numbered;
 use super::scan::first_running;
 use crate::process::ManagerProcess;
-use crate::refused::Refused;
 use hk_base::{NodeId, View};
+use hk_event::Refused;
 
 // How many numbers were given before the view of this epoch.
 fn given_before(views: &[View], epoch: u64) -> u32

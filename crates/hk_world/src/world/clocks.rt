@@ -5,16 +5,17 @@ ghost use Rattle.hk_base.specs.declared.letter.Actor.TheVariants.{Node as OfNode
 ghost use Rattle.hk_base.specs.declared.time.TheConstants.{MAX_TIME};
 ghost use Rattle.hk_node.specs.Steps.{ticks};
 ghost use Rattle.hk_node.specs.Report.{report};
-ghost use Rattle.hk_world.specs.declared.event.Event.TheVariants.{Tick, TickAll};
+ghost use Rattle.hk_event.specs.declared.event.Event.TheVariants.{Tick, TickAll};
 ghost use Rattle.hk_world.specs.Posted.{rested};
 ghost use Rattle.hk_world.specs.Sound.{IsStepOf};
 
 use super::World;
 use super::post::nothing;
 use super::scan::{tick_live, tick_managers};
-use crate::refused::{Refused, WorldFault};
+use crate::fault::WorldFault;
 use crate::shown::{Acted, Shown};
 use hk_base::{Actor, Letters, NodeId, Replies};
+use hk_event::Refused;
 use hk_manager::steps_keep_managers;
 use hk_node::{Node, NodeEvent, Report, steps_keep_nodes};
 use std::alloc::Global;

@@ -2,14 +2,15 @@
 
 ghost use Rattle.std.specs.Prelude.{◌≡◌};
 ghost use Rattle.hk_base.specs.declared.letter.Actor.TheVariants.{Node as OfNode, Manager as OfManager};
-ghost use Rattle.hk_world.specs.declared.event.Event.TheVariants.{Crash};
+ghost use Rattle.hk_event.specs.declared.event.Event.TheVariants.{Crash};
 ghost use Rattle.hk_world.specs.Sound.{IsStepOf};
 
 use super::World;
 use super::post::nothing;
-use crate::refused::{Refused, WorldFault};
+use crate::fault::WorldFault;
 use crate::shown::Shown;
 use hk_base::{Actor, NodeId};
+use hk_event::Refused;
 use std::alloc::Global;
 
 impl World {

@@ -5,14 +5,15 @@ ghost use Rattle.hk_base.specs.Range.{IsRoom};
 ghost use Rattle.hk_base.specs.declared.time.TheConstants.{MAX_TIME};
 ghost use Rattle.hk_manager.specs.declared.event.ManagerEvent.TheVariants.{Receive as Receipt};
 ghost use Rattle.hk_node.specs.declared.event.NodeEvent.TheVariants.{Resend as NodeResend, Replay as NodeReplay, Receive, Install as NodeInstall};
-ghost use Rattle.hk_world.specs.declared.event.Event.TheVariants.{Take, Resend, Replay, Copy, Install, Lease, AskLease, Propose, Activate};
+ghost use Rattle.hk_event.specs.declared.event.Event.TheVariants.{Take, Resend, Replay, Copy, Install, Lease, AskLease, Propose, Activate};
 ghost use Rattle.hk_world.specs.Sound.{IsStepOf};
 
 use super::World;
 use super::numbers::numbered;
-use crate::refused::{Refused, WorldFault};
+use crate::fault::WorldFault;
 use crate::shown::Shown;
 use hk_base::{Actor, Change, Key, Letter, Memory, NodeId, View};
+use hk_event::Refused;
 use hk_manager::ManagerEvent;
 use hk_node::NodeEvent;
 use std::alloc::Global;

@@ -9,10 +9,10 @@ ghost use Rattle.hk_world.specs.Start.{counted, founding_actors, founding_manage
 ghost use Rattle.hk_world.specs.Sound.{IsHeader};
 
 use super::start::put_in;
-use crate::event::Header;
 use crate::process::{ManagerProcess, Process};
 use hk_base::{Actor, Members, Memory, NodeId, View};
 use hk_clocks::Clocks;
+use hk_event::Header;
 use hk_manager::Manager;
 use hk_node::Node;
 use std::alloc::Global;

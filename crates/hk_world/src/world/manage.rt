@@ -7,8 +7,9 @@ ghost use Rattle.hk_world.specs.Sound.{IsAnswerOf};
 
 use super::World;
 use super::learn::post_of_manager;
-use crate::refused::{Refused, WorldFault};
+use crate::fault::WorldFault;
 use crate::shown::Shown;
+use hk_event::Refused;
 use hk_manager::{ManagerEvent, steps_keep_managers};
 use std::alloc::Global;
 

@@ -4,13 +4,13 @@ ghost use Rattle.std.specs.Prelude.{◌≡◌, ◌+◌, ◌≤◌, map, nat_le};
 ghost use Rattle.std.specs.List.{find};
 ghost use Rattle.std.specs.Option.{option_map};
 ghost use Rattle.hk_base.specs.declared.time.TheConstants.{MAX_TIME};
-ghost use Rattle.hk_world.specs.declared.refused.Refused.TheVariants.{LeaseRuns};
+ghost use Rattle.hk_event.specs.declared.refused.Refused.TheVariants.{LeaseRuns};
 ghost use Rattle.hk_world.specs.Steps.{process_ticked, manager_ticked};
 ghost use Rattle.hk_world.specs.Allowed.{may_run_by};
 
 use crate::process::{ManagerProcess, Process};
-use crate::refused::Refused;
 use hk_base::{NodeId, View};
+use hk_event::Refused;
 use std::alloc::Global;
 use std::collections::BTreeMap;
 

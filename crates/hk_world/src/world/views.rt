@@ -1,15 +1,16 @@
 //! The view that is agreed next.
 
 ghost use Rattle.std.specs.Prelude.{◌≡◌, ◌+◌, ◌<◌, ◌++◌, ◌∷◌, [], Some, IfOk, OnOk, OnErr};
-ghost use Rattle.hk_world.specs.declared.event.Event.TheVariants.{Agree};
+ghost use Rattle.hk_event.specs.declared.event.Event.TheVariants.{Agree};
 ghost use Rattle.hk_world.specs.Steps.{nothing};
 ghost use Rattle.hk_world.specs.Views.{dropped, added, next_of, IsNextOf};
 ghost use Rattle.hk_world.specs.Sound.{IsStepOf};
 
 use super::World;
-use crate::refused::{Refused, WorldFault};
+use crate::fault::WorldFault;
 use crate::shown::Shown;
 use hk_base::{Change, Letters, Members, Memory, NodeId, Replies, View};
+use hk_event::Refused;
 use std::alloc::Global;
 
 // The members but one.

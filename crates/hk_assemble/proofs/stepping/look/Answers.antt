@@ -1,6 +1,6 @@
 use Rattle.std.proofs.Common.{rules, ◌≡◌, ◌++◌, ◌∷◌, [], sym, ap, ◌∙◌, Ok}
 use Rattle.hk_base.specs.declared.call.Op.TheVariants.{Read}
-use Rattle.hk_world.specs.declared.event.Event.TheVariants.{Call}
+use Rattle.hk_event.specs.declared.event.Event.TheVariants.{Call}
 use Rattle.hk_safety.specs.Run.{world_of}
 use Rattle.hk_safety.specs.Push.{IsPushed}
 use Rattle.hk_merge.specs.Merged.{answers_of}

@@ -1,6 +1,6 @@
 use Rattle.std.proofs.Common.{arith}
 use Rattle.hk_world.proofs.Founded.{founder_view, founder_member}
-use Rattle.hk_drill.specs.Generated.{group_of}
+use Rattle.hk_script.specs.Drawn.{group_of}
 use Rattle.hk_storm.proofs.Concluding.{group_header}
 use Rattle.hk_storm.proofs.founding.found_one.Goals as goal
 

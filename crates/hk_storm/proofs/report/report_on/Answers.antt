@@ -1,6 +1,6 @@
 use Rattle.std.proofs.Common.{rules, sym, subst}
-use Rattle.hk_world.specs.declared.event.Header.{Header}
-use Rattle.hk_drill.specs.Generated.{group_of}
+use Rattle.hk_event.specs.declared.event.Header.{Header}
+use Rattle.hk_script.specs.Drawn.{group_of}
 use Rattle.hk_storm.specs.Concluded.{AreAssembled, EachRun}
 use Rattle.hk_storm.proofs.Concluding.{group_header, are_runs}
 use Rattle.hk_storm.proofs.report.report_on.Goals as goal

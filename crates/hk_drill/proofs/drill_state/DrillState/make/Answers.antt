@@ -1,5 +1,5 @@
 use Rattle.std.proofs.Common.{Ok, subst}
-use Rattle.hk_world.specs.declared.event.Event.{Event}
+use Rattle.hk_event.specs.declared.event.Event.{Event}
 use Rattle.hk_safety.specs.Push.{IsPushed}
 use Rattle.hk_drill.proofs.DrillStates.{made_taken}
 use Rattle.hk_drill.proofs.drill_state.DrillState.make.Goals as goal

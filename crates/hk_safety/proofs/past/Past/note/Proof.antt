@@ -25,8 +25,8 @@ use denote.Triple.Entry.{on_entry}
 use denote.Triple.Spec.{Meets, triple_of}
 use denote.Triple.Table.{entered}
 use denote.Triple.Walked.{says, Stays, stay_ref, walk_of, AllGo, Goes-ref, Walks, ends_at, walked, walk_Meets}
-use Rattle.hk_world.specs.declared.event.Event.{Event}
-use Rattle.hk_world.specs.contracts.event.Event as E
+use Rattle.hk_event.specs.declared.event.Event.{Event}
+use Rattle.hk_event.specs.contracts.event.Event as E
 use Rattle.hk_safety.specs.declared.past.Past.{Past}
 use Rattle.hk_safety.specs.contracts.past.Past as T
 use Rattle.hk_safety.specs.contracts.past.Past.note.Key.{name as #it}

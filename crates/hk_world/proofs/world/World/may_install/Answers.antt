@@ -6,9 +6,9 @@ use Rattle.hk_base.specs.declared.view.View.{View}
 use Rattle.hk_node.specs.Node.{epoch_of}
 use Rattle.hk_base.specs.View.{is_member}
 use Rattle.hk_world.specs.declared.process.Process.{Process}
-use Rattle.hk_world.specs.declared.refused.Refused.{Refused}
-use Rattle.hk_world.specs.declared.refused.Refused.TheVariants.{LeaseRuns}
-use Rattle.hk_world.specs.declared.event.Event.TheVariants.{Install}
+use Rattle.hk_event.specs.declared.refused.Refused.{Refused}
+use Rattle.hk_event.specs.declared.refused.Refused.TheVariants.{LeaseRuns}
+use Rattle.hk_event.specs.declared.event.Event.TheVariants.{Install}
 use Rattle.hk_world.specs.World.{WorldState, numbered, process_at}
 use Rattle.hk_world.specs.Steps.{world_step}
 use Rattle.hk_node.specs.declared.event.NodeEvent.TheVariants as NodeEvent

@@ -1,5 +1,0 @@
-use Rattle.hk_drill.proofs.Drawings.{event_ok}
-use Rattle.hk_drill.proofs.generate.Drawing.step.Goals as goal
-
-pub push-requires : goal.push-requires
-push-requires c = event_ok _ _ _ c.in_ok-event.event c.in_ok-event.ensures.ok
