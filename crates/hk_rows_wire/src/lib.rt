@@ -1,4 +1,4 @@
-//! The tests of what carries bytes: the outside, requests, frames, links, connections and the server of one node.
+//! The tests of what carries bytes: the outside, requests, frames, links and connections.
 #![tactic(auto)]
 
 #[cfg(test)]
@@ -15,5 +15,3 @@ mod outside;
 mod pieces;
 #[cfg(test)]
 mod request;
-#[cfg(test)]
-mod serve;

@@ -5,6 +5,8 @@
 mod clock_desks;
 mod completing;
 #[cfg(test)]
+mod conns;
+#[cfg(test)]
 mod desks;
 #[cfg(test)]
 mod founding;

@@ -1,3 +1,0 @@
-pub mod Lone
-pub mod Showing
-pub mod Shards
