@@ -1,3 +1,4 @@
+pub mod Alone
 pub mod Noting
 pub mod Sound
 pub mod Steps

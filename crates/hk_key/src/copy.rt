@@ -2,6 +2,7 @@
 
 ghost use Rattle.std.specs.Prelude.{◌≡◌, IfOk};
 
+use crate::boxed::BoxedPending;
 use crate::row::{Pending, Row};
 use hk_base::{Memory, Reply, share_content};
 use std::alloc::Global;
@@ -22,12 +23,16 @@ fn share_reply(reply: &Option<Reply>) -> Result<Option<Reply>, Memory>
     }
 }
 
-fn copy_pending(alloc: Global, pending: &Option<Pending>) -> Result<Option<Pending>, Memory>
+fn copy_pending(
+    alloc: Global,
+    pending: &Option<BoxedPending>,
+) -> Result<Option<BoxedPending>, Memory>
     ensures { IfOk result (λ same. same ≡ pending.now) }
 {
     match pending {
         Some(pending) => {
-            let same = pending.copy(alloc)?;
+            let same = pending.get().copy(alloc)?;
+            let same = BoxedPending::new(alloc, same)?;
             Ok(Some(same))
         }
         None => Ok(None),
@@ -61,10 +66,10 @@ impl Row {
         let pending = copy_pending(alloc, &self.pending)?;
         Ok(Row {
             state: self.state,
-            stamp: self.stamp,
             kind: self.kind,
-            content,
             kept_val: self.kept_val,
+            stamp: self.stamp,
+            content,
             pending,
         })
     }

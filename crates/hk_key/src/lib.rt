@@ -11,6 +11,7 @@
 #![tactic(auto)]
 
 mod acks;
+mod boxed;
 mod copy;
 mod laws;
 mod out;
@@ -18,6 +19,7 @@ mod row;
 mod same;
 
 pub use acks::{Ack, Acks, MAX_ACKS};
+pub use boxed::BoxedPending;
 pub use laws::{
     answers_were_waited_for, calls_wait_or_are_answered, rows_stay_sound, same_rows_are_unchanged,
     stamps_never_fall, worked_rows,

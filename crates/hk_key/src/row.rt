@@ -1,10 +1,14 @@
 //! A row and its steps.
 
-ghost use Rattle.std.specs.Prelude.{◌≡◌, None, IfOk, IfSome, OnErr, OnOk};
+ghost use Rattle.std.specs.Prelude.{◌≡◌, Some, None, [], false, IfOk, IfSome, OnErr, OnOk};
 ghost use Rattle.hk_base.specs.declared.call.State.TheVariants as of_state;
 ghost use Rattle.hk_key.specs.Table.{sent_out, no_out};
+ghost use Rattle.hk_key.specs.Notes.{all_noted};
+ghost use Rattle.hk_key.specs.declared.out.Aim.TheVariants.{Others};
+ghost use Rattle.hk_key.specs.declared.out.What.TheVariants.{Val};
 
 use crate::acks::Acks;
+use crate::boxed::BoxedPending;
 use crate::out::{Aim, Out, Sending, What};
 use hk_base::{
     Answer, Content, CopyItem, Kind, Memory, NodeId, Reply, Stamp, State, View, share_content,
@@ -26,19 +30,21 @@ pub struct Pending {
 }
 
 /// What a node has of one key. A key without a row counts as [`Row::first`].
+// A store has a row for each key, and few of them wait: so the small fields stand together, and a pending update in a
+// place of its own. A row takes 64 bytes.
 #[derive(Drop)]
 pub struct Row {
     pub state: State,
-    /// The stamp of the greatest update that was taken.
-    pub stamp: Stamp,
-    /// The kind of that update.
+    /// The kind of the greatest update that was taken.
     pub kind: Kind,
-    /// What it left. A row holds nothing at `0.0`, or where a read-modify-write took the content away.
-    pub content: Option<Content>,
     /// Whether VAL of the row's stamp came while the row was in Trans.
     pub kept_val: bool,
+    /// The stamp of that update.
+    pub stamp: Stamp,
+    /// What it left. A row holds nothing at `0.0`, or where a read-modify-write took the content away.
+    pub content: Option<Content>,
     /// At most one update of this node's own, or one that it replays.
-    pub pending: Option<Pending>,
+    pub pending: Option<BoxedPending>,
 }
 
 fn sends(aim: Aim, what: What) -> Out
@@ -59,6 +65,30 @@ fn nothing() -> Out
     }
 }
 
+// An update of this stamp is complete and each of the others has it: VAL goes to them, and the call is answered.
+fn settled(stamp: Stamp, reply: Reply) -> Out
+    ensures { result ≡ record { send = Some (record { aim = Others; what = Val stamp }); reply = Some reply } }
+{
+    Out {
+        send: Some(Sending {
+            aim: Aim::Others,
+            what: What::Val { stamp },
+        }),
+        reply: Some(reply),
+    }
+}
+
+// Whether the view has no member but this node, so that an update is complete as it begins.
+#[tactic(auto, using(crate::proofs::Alone::alone))]
+fn is_alone(me: NodeId, view: &View) -> bool
+    ensures { result ≡ all_noted me view.now.members [] }
+{
+    view.members
+        .as_slice()
+        .iter()
+        .all(|member| member.0 == me.0)
+}
+
 impl Row {
     ghost use Rattle.hk_base.specs.View.{IsView};
     ghost use Rattle.hk_base.specs.Range.{IsWithin, Leaves};
@@ -72,25 +102,40 @@ impl Row {
     {
         Row {
             state: State::Valid,
+            kind: Kind::Write,
+            kept_val: false,
             stamp: Stamp {
                 version: 0,
                 node: 0,
             },
-            kind: Kind::Write,
             content: None,
-            kept_val: false,
             pending: None,
         }
     }
 
+    // The row takes an update, which is not pending yet.
+    fn hold(&mut self, state: State, stamp: Stamp, kind: Kind, content: Option<Content>)
+        ensures { self.new ≡ record { state = state; kind = kind; kept_val = false; stamp = stamp; content = content; pending = None } }
+    {
+        *self = Row {
+            state,
+            kind,
+            kept_val: false,
+            stamp,
+            content,
+            pending: None,
+        };
+    }
+
     // The pending update, which was taken out of the row, is complete.
-    fn complete(&mut self, pending: Pending) -> Out
+    fn complete(&mut self, pending: BoxedPending) -> Out
         requires row { IsWithin self.old.stamp }
         requires pending { IsWithin pending.stamp }
         requires gone { self.old.pending ≡ None }
         ensures row { self.new ≡ (completed self.old pending).row }
         ensures out { result ≡ (completed self.old pending).out }
     {
+        let pending = pending.into_inner();
         let own = self.stamp.tag() == pending.stamp.tag();
         let exact = pending.acks.are_exact();
         match (own, exact) {
@@ -128,14 +173,14 @@ impl Row {
     }
 
     // The pending update goes out.
-    fn start(&mut self, me: NodeId, view: &View, pending: Pending) -> Out
+    fn start(&mut self, me: NodeId, view: &View, pending: BoxedPending) -> Out
         requires row { IsWithin self.old.stamp }
         requires pending { IsWithin pending.stamp }
         requires gone { self.old.pending ≡ None }
         ensures row { self.new ≡ (started me view.now.members self.old pending).row }
         ensures out { result ≡ (started me view.now.members self.old pending).out }
     {
-        if pending.acks.has_all(me, view) {
+        if pending.get().acks.has_all(me, view) {
             return self.complete(pending);
         }
         self.pending = Some(pending);
@@ -163,14 +208,12 @@ impl Row {
         ensures out { IfOk result (λ out. out ≡ (begin me view.now.members reply stamp kind content).out) }
         ensures err { OnErr result (self.new ≡ self.old) }
     {
+        if is_alone(me, view) {
+            self.hold(State::Valid, stamp, kind, content);
+            return Ok(settled(stamp, reply));
+        }
         let acks = Acks::new(alloc)?;
         let same = share_content(&content)?;
-        self.state = State::Write;
-        self.stamp = stamp;
-        self.kind = kind;
-        self.content = content;
-        self.kept_val = false;
-        self.pending = None;
         let pending = Pending {
             reply: Some(reply),
             stamp,
@@ -178,6 +221,8 @@ impl Row {
             content: same,
             acks,
         };
+        let pending = BoxedPending::new(alloc, pending)?;
+        self.hold(State::Write, stamp, kind, content);
         Ok(self.start(me, view, pending))
     }
 
@@ -200,6 +245,7 @@ impl Row {
                     content,
                     acks,
                 };
+                let pending = BoxedPending::new(alloc, pending)?;
                 self.state = State::Replay;
                 Ok(self.start(me, view, pending))
             }
@@ -217,7 +263,7 @@ impl Row {
                 self.pending = pending;
                 None
             }
-            (State::Write, Some(pending)) => match pending.kind {
+            (State::Write, Some(pending)) => match pending.get().kind {
                 Kind::Write => {
                     self.state = State::Trans;
                     self.pending = Some(pending);
@@ -225,7 +271,7 @@ impl Row {
                 }
                 Kind::Rmw => {
                     self.state = State::Invalid;
-                    pending.reply.map(|reply| Reply {
+                    pending.into_inner().reply.map(|reply| Reply {
                         call: reply.call,
                         answer: Answer::Aborted(stamp),
                     })
@@ -296,12 +342,12 @@ impl Row {
     {
         match self.pending.take() {
             Some(mut pending) => {
-                if stamp.tag() != pending.stamp.tag() {
+                if stamp.tag() != pending.get().stamp.tag() {
                     self.pending = Some(pending);
                     return nothing();
                 }
-                pending.acks.note(from, top.tag() == stamp.tag());
-                if pending.acks.has_all(me, view) {
+                pending.note(from, top.tag() == stamp.tag());
+                if pending.get().acks.has_all(me, view) {
                     return self.complete(pending);
                 }
                 self.pending = Some(pending);
@@ -346,7 +392,7 @@ impl Row {
     {
         match self.pending.take() {
             Some(mut pending) => {
-                pending.acks.clear();
+                pending.clear_notes();
                 self.start(me, view, pending)
             }
             None => nothing(),

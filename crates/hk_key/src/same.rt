@@ -4,7 +4,8 @@ ghost use Rattle.std.specs.Prelude.{◌≡◌};
 ghost use Rattle.hk_key.specs.Same.{is_same_state, is_same_stamp, is_same_wait, is_same_row};
 ghost use Rattle.std.specs.Option.{option_eq};
 
-use crate::row::{Pending, Row};
+use crate::boxed::BoxedPending;
+use crate::row::Row;
 use hk_base::{Stamp, State};
 
 fn is_same_state(a: State, b: State) -> bool
@@ -19,11 +20,11 @@ fn is_same_stamp(a: Stamp, b: Stamp) -> bool
     a == b
 }
 
-fn is_same_pending(a: &Option<Pending>, b: &Option<Pending>) -> bool
+fn is_same_pending(a: &Option<BoxedPending>, b: &Option<BoxedPending>) -> bool
     ensures { result ≡ option_eq is_same_wait a.now b.now }
 {
     match (a, b) {
-        (Some(a), Some(b)) => a.acks.is_same(&b.acks),
+        (Some(a), Some(b)) => a.get().acks.is_same(&b.get().acks),
         (None, None) => true,
         (Some(_), None) | (None, Some(_)) => false,
     }

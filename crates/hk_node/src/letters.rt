@@ -19,6 +19,7 @@ fn pending_body(key: &Key, row: &Row) -> Result<Body, Memory>
     let key = key.share()?;
     match &row.pending {
         Some(pending) => {
+            let pending = pending.get();
             let content = share_content(&pending.content)?;
             Ok(Body::Inv {
                 key,
@@ -88,7 +89,7 @@ fn is_noted(row: &Row, member: NodeId) -> bool
     ensures { result ≡ is_noted member (notes_in row.now.pending) }
 {
     match &row.pending {
-        Some(pending) => pending.acks.has(member),
+        Some(pending) => pending.get().acks.has(member),
         None => false,
     }
 }

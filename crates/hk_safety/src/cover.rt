@@ -11,7 +11,7 @@ ghost use Rattle.hk_safety.specs.Grown.{AreTouchedIn, AreTouchedAt};
 use crate::evidence::Cover;
 use crate::key_run::KeyRun;
 use hk_base::{Body, Key, Letter, Memory, View};
-use hk_key::Pending;
+use hk_key::BoxedPending;
 use hk_node::{Node, PriorRow};
 use hk_world::{Acted, Shown, World};
 use std::alloc::Global;
@@ -41,24 +41,24 @@ fn cover_pending(
     view: &View,
     cover: Cover,
     key: &Key,
-    pending: &Option<Pending>,
+    pending: &Option<BoxedPending>,
 ) -> Result<(), Memory>
     requires { IfSome pending.now (λ p. IsWithin p.stamp) }
     ensures { OnOk result (AreCovered view.now cover keys.old.entries keys.new.entries (wait_touches key.now pending.now)) }
 {
     match pending {
-        Some(pending) => cover_tag(keys, alloc, view, cover, key, pending.stamp.tag()),
+        Some(pending) => cover_tag(keys, alloc, view, cover, key, pending.get().stamp.tag()),
         None => Ok(()),
     }
 }
 
 // Whether what waits has this tag.
-fn waits_at(pending: &Option<Pending>, tag: u64) -> bool
+fn waits_at(pending: &Option<BoxedPending>, tag: u64) -> bool
     requires { IfSome pending.now (λ p. IsWithin p.stamp) }
     ensures { result ≡ true → (key : List ℕ) → wait_touches key pending.now ≡ (key, tag) ∷ [] }
 {
     match pending {
-        Some(pending) => pending.stamp.tag() == tag,
+        Some(pending) => pending.get().stamp.tag() == tag,
         None => false,
     }
 }
