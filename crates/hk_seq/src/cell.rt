@@ -1,10 +1,10 @@
 //! The cell and its steps.
 
-ghost use Rattle.std.specs.Prelude.{◌≡◌, ℕ, ◌+◌, ◌%◌, ◌^◌, ◌<◌, List, [], ◌∷◌, length, IfOk};
+ghost use Rattle.std.specs.Prelude.{◌≡◌, ℕ, ◌+◌, ◌%◌, ◌^◌, ◌<◌, ◌≤◌, List, [], ◌∷◌, length, IfOk};
 ghost use Rattle.crossbeam_utils.specs.Register.{Turns, TurnsAt, Forks, Merges};
 ghost use Rattle.crossbeam_utils.specs.Seq.{Gathered, Stays, IsSamePass, cell_view};
 ghost use Rattle.crossbeam_utils.specs.declared.atomic.seq_cell.Stage.TheVariants.{Writing};
-ghost use Rattle.hk_seq.specs.Steps.{IsWriting};
+ghost use Rattle.hk_seq.specs.Steps.{in_use, over, HasInUse, IsGathered, IsWriting};
 
 use crate::plays::{Check, Cut, Glue, Lock, Look, Match, Note, Peek, Publish, Put};
 use atomic_table::{Join, Split, Table, TableRule};
@@ -27,7 +27,15 @@ pub type WordCell<V, P, const N: usize, A = Global> = Wide<
 #[derive(Drop)]
 pub struct Wide<S, D, Q: TableRule<S, D, ()>, const N: usize, A: Allocator> {
     table: Table<S, D, (), Q, A>,
-    ghost wide: { (table.shared.table_id.words ≡ N + 1) × (N < 2 ^ 32) },
+    ghost wide: { (table.shared.table_id.words ≡ N + 1) × (N < 2 ^ 32) × (0 < N) },
+}
+
+// How many words of the value are in use.
+fn in_use<const N: usize>(words: &[u64; N]) -> usize
+    requires { (0 < N) × (N < 2 ^ 32) }
+    ensures { result ≡ in_use N words.now }
+{
+    words[0].min(N as u64) as usize
 }
 
 impl<V, P: Protocol<[u64; N], V>, const N: usize, A: Allocator> WordCell<V, P, N, A> {
@@ -41,7 +49,7 @@ impl<V, P: Protocol<[u64; N], V>, const N: usize, A: Allocator> WordCell<V, P, N
         requires { P.holds val.now (P.first ∷ []) }
         ensures { IfOk result (λ c. (c.1.table_id ≡ c.0.table.shared.table_id) × (cell_view c.1 ≡ P.first)) }
     {
-        if N >= 1 << 32 {
+        if N == 0 || N >= 1 << 32 {
             return Err(AllocError);
         }
         let mut words = Vec::new(alloc.clone()?);
@@ -70,17 +78,20 @@ impl<V, P: Protocol<[u64; N], V>, const N: usize, A: Allocator> WordCell<V, P, N
         self.table.shared.join_seat::<Glue<M>>(pass, other);
     }
 
-    // Reads each word into its place.
+    // Reads the words in use into their places.
     fn gather(&self, pass: &mut Pass<[u64; N], V>, room: &mut [u64; N])
         requires { pass.old.table_id ≡ self.now.table.shared.table_id }
-        ensures { Stays pass.old pass.new × (length room.new ≡ N) × Gathered (λ x. x) N room.new pass.old.me.0.stage pass.new.me.0.stage }
+        ensures { Stays pass.old pass.new × IsGathered N room.new pass.old.me.0.stage pass.new.me.0.stage }
     {
-        for i in 0..N {
+        room[0] = self.table.shared.load::<Peek<N>>(pass, 1);
+        let count = in_use(room);
+        for i in 1..count {
             room[i] = self.table.shared.load::<Peek<N>>(pass, i + 1);
         }
     }
 
-    /// Reads the value into `room`, as one step of the caller's rule.
+    /// Reads the words in use into `room`, as one step of the caller's rule at the value that the cell has then. What stands in the room behind them
+    /// is of no value.
     pub fn load_as<M: Outcome<[u64; N], V>, R: Wait>(
         &self,
         rt: &R,
@@ -90,7 +101,7 @@ impl<V, P: Protocol<[u64; N], V>, const N: usize, A: Allocator> WordCell<V, P, N
         requires cell { pass.old.table_id ≡ self.now.table.shared.table_id }
         requires rule { Turns P.holds pass.old.id (cell_view pass.old) (λ x. x) M.then }
         ensures cell { IsSamePass pass.old pass.new }
-        ensures rule { M.then (cell_view pass.old) room.new room.new (cell_view pass.new) }
+        ensures rule { (x : List ℕ) × M.then (cell_view pass.old) x x (cell_view pass.new) × HasInUse N room.new x }
     {
         let backoff = Backoff::new();
         for _ in rt.forever() {
@@ -151,7 +162,8 @@ impl<V, P: Protocol<[u64; N], V>, const N: usize, A: Allocator> WordCell<V, P, N
         self.table.shared.store::<Put>(pass, i + 1, new[i]);
     }
 
-    /// Puts this value in place of the one that is there, as one step of the caller's rule. Only words that differ are written.
+    /// Puts the words in use of this value over those of the one that is there, as one step of the caller's rule. The words behind them stay as they are,
+    /// and only words that differ are written.
     pub fn store_as<M: Outcome<[u64; N], V>, R: Wait>(
         &self,
         rt: &R,
@@ -159,14 +171,17 @@ impl<V, P: Protocol<[u64; N], V>, const N: usize, A: Allocator> WordCell<V, P, N
         new: &[u64; N],
     )
         requires cell { pass.old.table_id ≡ self.now.table.shared.table_id }
-        requires rule { Turns P.holds pass.old.id (cell_view pass.old) (λ _. new.now) M.then }
+        requires rule { Turns P.holds pass.old.id (cell_view pass.old) (over N new.now) M.then }
         ensures cell { IsSamePass pass.old pass.new }
-        ensures rule { (x : List ℕ) × M.then (cell_view pass.old) x new.now (cell_view pass.new) }
+        ensures rule { (x : List ℕ) × M.then (cell_view pass.old) x (over N new.now x) (cell_view pass.new) }
     {
         let version = self.lock(rt, pass, new);
-        for i in 0..N {
+        let count = in_use(new);
+        for i in 0..count {
             self.put_word(pass, i, new);
         }
-        self.table.shared.store::<Publish<M>>(pass, 0, version + 1);
+        self.table
+            .shared
+            .store::<Publish<M, N>>(pass, 0, version + 1);
     }
 }

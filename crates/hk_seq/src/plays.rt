@@ -1,7 +1,7 @@
 //! What each step on the words tells.
 
-ghost use Rattle.crossbeam_utils.specs.Seq.{doing, idle, looked, peeked, checked, locked, wrote, published};
-ghost use Rattle.hk_seq.specs.Steps.{matched, noted};
+ghost use Rattle.crossbeam_utils.specs.Seq.{doing, idle, looked, peeked, checked, locked, wrote};
+ghost use Rattle.hk_seq.specs.Steps.{matched, noted, published_over};
 
 use atomic_table::{Join, Play, Split};
 use crossbeam_utils::atomic::seq_cell::{Doing, Words};
@@ -61,13 +61,14 @@ impl<T, V> Play<T, Doing<T, V>> for Put {
     ghost then = { wrote };
 }
 
-// The version becomes even.
-pub(crate) struct Publish<M> {
+// The version becomes even, and the words that were not written stay.
+pub(crate) struct Publish<M, const N: usize> {
     outcome: PhantomData<M>,
 }
 
-impl<T, V, M: Outcome<T, V>> Play<T, Doing<T, V>> for Publish<M> {
-    ghost then = { published M.then };
+impl<V, M: Outcome<[u64; N], V>, const N: usize> Play<[u64; N], Doing<[u64; N], V>>
+    for Publish<M, N> {
+    ghost then = { published_over M.then };
 }
 
 // A view is cut in two.

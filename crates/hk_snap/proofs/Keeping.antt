@@ -1,5 +1,5 @@
 -- Each step of a cell keeps its rule.
-use Rattle.std.proofs.Common.{◌≡◌, ◌≢◌, ℕ, zero, suc, ◌+◌, nat_lt, if◌then◌else◌, List, [], ◌∷◌, ◌++◌, length, set, Bool, true, false, true≢false, refl, sym, ap, ◌∙◌, subst, ⊎_elim}
+use Rattle.std.proofs.Common.{◌≡◌, ◌≢◌, ℕ, zero, suc, ◌+◌, nat_lt, if◌then◌else◌, List, [], ◌∷◌, ◌++◌, length, set, Option, Bool, true, false, true≢false, refl, sym, ap, ◌∙◌, subst, ⊎_elim}
 use Rattle.std.specs.List.{AllByRecursion}
 use mathlib.Core.Option.{some, some-ne-none, some-injective}
 use mathlib.Core.List.{IsPrefix}
@@ -8,11 +8,14 @@ use Rattle.crossbeam_utils.specs.Register.{Turns, Forks, Merges}
 use Rattle.atomic_table.proofs.Lists.{at_set, at_snoc}
 use Rattle.hk_snap.specs.declared.rule.Publication.{Publication}
 use Rattle.hk_snap.specs.declared.rule.Knowledge.{Knowledge}
+use Rattle.hk_snap.specs.declared.snapshot.Snapshot.{Snapshot}
+use Rattle.hk_seq.specs.Steps.{over}
 use Rattle.hk_snap.specs.Snapshots.{last_shown, snapshot_of, IsNext, IsRising}
 use Rattle.hk_snap.specs.Layout.{words_of, words_at, no_words}
 use Rattle.hk_snap.specs.Rule.{reader, opening, joined, met, claimed, with_published, IsInRange, Fits, Kept, Adds, Loaded, Compared}
 use Rattle.hk_snap.proofs.Prefixes.{prefix_self, prefix_more}
 use Rattle.hk_snap.proofs.Shows.{last_of_more, rising_more, in_range_more}
+use Rattle.hk_snap.proofs.Using.{stored}
 
 off : false ≡ true → ⊥
 off e = true≢false (sym e)
@@ -25,15 +28,15 @@ fits_set seat now views by w others mine j u e =
     (λ (x : (j ≢ by) × (get_elem? views j ≡ some u)). others j u x.0 x.1)
     (at_set views by j w u e)
 
-pub begins : (words : List ℕ) → words ≡ no_words → Kept words (opening ∷ [])
+pub begins : (words : List ℕ) → IsPrefix no_words words → Kept words (opening ∷ [])
 begins words is = (0, [], is, tt, tt, one)
   where
     one : (by : ℕ) (v : Knowledge) → get_elem? (opening ∷ []) by ≡ some v → Fits 0 [] by v
     one zero v e = subst (Fits 0 [] 0) (some-injective _ _ e) (([], refl), ([], refl), (λ _. (refl, refl)))
     one (suc by) v e = absurd (some-ne-none v (sym e))
 
-pub adds : (by : ℕ) (v : Knowledge) (p : Publication) (new : List ℕ) → v.publishes ≡ true → new ≡ words_of (snapshot_of p) → IsNext v.seen p → IsInRange p → Turns Kept by v (λ _. new) (Adds p)
-adds by v p new publishes is next range words views h at =
+pub adds : (by : ℕ) (v : Knowledge) (p : Publication) (new : List ℕ) → v.publishes ≡ true → length new ≡ 166 → IsPrefix (words_of (snapshot_of p)) new → IsNext v.seen p → IsInRange p → Turns Kept by v (over 166 new) (Adds p)
+adds by v p new publishes long is next range words views h at =
     let fits = h.5 in let all = fits by v at in let mine = all.2 publishes in
     let w : Knowledge = with_published v p in
     let log : List Publication = h.1 ++ p ∷ [] in
@@ -42,7 +45,7 @@ adds by v p new publishes is next range words views h at =
       (
         h.0,
         log,
-        is ∙ sym (ap words_at (last_of_more h.1 p)),
+        subst (λ (shown : Option Snapshot). IsPrefix (words_at shown) (over 166 new words)) (sym (last_of_more h.1 p)) (stored (snapshot_of p) new words long is),
         rising_more h.1 p h.3 (subst (λ l. IsNext l p) mine.1 next),
         in_range_more h.1 p h.4 range,
         fits_set h.0 log views by w
@@ -70,7 +73,7 @@ compares by v publishes words views h at =
       (
         refl,
         subst (IsPrefix v.claim) (sym mine.1) all.1,
-        h.2 ∙ ap (λ l. words_at (last_shown l)) (sym mine.1),
+        subst (λ (l : List Publication). IsPrefix (words_at (last_shown l)) words) (sym mine.1) h.2,
         subst IsRising (sym mine.1) h.3,
         subst (AllByRecursion IsInRange) (sym mine.1) h.4,
       ),

@@ -2,11 +2,13 @@
 use Rattle.std.proofs.Common.{◌≡◌, ℕ, zero, suc, ◌+◌, ◌*◌, ◌-◌, ◌<◌, ◌≤◌, List, [], ◌∷◌, ◌++◌, length, get_or, take, drop, replicate, refl, sym, ap, ◌∙◌, subst, arith, append_assoc, length-append, length-drop}
 use Rattle.std.specs.Int.{from_le_bytes, to_le_bytes, w64}
 use Rattle.std.proofs.lemmas.Nat.{le_bytes_8}
-use Rattle.std.proofs.lemmas.List.{append-nil}
+use Rattle.std.proofs.lemmas.List.{append-nil, take_at}
+use Rattle.std.proofs.lemmas.Grind.{div_ceil_times}
+use mathlib.Core.List.{IsPrefix}
 use Rattle.std.proofs.lemmas.Slice.{take-put_mid}
-use Rattle.std.proofs.Math.Seq.{take-suc, take-append_seam, drop-length}
+use Rattle.std.proofs.Math.Seq.{take-suc, drop-length}
 use borrow.Rule.Slice.PartMut.{put_mid}
-use Rattle.hk_snap.specs.Packed.{words_from, packed, unpacked, eight, AreBytes}
+use Rattle.hk_snap.specs.Packed.{words_from, packed, unpacked, words_for, eight, AreBytes}
 
 zero_byte : (n i : ℕ) → get_or (replicate n 0) i 0 < 256
 zero_byte zero i = omega arith
@@ -101,15 +103,22 @@ pub length_packed : (n : ℕ) (bytes : List ℕ) → length (packed n bytes) ≡
 unfolding packed
 length_packed n bytes = length_words n bytes
 
--- a head of eight words, then 32 and then 125, put one after the other into 165
-pub assembles : (old head key small : List ℕ) → length old ≡ 165 → length head ≡ 8 → length key ≡ 32 → length small ≡ 125
-    → (w x y : List ℕ) → w ≡ head ++ drop 8 old → x ≡ take 8 w ++ key ++ drop 40 w → y ≡ take 40 x ++ small ++ drop 165 x → y ≡ head ++ key ++ small
-assembles old head key small l lh lk ls w x y ew ex ey =
-    let t8 : take 8 w ≡ head = ap (take 8) ew ∙ (ap (λ n. take n (head ++ drop 8 old)) (sym lh) ∙ take-append_seam head (drop 8 old)) in
-    let lw : length w ≡ 165 = ap length ew ∙ (length-append head (drop 8 old) ∙ omega (arith, lh, length-drop 8 old, l)) in
-    let front : x ≡ (head ++ key) ++ drop 40 w = ex ∙ ap (λ h. h ++ key ++ drop 40 w) t8 in
-    let lf : length (head ++ key) ≡ 40 = length-append head key ∙ omega (arith, lh, lk) in
-    let t40 : take 40 x ≡ head ++ key = ap (take 40) front ∙ (ap (λ n. take n ((head ++ key) ++ drop 40 w)) (sym lf) ∙ take-append_seam (head ++ key) (drop 40 w)) in
-    let lx : length x ≡ 165 = ap length front ∙ (length-append (head ++ key) (drop 40 w) ∙ omega (arith, lf, length-drop 40 w, lw)) in
-    let none : drop 165 x ≡ [] = ap (λ n. drop n x) (sym lx) ∙ drop-length x in
-    ey ∙ ((λ i. t40 i ++ small ++ none i) ∙ append-nil (head ++ key ++ small))
+-- so many words are enough for the bytes
+pub enough : (n : ℕ) → n ≤ 8 * words_for n
+enough n = let d = (div_ceil_times n 8 (omega arith)).0 in omega (arith, d)
+
+-- a head of nine words, then so many, and then so many again, put one after the other
+joins_up : (old head key small : List ℕ) (k : ℕ) → length head ≡ 9 → length key ≡ k
+    → (w x y rest : List ℕ) → w ≡ head ++ drop 9 old → x ≡ take 9 w ++ key ++ drop (9 + k) w → y ≡ take (9 + k) x ++ small ++ rest → IsPrefix (head ++ key ++ small) y
+joins_up old head key small k lh lk w x y rest ew ex ey =
+    let t9 : take 9 w ≡ head = ap (take 9) ew ∙ take_at head (drop 9 old) 9 lh in
+    let front : x ≡ (head ++ key) ++ drop (9 + k) w = ex ∙ ap (λ h. h ++ key ++ drop (9 + k) w) t9 in
+    let lf : length (head ++ key) ≡ 9 + k = length-append head key ∙ omega (arith, lh, lk) in
+    let t : take (9 + k) x ≡ head ++ key = ap (take (9 + k)) front ∙ take_at (head ++ key) (drop (9 + k) w) (9 + k) lf in
+    (rest, sym (ey ∙ ap (λ h. h ++ small ++ rest) t))
+
+pub assembles : (old head key small : List ℕ) (k m : ℕ) → k ≡ words_for (length key) → m ≡ words_for (length small) → length head ≡ 9 → (w x y rest : List ℕ) → w ≡ head ++ drop 9 old
+    → x ≡ take 9 w ++ packed k key ++ drop (9 + k) w → y ≡ take (9 + k) x ++ packed m small ++ rest → IsPrefix (head ++ packed (words_for (length key)) key ++ packed (words_for (length small)) small) y
+assembles old head key small k m ek em lh w x y rest ew ex ey =
+    subst (λ (z : ℕ × ℕ). IsPrefix (head ++ packed z.0 key ++ packed z.1 small) y) (λ i. (ek i, em i))
+    (joins_up old head (packed k key) (packed m small) k lh (length_packed k key) w x y rest ew ex ey)

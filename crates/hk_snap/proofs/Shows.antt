@@ -1,7 +1,9 @@
 -- A list in which one more is published.
-use Rattle.std.proofs.Common.{◌≡◌, ℕ, ◌≤◌, List, [], ◌∷◌, ◌++◌, length, take, drop, Option, Some, None, Bool, true, false, if◌then◌else◌, nat_lt, refl, sym, ap, ◌∙◌, arith}
+use Rattle.std.specs.Prelude.{⊤}
+use Rattle.std.proofs.Common.{◌≡◌, ℕ, ◌+◌, ◌≤◌, List, [], ◌∷◌, ◌++◌, length, take, drop, Option, Some, None, Bool, true, false, if◌then◌else◌, nat_lt, refl, sym, ap, ◌∙◌, subst, arith, append_assoc, length-append}
 use Rattle.std.specs.List.{AllByRecursion}
-use Rattle.std.proofs.Math.Seq.{take-append_seam, take-length, drop-append_seam}
+use Rattle.std.proofs.lemmas.List.{take_at, drop_at}
+use mathlib.Core.List.{IsPrefix}
 use Rattle.hk_base.specs.declared.call.State.{State}
 use Rattle.hk_base.specs.declared.call.State.TheVariants.{Valid, Invalid, Write, Replay, Trans}
 use Rattle.hk_base.specs.declared.stamp.Stamp.{Stamp}
@@ -12,9 +14,10 @@ use Rattle.hk_snap.specs.declared.rule.Publication.{Publication}
 use Rattle.hk_snap.specs.declared.snapshot.Snapshot.{Snapshot}
 use Rattle.hk_snap.specs.declared.snapshot.Shape.{Shape}
 use Rattle.hk_snap.specs.declared.snapshot.Shape.TheVariants.{Small, Large, Missing}
-use Rattle.hk_snap.specs.Packed.{packed, unpacked, AreBytes}
-use Rattle.hk_snap.specs.Layout.{state_number, state_numbered, data_in, words_of, no_words, words_at, shown_in, IsInWords, AreWords}
-use Rattle.hk_snap.proofs.Packing.{unpacks, length_packed}
+use Rattle.hk_snap.specs.Packed.{packed, unpacked, words_for, bytes_in, AreBytes}
+use Rattle.hk_snap.specs.Layout.{state_number, state_numbered, data_in, used, head_words, words_of, no_words, words_at, shown_in, IsInWords, AreWords}
+use Rattle.hk_snap.proofs.Packing.{unpacks, length_packed, enough}
+use Rattle.hk_snap.proofs.Using.{used_words}
 use Rattle.hk_snap.specs.Snapshots.{last_shown, snapshot_of, shape_of, IsNext, IsRising}
 use Rattle.hk_snap.specs.Rule.{IsInRange}
 
@@ -45,27 +48,37 @@ state_back Write = refl
 state_back Replay = refl
 state_back Trans = refl
 
--- behind the head stand the words of the key, and then those of the data
-key_back : (key small : List ℕ) → take 32 (packed 32 key ++ small) ≡ packed 32 key
-key_back key small = ap (λ n. take n (packed 32 key ++ small)) (sym (length_packed 32 key)) ∙ take-append_seam (packed 32 key) small
+-- the key and the data stand one behind the other
+key_back : (key small rest : List ℕ) → AreBytes key → bytes_in (length key) ((packed (words_for (length key)) key ++ small) ++ rest) ≡ key
+key_back key small rest all =
+    let n : ℕ = words_for (length key) in
+    ap (λ l. take (length key) (unpacked l)) (ap (take n) (append_assoc (packed n key) small rest) ∙ take_at (packed n key) (small ++ rest) n (length_packed n key))
+    ∙ unpacks n key all (enough (length key))
 
-small_back : (key small : List ℕ) → take 125 (drop 32 (packed 32 key ++ packed 125 small)) ≡ packed 125 small
-small_back key small =
-    ap (take 125) (ap (λ n. drop n (packed 32 key ++ packed 125 small)) (sym (length_packed 32 key)) ∙ drop-append_seam (packed 32 key) (packed 125 small))
-    ∙ (ap (λ n. take n (packed 125 small)) (sym (length_packed 125 small)) ∙ take-length (packed 125 small))
+small_back : (front small rest : List ℕ) (n : ℕ) → AreBytes small → length front ≡ n → bytes_in (length small) (drop n ((front ++ packed (words_for (length small)) small) ++ rest)) ≡ small
+small_back front small rest n all long =
+    let m : ℕ = words_for (length small) in
+    let behind : drop n ((front ++ packed m small) ++ rest) ≡ packed m small ++ rest = ap (drop n) (append_assoc front (packed m small) rest) ∙ drop_at front (packed m small ++ rest) n long in
+    ap (λ l. take (length small) (unpacked l)) (ap (take m) behind ∙ take_at (packed m small) rest m (length_packed m small))
+    ∙ unpacks m small all (enough (length small))
 
--- what stands for a snapshot shows it
-snapshot_back : (key : List ℕ) (state : State) (stamp : Stamp) (ticket : ℕ) (shape : Shape) → let s : Snapshot = record { key = key; state = state; stamp = stamp; ticket = ticket; shape = shape } in IsInWords s → shown_in (words_of s) ≡ Some s
+-- words that begin with those of a snapshot show it
+snapshot_back : (key : List ℕ) (state : State) (stamp : Stamp) (ticket : ℕ) (shape : Shape) (rest : List ℕ) → let s : Snapshot = record { key = key; state = state; stamp = stamp; ticket = ticket; shape = shape } in
+    IsInWords s → shown_in (words_of s ++ rest) ≡ Some s
 unfolding words_of shown_in
-snapshot_back key state stamp ticket (Small content) is =
-    let k : take (length key) (unpacked (take 32 (packed 32 key ++ packed 125 content.bytes))) ≡ key = ap (λ l. take (length key) (unpacked l)) (key_back key (packed 125 content.bytes)) ∙ unpacks 32 key is.key_bytes (omega (arith, is.key)) in
-    let d : take (length content.bytes) (unpacked (take 125 (drop 32 (packed 32 key ++ packed 125 content.bytes)))) ≡ content.bytes = ap (λ l. take (length content.bytes) (unpacked l)) (small_back key content.bytes) ∙ unpacks 125 content.bytes is.small_bytes (omega (arith, is.small)) in
+snapshot_back key state stamp ticket (Small content) rest is =
+    let s : Snapshot = record { key = key; state = state; stamp = stamp; ticket = ticket; shape = Small content } in
+    let n : ℕ = words_for (length key) in
+    let m : ℕ = words_for (length content.bytes) in
+    let k = key_back key (packed m content.bytes) rest is.key_bytes in
+    let front : length (head_words s ++ packed n key) ≡ 9 + n = length-append (head_words s) (packed n key) ∙ ap (λ (z : ℕ). 9 + z) (length_packed n key) in
+    let d = small_back (head_words s ++ packed n key) content.bytes rest (9 + n) is.small_bytes front in
     λ i. Some (record { key = k i; state = state_back state i; stamp = stamp; ticket = ticket; shape = Small (record { flags = content.flags; bytes = d i }) })
-snapshot_back key state stamp ticket Large is =
-    let k : take (length key) (unpacked (take 32 (packed 32 key ++ packed 125 []))) ≡ key = ap (λ l. take (length key) (unpacked l)) (key_back key (packed 125 [])) ∙ unpacks 32 key is.key_bytes (omega (arith, is.key)) in
+snapshot_back key state stamp ticket Large rest is =
+    let k = key_back key (packed (words_for 0) []) rest is.key_bytes in
     λ i. Some (record { key = k i; state = state_back state i; stamp = stamp; ticket = ticket; shape = Large })
-snapshot_back key state stamp ticket Missing is =
-    let k : take (length key) (unpacked (take 32 (packed 32 key ++ packed 125 []))) ≡ key = ap (λ l. take (length key) (unpacked l)) (key_back key (packed 125 [])) ∙ unpacks 32 key is.key_bytes (omega (arith, is.key)) in
+snapshot_back key state stamp ticket Missing rest is =
+    let k = key_back key (packed (words_for 0) []) rest is.key_bytes in
     λ i. Some (record { key = k i; state = state_back state i; stamp = stamp; ticket = ticket; shape = Missing })
 
 small_few : (content : Content) (large : Bool) → large ≡ nat_lt MAX_SMALL_LEN (length content.bytes) → length (data_in (if large then Large else Small content)) ≤ 1000
@@ -83,25 +96,33 @@ small_bytes_by content false all i = all i
 pub small_bytes : (content : Content) → AreBytes content.bytes → AreBytes (data_in (shape_of (Some content)))
 small_bytes content all = small_bytes_by content (nat_lt MAX_SMALL_LEN (length content.bytes)) all
 
-words_back : (s : Snapshot) → IsInWords s → AreWords (words_of s)
+wide_back : (s : Snapshot) (rest : List ℕ) → used (length s.key) (length (data_in s.shape)) ≤ length (words_of s ++ rest)
+wide_back s rest = let all : length (words_of s ++ rest) ≡ used (length s.key) (length (data_in s.shape)) + length rest = length-append (words_of s) rest ∙ ap (λ (n : ℕ). n + length rest) (used_words s) in omega (arith, all)
+
+words_back : (s : Snapshot) (rest : List ℕ) → IsInWords s → AreWords (words_of s ++ rest)
 unfolding words_of
-words_back s is = record { version = is.version; node = is.node; flags = is.flags; key = is.key; small = is.small }
+words_back s rest is = record { version = is.version; node = is.node; flags = is.flags; key = is.key; small = is.small; wide = wide_back s rest }
 
-pub nothing_shown : shown_in no_words ≡ None
+nothing_back : (rest : List ℕ) → (shown_in (no_words ++ rest) ≡ None) × AreWords (no_words ++ rest)
 unfolding shown_in no_words
-nothing_shown = refl
+nothing_back rest = (refl, record { version = omega arith; node = omega arith; flags = omega arith; key = omega arith; small = omega arith; wide = omega arith })
 
-pub nothing_in : AreWords no_words
-unfolding no_words
-nothing_in = record { version = omega arith; node = omega arith; flags = omega arith; key = omega arith; small = omega arith }
+abbrev CanShow : Option Snapshot → Type 0
+CanShow None = ⊤
+CanShow (Some s) = IsInWords s
 
--- what the words of a list's last show
-pub shows_last : (log : List Publication) → AllByRecursion IsInRange log → shown_in (words_at (last_shown log)) ≡ last_shown log
-shows_last [] all = nothing_shown
-shows_last (p ∷ []) all = snapshot_back (snapshot_of p).key (snapshot_of p).state (snapshot_of p).stamp (snapshot_of p).ticket (snapshot_of p).shape all.0
-shows_last (p ∷ q ∷ log) all = shows_last (q ∷ log) all.1
+shown_back : (shown : Option Snapshot) (rest : List ℕ) → CanShow shown → (shown_in (words_at shown ++ rest) ≡ shown) × AreWords (words_at shown ++ rest)
+shown_back None rest is = nothing_back rest
+shown_back (Some s) rest is = (snapshot_back s.key s.state s.stamp s.ticket s.shape rest is, words_back s rest is)
 
-pub words_of_last : (log : List Publication) → AllByRecursion IsInRange log → AreWords (words_at (last_shown log))
-words_of_last [] all = nothing_in
-words_of_last (p ∷ []) all = words_back (snapshot_of p) all.0
-words_of_last (p ∷ q ∷ log) all = words_of_last (q ∷ log) all.1
+last_in_range : (log : List Publication) → AllByRecursion IsInRange log → CanShow (last_shown log)
+last_in_range [] all = tt
+last_in_range (p ∷ []) all = all.0
+last_in_range (p ∷ q ∷ log) all = last_in_range (q ∷ log) all.1
+
+-- what words show that begin with those of a list's last
+pub shows_last : (log : List Publication) (words : List ℕ) → AllByRecursion IsInRange log → IsPrefix (words_at (last_shown log)) words → shown_in words ≡ last_shown log
+shows_last log words all p = ap shown_in (sym p.1) ∙ (shown_back (last_shown log) p.0 (last_in_range log all)).0
+
+pub words_of_last : (log : List Publication) (words : List ℕ) → AllByRecursion IsInRange log → IsPrefix (words_at (last_shown log)) words → AreWords words
+words_of_last log words all p = subst AreWords p.1 (shown_back (last_shown log) p.0 (last_in_range log all)).1

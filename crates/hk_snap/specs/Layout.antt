@@ -1,5 +1,5 @@
--- The words of a snapshot. No contract of a public call rests on their layout: what is loaded is said by `last_shown`.
-use Rattle.std.specs.Prelude.{ℕ, ◌<◌, ◌≤◌, ◌^◌, List, [], ◌∷◌, ◌++◌, length, take, drop, replicate, slice_index, Option, Some, None, ◌==◌, if◌then◌else◌}
+-- The words in use of a snapshot, with which a cell's words begin. No contract of a public call rests on their layout: what is loaded is said by `last_shown`.
+use Rattle.std.specs.Prelude.{ℕ, ◌+◌, ◌<◌, ◌≤◌, ◌^◌, List, [], ◌∷◌, ◌++◌, length, drop, replicate, slice_index, Option, Some, None, ◌==◌, if◌then◌else◌}
 use Rattle.hk_base.specs.Range.{IsWithin}
 use Rattle.hk_base.specs.declared.call.State.{State}
 use Rattle.hk_base.specs.declared.call.State.TheVariants.{Valid, Invalid, Write, Replay, Trans}
@@ -7,7 +7,7 @@ use Rattle.hk_base.specs.declared.stamp.TheConstants.{MAX_VERSION}
 use Rattle.hk_snap.specs.declared.snapshot.Snapshot.{Snapshot}
 use Rattle.hk_snap.specs.declared.snapshot.Shape.{Shape}
 use Rattle.hk_snap.specs.declared.snapshot.Shape.TheVariants.{Small, Large, Missing}
-use Rattle.hk_snap.specs.Packed.{packed, unpacked, AreBytes}
+use Rattle.hk_snap.specs.Packed.{packed, words_for, bytes_in, AreBytes}
 
 abbrev pub state_number : State → ℕ
 state_number Valid = 0
@@ -36,41 +36,45 @@ data_in shape = []
 abbrev pub shape_numbered : ℕ → ℕ → List ℕ → Shape
 shape_numbered n flags bytes = if n == 1 then Small (record { flags = flags; bytes = bytes }) else if n == 2 then Large else Missing
 
--- the first eight words
+-- how many words show a key and data of these lengths
+abbrev pub used : ℕ → ℕ → ℕ
+used key small = 9 + words_for key + words_for small
+
+-- the first nine words; the first of all tells how many are in use
 abbrev pub head_words : Snapshot → List ℕ
 head_words s =
-    shape_number s.shape ∷ state_number s.state ∷ s.stamp.version ∷ s.stamp.node ∷ s.ticket ∷ flags_in s.shape ∷ length s.key ∷ length (data_in s.shape) ∷ []
+    used (length s.key) (length (data_in s.shape)) ∷ shape_number s.shape ∷ state_number s.state ∷ s.stamp.version ∷ s.stamp.node ∷ s.ticket ∷ flags_in s.shape ∷ length s.key ∷ length (data_in s.shape) ∷ []
 
 -- the words that show a snapshot
 unfoldable pub words_of : Snapshot → List ℕ
-words_of s = head_words s ++ packed 32 s.key ++ packed 125 (data_in s.shape)
+words_of s = head_words s ++ packed (words_for (length s.key)) s.key ++ packed (words_for (length (data_in s.shape))) (data_in s.shape)
 
--- the words of a cell in which nothing was published
+-- those of a cell in which nothing was published: a head alone
 unfoldable pub no_words : List ℕ
-no_words = replicate 165 0
+no_words = 9 ∷ replicate 8 0
 
 abbrev pub words_at : Option Snapshot → List ℕ
 words_at None = no_words
 words_at (Some s) = words_of s
 
 abbrev pub key_in : List ℕ → List ℕ
-key_in words = take (slice_index words 6) (unpacked (take 32 (drop 8 words)))
+key_in words = bytes_in (slice_index words 7) (drop 9 words)
 
 abbrev pub small_in : List ℕ → List ℕ
-small_in words = take (slice_index words 7) (unpacked (take 125 (drop 40 words)))
+small_in words = bytes_in (slice_index words 8) (drop (9 + words_for (slice_index words 7)) words)
 
 abbrev pub snapshot_in : List ℕ → Snapshot
 snapshot_in words = record {
   key = key_in words;
-  state = state_numbered (slice_index words 1);
-  stamp = record { version = slice_index words 2; node = slice_index words 3 };
-  ticket = slice_index words 4;
-  shape = shape_numbered (slice_index words 0) (slice_index words 5) (small_in words);
+  state = state_numbered (slice_index words 2);
+  stamp = record { version = slice_index words 3; node = slice_index words 4 };
+  ticket = slice_index words 5;
+  shape = shape_numbered (slice_index words 1) (slice_index words 6) (small_in words);
 }
 
 -- what words show
 unfoldable pub shown_in : List ℕ → Option Snapshot
-shown_in words = if slice_index words 0 == 0 then None else Some (snapshot_in words)
+shown_in words = if slice_index words 1 == 0 then None else Some (snapshot_in words)
 
 -- words can show it: its parts are within the ranges of their types
 pub record IsInWords (s : Snapshot) : Type 0 where
@@ -82,10 +86,11 @@ pub record IsInWords (s : Snapshot) : Type 0 where
   pub small : length (data_in s.shape) ≤ 1000
   pub small_bytes : AreBytes (data_in s.shape)
 
--- the first words are within the ranges of what they stand for
+-- the first words are within the ranges of what they stand for, and as many stand behind them as these tell
 pub record AreWords (words : List ℕ) : Type 0 where
-  pub version : slice_index words 2 ≤ MAX_VERSION
-  pub node : slice_index words 3 < 2 ^ 16
-  pub flags : slice_index words 5 < 2 ^ 32
-  pub key : slice_index words 6 ≤ 250
-  pub small : slice_index words 7 ≤ 1000
+  pub version : slice_index words 3 ≤ MAX_VERSION
+  pub node : slice_index words 4 < 2 ^ 16
+  pub flags : slice_index words 6 < 2 ^ 32
+  pub key : slice_index words 7 ≤ 250
+  pub small : slice_index words 8 ≤ 1000
+  pub wide : used (slice_index words 7) (slice_index words 8) ≤ length words

@@ -1,5 +1,5 @@
 -- Bytes in words of eight, the first byte lowest.
-use Rattle.std.specs.Prelude.{ℕ, zero, suc, ◌-◌, ◌<◌, List, [], ◌∷◌, ◌++◌, length, take, drop, replicate, slice_index}
+use Rattle.std.specs.Prelude.{ℕ, zero, suc, ◌+◌, ◌-◌, ◌/◌, ◌%◌, ◌<◌, min, List, [], ◌∷◌, ◌++◌, length, take, drop, replicate, slice_index}
 use Rattle.std.specs.Int.{from_le_bytes, to_le_bytes, w64}
 
 -- the first eight bytes, and zeros where there are fewer
@@ -17,6 +17,14 @@ packed n bytes = words_from n bytes
 abbrev pub unpacked : List ℕ → List ℕ
 unpacked [] = []
 unpacked (word ∷ words) = to_le_bytes w64 word ++ unpacked words
+
+-- how many words so many bytes take
+abbrev pub words_for : ℕ → ℕ
+words_for n = n / 8 + min 1 (n % 8)
+
+-- the first so many of the bytes that stand in the words
+abbrev pub bytes_in : ℕ → List ℕ → List ℕ
+bytes_in n words = take n (unpacked (take (words_for n) words))
 
 -- bytes are below 256
 abbrev pub AreBytes : List ℕ → Type 0

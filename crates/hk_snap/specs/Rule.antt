@@ -43,24 +43,24 @@ with_published v p = record { publishes = v.publishes; seen = v.seen ++ p ∷ []
 abbrev pub Fits : ℕ → List Publication → ℕ → Knowledge → Type 0
 Fits seat log by v = IsPrefix v.seen log × IsPrefix v.claim log × (v.publishes ≡ true → (by ≡ seat) × (v.seen ≡ log))
 
--- The words show the last of the list, in which tickets rise.
+-- The words begin with those that show the last of the list, in which tickets rise.
 abbrev pub Kept : List ℕ → List Knowledge → Type 0
 Kept words views =
-    (seat : ℕ) × (log : List Publication) × (words ≡ words_at (last_shown log)) × IsRising log × AllByRecursion IsInRange log
+    (seat : ℕ) × (log : List Publication) × IsPrefix (words_at (last_shown log)) words × IsRising log × AllByRecursion IsInRange log
     × ((by : ℕ) (v : Knowledge) → get_elem? views by ≡ some v → Fits seat log by v)
 
 -- a store: this is published
 abbrev pub Adds : Publication → Knowledge → List ℕ → List ℕ → Knowledge → Type 0
 Adds p v before after w = (w ≡ with_published v p) × (IsRising v.seen → IsRising w.seen)
 
--- a load: the list that is seen begins with what was seen before, and the words show its last
+-- a load: the list that is seen begins with what was seen before, and the words begin with those that show its last
 abbrev pub Loaded : Knowledge → List ℕ → List ℕ → Knowledge → Type 0
 Loaded v before after w =
-    (w.publishes ≡ v.publishes) × (w.claim ≡ v.claim) × IsPrefix v.seen w.seen × (after ≡ words_at (last_shown w.seen)) × IsRising w.seen
+    (w.publishes ≡ v.publishes) × (w.claim ≡ v.claim) × IsPrefix v.seen w.seen × IsPrefix (words_at (last_shown w.seen)) after × IsRising w.seen
     × AllByRecursion IsInRange w.seen × (w.loads ≡ v.loads + 1)
 
 -- a load by the writer: what was claimed is a beginning of the list
 abbrev pub Compared : Knowledge → List ℕ → List ℕ → Knowledge → Type 0
 Compared v before after w =
     (w ≡ record { publishes = v.publishes; seen = v.seen; loads = v.loads + 1; claim = [] }) × IsPrefix v.claim v.seen
-    × (after ≡ words_at (last_shown v.seen)) × IsRising v.seen × AllByRecursion IsInRange v.seen
+    × IsPrefix (words_at (last_shown v.seen)) after × IsRising v.seen × AllByRecursion IsInRange v.seen

@@ -46,6 +46,8 @@ pub fn cell_of(key: &Key) -> u8
 #[derive(Drop)]
 pub struct SnapWriter {
     ends: Vec<CellWriter>,
+    /// Where the words of a row are made before they are stored.
+    room: Words,
 }
 
 impl Model for SnapWriter {
@@ -95,7 +97,7 @@ impl SnapWriter {
         ensures { self.new ≡ with_publication self.old (published key.now row.now ticket call) }
     {
         let cell = cell_of(key);
-        self.ends[usize::from(cell)].publish(rt, key, row, ticket, call);
+        self.ends[usize::from(cell)].publish(rt, &mut self.room, key, row, ticket, call);
     }
 
     /// By one load the reader has seen all of a cell's list, also what the cell doesn't show. The reader is of the same cells.
@@ -250,7 +252,10 @@ pub fn cells<R: Wait>(_rt: &R, alloc: Global) -> Result<(SnapWriter, SnapReader)
     let mut writers = writers(alloc, CELLS)?;
     let readers = readers(alloc, &mut writers)?;
     Ok((
-        SnapWriter { ends: writers },
+        SnapWriter {
+            ends: writers,
+            room: no_words(),
+        },
         SnapReader {
             ends: readers,
             room: no_words(),

@@ -11,18 +11,19 @@ ghost use Rattle.hk_snap.specs.Ends.{writing_end, another};
 
 use crate::rule::{Cell, CellPass, Picked, Words};
 use crate::steps::{cell, join, load, meet, put, see, split};
-use crate::words::words_of;
+use crate::words::show_row;
 use hk_base::{CallNo, Key, Memory};
 use hk_key::Row;
 use std::alloc::Global;
 use std::marker::{Brand, Model};
 use std::sync::{Arc, Wait};
 
-// Stores the words of the row that the caller picked.
+// Stores the words of the row that the caller picked. They are made in the room.
 fn store<P: Picked, R: Wait>(
     rt: &R,
     cell: &Cell,
     pass: &mut CellPass,
+    room: &mut Words,
     key: &Key,
     row: &Row,
     ticket: u64,
@@ -36,8 +37,8 @@ fn store<P: Picked, R: Wait>(
     ensures cell { pass.new.table_id ≡ pass.old.table_id }
     ensures added { Adds P.publication (cell_view pass.old) [] [] (cell_view pass.new) }
 {
-    let words = words_of(key, row, ticket);
-    put::<P, R>(rt, cell, pass, &words);
+    show_row(room, key, row, ticket);
+    put::<P, R>(rt, cell, pass, room);
 }
 
 /// The end that publishes.
@@ -91,10 +92,11 @@ impl CellWriter {
         Ok(CellWriter { cell, pass })
     }
 
-    // Publishes the row: one store.
+    // Publishes the row: one store. Its words are made in the room.
     pub(crate) fn publish<R: Wait>(
         &mut self,
         rt: &R,
+        room: &mut Words,
         key: &Key,
         row: &Row,
         ticket: u64,
@@ -104,7 +106,7 @@ impl CellWriter {
         requires within { IsWithin row.now.stamp }
         ensures { self.new ≡ writing_end self.old.name (self.old.seen ++ published key.now row.now ticket call ∷ []) }
     {
-        store::<Brand, R>(rt, &self.cell, &mut self.pass, key, row, ticket, call);
+        store::<Brand, R>(rt, &self.cell, &mut self.pass, room, key, row, ticket, call);
     }
 
     // A reader that has seen all.

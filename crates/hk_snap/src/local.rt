@@ -9,7 +9,6 @@ ghost use Rattle.hk_snap.specs.Locals.{local_of, of_row, of_shape};
 
 use crate::cell_set::{SnapReader, cell_of};
 use crate::lease::LeaseCell;
-use crate::rule::Words;
 use crate::words::{content_in, shows_key, stamp_in, state_in};
 use hk_base::{Content, Key, Memory, State, Why};
 use hk_outside::Clock;
@@ -48,28 +47,28 @@ fn is_past(end: u64, now: u64, skew: u64) -> bool
 }
 
 // What is told of a Valid row.
-fn of_shape(alloc: Global, words: &Words) -> Result<Local, Memory>
+fn of_shape(alloc: Global, words: &[u64]) -> Result<Local, Memory>
     requires { AreWords words.now }
-    ensures { IfOk result (λ local. local ≡ of_shape (record { version = slice_index words.now 2; node = slice_index words.now 3 }) (slice_index words.now 4) (shape_numbered (slice_index words.now 0) (slice_index words.now 5) (small_in words.now))) }
+    ensures { IfOk result (λ local. local ≡ of_shape (record { version = slice_index words.now 3; node = slice_index words.now 4 }) (slice_index words.now 5) (shape_numbered (slice_index words.now 1) (slice_index words.now 6) (small_in words.now))) }
 {
-    if words[0] == 1 {
+    if words[1] == 1 {
         let content = content_in(alloc, words)?;
         return Ok(Local::Found {
             content,
             tag: stamp_in(words).tag(),
-            ticket: words[4],
+            ticket: words[5],
         });
     }
-    if words[0] == 2 {
+    if words[1] == 2 {
         return Ok(Local::Large);
     }
-    Ok(Local::Missing { ticket: words[4] })
+    Ok(Local::Missing { ticket: words[5] })
 }
 
 // What is told of the row that the words show.
-fn of_row(alloc: Global, words: &Words) -> Result<Local, Memory>
+fn of_row(alloc: Global, words: &[u64]) -> Result<Local, Memory>
     requires { AreWords words.now }
-    ensures { IfOk result (λ local. local ≡ of_row (state_numbered (slice_index words.now 1)) (record { version = slice_index words.now 2; node = slice_index words.now 3 }) (slice_index words.now 4) (shape_numbered (slice_index words.now 0) (slice_index words.now 5) (small_in words.now))) }
+    ensures { IfOk result (λ local. local ≡ of_row (state_numbered (slice_index words.now 2)) (record { version = slice_index words.now 3; node = slice_index words.now 4 }) (slice_index words.now 5) (shape_numbered (slice_index words.now 1) (slice_index words.now 6) (small_in words.now))) }
 {
     match state_in(words) {
         State::Valid => of_shape(alloc, words),
@@ -84,7 +83,7 @@ fn of_row(alloc: Global, words: &Words) -> Result<Local, Memory>
 #[tactic(auto, unfolding(crate::specs::Layout::shown_in))]
 pub(crate) fn local_of(
     alloc: Global,
-    words: &Words,
+    words: &[u64],
     key: &[u8],
     end: u64,
     now: u64,
@@ -93,7 +92,7 @@ pub(crate) fn local_of(
     requires { AreWords words.now }
     ensures { IfOk result (λ local. local ≡ local_of (shown_in words.now) key.now end now skew) }
 {
-    if words[0] == 0 {
+    if words[1] == 0 {
         return Ok(Local::Elsewhere);
     }
     if !shows_key(words, key) {

@@ -1,8 +1,8 @@
 //! Bytes in words, eight to a word.
 
-ghost use Rattle.std.specs.Prelude.{◌≡◌, ◌*◌, ◌<◌, length, drop};
+ghost use Rattle.std.specs.Prelude.{◌≡◌, ◌*◌, ◌<◌, ◌≤◌, length, drop};
 ghost use Rattle.std.specs.Int.{from_le_bytes, w64};
-ghost use Rattle.hk_snap.specs.Packed.{packed, unpacked, eight};
+ghost use Rattle.hk_snap.specs.Packed.{packed, unpacked, words_for, bytes_in, eight};
 
 // Fewer than eight bytes as a word.
 fn last_word(bytes: &[u8]) -> u64
@@ -42,12 +42,31 @@ pub(crate) fn pack(bytes: &[u8], words: &mut [u64])
     }
 }
 
+// How many words so many bytes take.
+pub(crate) fn words_for(len: usize) -> usize
+    ensures { result ≡ words_for len }
+{
+    len.div_ceil(8)
+}
+
 // Fills the room with the bytes of the words.
-pub(crate) fn unpack(words: &[u64], room: &mut [u8])
+fn unpack(words: &[u64], room: &mut [u8])
     requires { length room.old ≡ 8 * length words.now }
     ensures { room.new ≡ unpacked words.now }
 {
     for k in 0..words.len() {
         room[8 * k..8 * k + 8].copy_from_slice(&words[k].to_le_bytes());
     }
+}
+
+// So many bytes of those that stand in the words, put into the room.
+pub(crate) fn bytes_in<'a>(words: &[u64], len: usize, room: &'a mut [u8]) -> &'a [u8]
+    requires words { words_for len ≤ length words.now }
+    requires room { 8 * words_for len ≤ length room.old }
+    ensures { result.now ≡ bytes_in len words.now }
+{
+    let count = words_for(len);
+    let bytes = &mut room[..8 * count];
+    unpack(&words[..count], bytes);
+    &bytes[..len]
 }

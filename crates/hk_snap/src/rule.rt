@@ -31,10 +31,13 @@ pub struct Knowledge {
     pub claim: LinkedList<Publication>,
 }
 
-/// What a cell shows of a row: eight words about it, then the key in 32 words and the data in 125, eight bytes to a word.
-pub type Words = [u64; 165];
+/// How many words a cell has: nine about a row, and then its key in at most 32 and its data in at most 125, eight bytes to a word. The first tells how many are
+/// in use, and what stands behind those shows nothing.
+pub const CELL_WORDS: usize = 166;
 
-/// There is one list of all that was published. The words show its last, and each pass has seen a beginning.
+pub type Words = [u64; CELL_WORDS];
+
+/// There is one list of all that was published. The words in use show its last, and each pass has seen a beginning.
 pub struct OneList;
 
 impl Protocol<Words, Knowledge> for OneList {
@@ -146,6 +149,6 @@ impl Join<Knowledge> for Meets {
     ghost spent = { reader [] 0 };
 }
 
-pub type Cell = WordCell<Knowledge, OneList, 165>;
+pub type Cell = WordCell<Knowledge, OneList, CELL_WORDS>;
 
 pub type CellPass = Pass<Words, Knowledge>;

@@ -24,11 +24,11 @@ pub(crate) fn cell(alloc: Global) -> Result<(Cell, CellPass), Memory>
     Ok(made)
 }
 
-// Publishes what the caller picked: one store.
+// Publishes what the caller picked, which the words in use show: one store.
 pub(crate) fn put<P: Picked, R: Wait>(rt: &R, cell: &Cell, pass: &mut CellPass, words: &Words)
     requires cell { pass.old.table_id ≡ cell.now.table.shared.table_id }
     requires publishes { (cell_view pass.old).publishes ≡ true }
-    requires words { words.now ≡ words_of (snapshot_of P.publication) }
+    requires words { IsPrefix (words_of (snapshot_of P.publication)) words.now }
     requires next { IsNext (cell_view pass.old).seen P.publication }
     requires range { IsInRange P.publication }
     ensures cell { (pass.new.table_id ≡ pass.old.table_id) × (pass.new.id ≡ pass.old.id) }
@@ -81,7 +81,7 @@ pub(crate) fn meet<R: Wait>(
     ensures seen { ((cell_view writer.new).seen ≡ (cell_view writer.old).seen) × ((cell_view writer.new).publishes ≡ (cell_view writer.old).publishes) }
     ensures met { cell_view reader.new ≡ met (cell_view reader.old) (cell_view writer.old) }
     ensures grown { IsPrefix (cell_view reader.old).seen (cell_view writer.old).seen }
-    ensures words { room.new ≡ words_at (last_shown (cell_view writer.old).seen) }
+    ensures words { IsPrefix (words_at (last_shown (cell_view writer.old).seen)) room.new }
     ensures list { IsRising (cell_view writer.old).seen × AllByRecursion IsInRange (cell_view writer.old).seen }
 {
     let claim = cell.split_pass::<Reads>(reader);

@@ -1,20 +1,24 @@
 //! The words of a snapshot, both ways.
 
 ghost use Rattle.std.specs.Prelude.{◌≡◌, ◌+◌, ◌≤◌, ◌++◌, length, take, drop, slice_index, Option, None, IfOk};
+ghost use mathlib.Core.List.{IsPrefix};
 ghost use Rattle.std.specs.Str.{bytes_eq};
 ghost use Rattle.hk_base.specs.declared.call.CallNo.{CallNo};
-ghost use Rattle.hk_snap.specs.Packed.{packed, AreBytes};
+ghost use Rattle.hk_snap.specs.Packed.{packed, words_for, AreBytes};
 ghost use Rattle.hk_base.specs.Range.{IsWithin};
 ghost use Rattle.hk_snap.specs.Snapshots.{snapshot_of, published, shape_of, is_large, glance_of, shown_content};
 ghost use Rattle.hk_snap.specs.Layout.{no_words, words_of, state_number, state_numbered, shape_number, shape_numbered, flags_in, data_in, key_in, small_in, shown_in, AreWords};
 ghost use Rattle.hk_snap.specs.Rule.{IsInRange};
 
-use crate::pack::{pack, unpack};
-use crate::rule::Words;
+use crate::pack::{bytes_in, pack, words_for};
+use crate::rule::{CELL_WORDS, Words};
 use crate::snapshot::{Glance, MAX_SMALL_LEN, Shape, Snapshot};
 use hk_base::{Content, Data, Key, Memory, Stamp, State};
 use hk_key::Row;
 use std::alloc::Global;
+
+// How many words the head has.
+const HEAD: usize = 9;
 
 fn state_number(state: State) -> u64
     ensures { result ≡ state_number state }
@@ -63,54 +67,58 @@ fn shape(content: &Option<Content>) -> (u64, u32, &[u8])
     (1, content.flags, small)
 }
 
-// A cell's words with nothing in them.
-#[tactic(auto, unfolding(crate::specs::Layout::no_words))]
+// A cell's words with nothing published.
 pub(crate) fn no_words() -> Words
-    ensures nothing { result ≡ no_words }
+    ensures nothing { IsPrefix no_words result }
     ensures shown { shown_in result ≡ None }
     ensures words { AreWords result }
 {
-    [0; 165]
+    let mut words = [0; CELL_WORDS];
+    words[0] = HEAD as u64;
+    words
 }
 
 // Begins the words with the head.
 fn put_head(words: &mut Words, head: &[u64])
-    requires { length head.now ≡ 8 }
-    ensures { words.new ≡ head.now ++ drop 8 words.old }
+    requires { length head.now ≡ 9 }
+    ensures { words.new ≡ head.now ++ drop 9 words.old }
 {
-    words[..8].copy_from_slice(head);
+    words[..HEAD].copy_from_slice(head);
 }
 
 // Puts bytes into so many words, from a place on.
 fn put_bytes(words: &mut Words, from: usize, count: usize, bytes: &[u8])
-    requires { from + count ≤ 165 }
+    requires { from + count ≤ 166 }
     ensures { words.new ≡ take from words.old ++ packed count bytes.now ++ drop (from + count) words.old }
 {
     pack(bytes, &mut words[from..from + count]);
 }
 
-// The words of a head, a key and data.
-fn assembled(head: &[u64], key: &[u8], small: &[u8]) -> Words
-    requires { length head.now ≡ 8 }
-    ensures { result ≡ head.now ++ packed 32 key.now ++ packed 125 small.now }
+// Begins the words with a head, a key and data. Those behind stay.
+fn assemble(words: &mut Words, head: &[u64], key: &[u8], small: &[u8])
+    requires head { length head.now ≡ 9 }
+    requires few { (length key.now ≤ 250) × (length small.now ≤ 1000) }
+    ensures { IsPrefix (head.now ++ packed (words_for (length key.now)) key.now ++ packed (words_for (length small.now)) small.now) words.new }
 {
-    let mut words = no_words();
-    put_head(&mut words, head);
-    put_bytes(&mut words, 8, 32, key);
-    put_bytes(&mut words, 40, 125, small);
-    words
+    let key_words = words_for(key.len());
+    let small_words = words_for(small.len());
+    put_head(words, head);
+    put_bytes(words, HEAD, key_words, key);
+    put_bytes(words, HEAD + key_words, small_words, small);
 }
 
-// The words that show the row.
+// Begins the words with those that show the row.
 #[tactic(auto, unfolding(crate::specs::Layout::words_of))]
-pub(crate) fn words_of(key: &Key, row: &Row, ticket: u64) -> Words
+pub(crate) fn show_row(words: &mut Words, key: &Key, row: &Row, ticket: u64)
     requires { IsWithin row.now.stamp }
-    ensures words { (call : Option CallNo) → result ≡ words_of (snapshot_of (published key.now row.now ticket call)) }
+    ensures words { (call : Option CallNo) → IsPrefix (words_of (snapshot_of (published key.now row.now ticket call))) words.new }
     ensures range { (call : Option CallNo) → IsInRange (published key.now row.now ticket call) }
 {
     let (number, flags, small) = shape(&row.content);
     let key = key.bytes();
+    let used = HEAD + words_for(key.len()) + words_for(small.len());
     let head = [
+        used as u64,
         number,
         state_number(row.state),
         row.stamp.version,
@@ -120,87 +128,103 @@ pub(crate) fn words_of(key: &Key, row: &Row, ticket: u64) -> Words
         key.len() as u64,
         small.len() as u64,
     ];
-    assembled(&head, key, small)
+    assemble(words, &head, key, small);
+}
+
+// The bytes of the key that the words show, put into the room.
+fn key_bytes<'a>(words: &[u64], room: &'a mut [u8; 256]) -> &'a [u8]
+    requires { AreWords words.now }
+    ensures { result.now ≡ key_in words.now }
+{
+    bytes_in(&words[HEAD..], words[7] as usize, room)
+}
+
+// The bytes of the data that the words show, put into the room.
+fn small_bytes<'a>(words: &[u64], room: &'a mut [u8; 1_000]) -> &'a [u8]
+    requires { AreWords words.now }
+    ensures { result.now ≡ small_in words.now }
+{
+    let from = HEAD + words_for(words[7] as usize);
+    bytes_in(&words[from..], words[8] as usize, room)
 }
 
 // Whether the words show this key.
-pub(crate) fn shows_key(words: &Words, key: &[u8]) -> bool
+pub(crate) fn shows_key(words: &[u64], key: &[u8]) -> bool
     requires { AreWords words.now }
     ensures { result ≡ bytes_eq (key_in words.now) key.now }
 {
     let mut room = [0; 256];
-    unpack(&words[8..40], &mut room);
-    room[..words[6] as usize] == key[..]
+    let shown = key_bytes(words, &mut room);
+    shown == key
 }
 
-fn key_in(alloc: Global, words: &Words) -> Result<Key, Memory>
+fn key_in(alloc: Global, words: &[u64]) -> Result<Key, Memory>
     requires { AreWords words.now }
     ensures { IfOk result (λ key. key ≡ key_in words.now) }
 {
     let mut room = [0; 256];
-    unpack(&words[8..40], &mut room);
     // They are those of a key, so only memory can be wanting.
-    match Key::read(alloc, &room[..words[6] as usize]) {
+    match Key::read(alloc, key_bytes(words, &mut room)) {
         Ok(key) => Ok(key),
         Err(_) => Err(Memory),
     }
 }
 
 // The content that the words show, of a shape that is shown whole.
-pub(crate) fn content_in(alloc: Global, words: &Words) -> Result<Content, Memory>
+pub(crate) fn content_in(alloc: Global, words: &[u64]) -> Result<Content, Memory>
     requires { AreWords words.now }
-    ensures { IfOk result (λ content. content ≡ record { flags = slice_index words.now 5; bytes = small_in words.now }) }
+    ensures { IfOk result (λ content. content ≡ record { flags = slice_index words.now 6; bytes = small_in words.now }) }
 {
     let mut room = [0; 1_000];
-    unpack(&words[40..165], &mut room);
     // They are no more than data may have, so only memory can be wanting.
-    match Data::read(alloc, &room[..words[7] as usize]) {
+    match Data::read(alloc, small_bytes(words, &mut room)) {
         Ok(bytes) => Ok(Content {
-            flags: words[5] as u32,
+            flags: words[6] as u32,
             bytes,
         }),
         Err(_) => Err(Memory),
     }
 }
 
-fn shape_in(alloc: Global, words: &Words) -> Result<Shape, Memory>
+fn shape_in(alloc: Global, words: &[u64]) -> Result<Shape, Memory>
     requires { AreWords words.now }
-    ensures { IfOk result (λ shape. shape ≡ shape_numbered (slice_index words.now 0) (slice_index words.now 5) (small_in words.now)) }
+    ensures { IfOk result (λ shape. shape ≡ shape_numbered (slice_index words.now 1) (slice_index words.now 6) (small_in words.now)) }
 {
-    if words[0] == 1 {
+    if words[1] == 1 {
         let content = content_in(alloc, words)?;
         return Ok(Shape::Small(content));
     }
-    if words[0] == 2 {
+    if words[1] == 2 {
         return Ok(Shape::Large);
     }
     Ok(Shape::Missing)
 }
 
-pub(crate) fn state_in(words: &Words) -> State
-    ensures { result ≡ state_numbered (slice_index words.now 1) }
+pub(crate) fn state_in(words: &[u64]) -> State
+    requires { AreWords words.now }
+    ensures { result ≡ state_numbered (slice_index words.now 2) }
 {
-    state_numbered(words[1])
+    state_numbered(words[2])
 }
 
-pub(crate) fn stamp_in(words: &Words) -> Stamp
+pub(crate) fn stamp_in(words: &[u64]) -> Stamp
     requires { AreWords words.now }
-    ensures stamp { result ≡ record { version = slice_index words.now 2; node = slice_index words.now 3 } }
+    ensures stamp { result ≡ record { version = slice_index words.now 3; node = slice_index words.now 4 } }
     ensures within { IsWithin result }
 {
     Stamp {
-        version: words[2],
-        node: words[3] as u16,
+        version: words[3],
+        node: words[4] as u16,
     }
 }
 
 // What the words show.
 #[tactic(auto, unfolding(crate::specs::Layout::shown_in))]
-pub(crate) fn shown(alloc: Global, words: &Words) -> Result<Option<Snapshot>, Memory>
+pub(crate) fn shown(alloc: Global, words: &[u64]) -> Result<Option<Snapshot>, Memory>
     requires { AreWords words.now }
     ensures { IfOk result (λ shown. shown ≡ shown_in words.now) }
 {
-    if words[0] == 0 {
+    if words[1] == 0 {
         return Ok(None);
     }
     let key = key_in(alloc, words)?;
@@ -209,27 +233,28 @@ pub(crate) fn shown(alloc: Global, words: &Words) -> Result<Option<Snapshot>, Me
         key,
         state: state_in(words),
         stamp: stamp_in(words),
-        ticket: words[4],
+        ticket: words[5],
         shape,
     }))
 }
 
-fn is_large(words: &Words) -> bool
-    ensures { result ≡ is_large (shape_numbered (slice_index words.now 0) (slice_index words.now 5) (small_in words.now)) }
+fn is_large(words: &[u64]) -> bool
+    requires { AreWords words.now }
+    ensures { result ≡ is_large (shape_numbered (slice_index words.now 1) (slice_index words.now 6) (small_in words.now)) }
 {
-    if words[0] == 1 {
+    if words[1] == 1 {
         return false;
     }
-    words[0] == 2
+    words[1] == 2
 }
 
 // What the words show of the key beside its content.
 #[tactic(auto, unfolding(crate::specs::Layout::shown_in))]
-pub(crate) fn glance(words: &Words, key: &[u8]) -> Option<Glance>
+pub(crate) fn glance(words: &[u64], key: &[u8]) -> Option<Glance>
     requires { AreWords words.now }
     ensures { result ≡ glance_of (shown_in words.now) key.now }
 {
-    if words[0] == 0 {
+    if words[1] == 0 {
         return None;
     }
     if !shows_key(words, key) {
@@ -244,11 +269,11 @@ pub(crate) fn glance(words: &Words, key: &[u8]) -> Option<Glance>
 
 // The content that the words show, if they show one.
 #[tactic(auto, unfolding(crate::specs::Layout::shown_in))]
-pub(crate) fn shown_content(alloc: Global, words: &Words) -> Result<Option<Content>, Memory>
+pub(crate) fn shown_content(alloc: Global, words: &[u64]) -> Result<Option<Content>, Memory>
     requires { AreWords words.now }
     ensures { IfOk result (λ content. content ≡ shown_content (shown_in words.now)) }
 {
-    if words[0] == 1 {
+    if words[1] == 1 {
         let content = content_in(alloc, words)?;
         return Ok(Some(content));
     }

@@ -1,6 +1,7 @@
-use Rattle.std.proofs.Common.{rules, ℕ, sym, subst, ◌∙◌}
+use Rattle.std.proofs.Common.{rules, ℕ, List, sym, subst, ◌∙◌}
 use Rattle.crossbeam_utils.proofs.SeqKeeps.{looks, checks}
 use Rattle.crossbeam_utils.specs.Register.{Turns}
+use Rattle.hk_seq.specs.Steps.{HasInUse}
 use Rattle.hk_seq.proofs.Keeps.{read_whole}
 use Rattle.hk_seq.proofs.cell.WordCell+V+P+N+A.load_as.Goals as goal
 
@@ -19,5 +20,5 @@ load-requires g c =
 pub returns-then-load-version-clause-rule : goal.returns-then-load-version-clause-rule
 returns-then-load-version-clause-rule g c =
     let view = c.gather.ensures.0.2 ∙ (c.load-version.ensures.2.0 ∙ c.loop.invariant.2) in
-    subst (λ (v : g.row.V.Denot). g.M.Outcome.then v c.gather.new.room c.gather.new.room c.load.new.seat.me.0.client) view
-    (read_whole g.M.Outcome.then _ _ _ _ _ _ _ (search rules) c.load-version.ensures.2.1 c.gather.ensures.1 c.gather.ensures.2 (search rules))
+    subst (λ (v : g.row.V.Denot). (x : List ℕ) × g.M.Outcome.then v x x c.load.new.seat.me.0.client × HasInUse g.row.N c.gather.new.room x) view
+    (read_whole g.M.Outcome.then _ _ _ _ _ _ _ (search rules) c.load-version.ensures.2.1 c.gather.ensures.1 (search rules))

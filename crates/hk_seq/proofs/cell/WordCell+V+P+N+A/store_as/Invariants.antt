@@ -1,4 +1,3 @@
-use Rattle.std.proofs.Common.{◌≡◌}
 use Rattle.crossbeam_utils.specs.Seq.{Stays}
 use Rattle.hk_seq.specs.Steps.{IsWriting}
 use Rattle.hk_seq.proofs.cell.WordCell+V+P+N+A.store_as.Given as goal

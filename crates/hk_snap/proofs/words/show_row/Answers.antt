@@ -3,7 +3,7 @@ use Rattle.hk_snap.specs.Snapshots.{shape_of}
 use Rattle.hk_snap.specs.Packed.{AreBytes}
 use Rattle.hk_snap.specs.Layout.{flags_in, data_in}
 use Rattle.hk_snap.proofs.Shows.{few}
-use Rattle.hk_snap.proofs.words.words_of.Goals as goal
+use Rattle.hk_snap.proofs.words.show_row.Goals as goal
 
 pub returns-clause-range : goal.returns-clause-range
 returns-clause-range c =
