@@ -45,6 +45,16 @@ pub fn shard_of(key: &Key) -> u8
     shard as u8
 }
 
+// No entries, with room for so many. Where there is no memory for that, the journal takes its room as it grows.
+fn empty_journal(alloc: Global, entries: usize) -> Journal
+    ensures { result ≡ [] }
+{
+    match Vec::with_capacity(alloc, entries) {
+        Ok(room) => Journal::from_vec(room),
+        Err(_) => Journal::new(alloc),
+    }
+}
+
 /// A shard of a node. Contracts see its base, its journal and its part, the ticket of the last event, and what its cells and its
 /// lease cell have shown.
 #[derive(Drop)]
@@ -138,7 +148,7 @@ impl Shard {
         Ok(out)
     }
 
-    /// Hands out the journal, and begins a new one: the base becomes the part. It looks at no row and at no entry.
+    /// Hands out the journal, and begins a new one with room for as many entries: the base becomes the part. It looks at no row and at no entry.
     pub fn checkpoint(&mut self, alloc: Global) -> Result<Journal, Memory>
         ensures journal { IfOk result (λ journal. journal ≡ self.old.journal) }
         ensures anew { OnOk result (self.new ≡ checkpointed self.old) }
@@ -146,7 +156,8 @@ impl Shard {
     {
         mem::swap(&mut self.replaced, &mut self.spent);
         self.replaced.clear();
-        Ok(mem::replace(&mut self.journal, Journal::new(alloc)))
+        let next = empty_journal(alloc, self.journal.len());
+        Ok(mem::replace(&mut self.journal, next))
     }
 
     /// By one load the reader has seen all that was published in a cell, with the calls and the contents that the cell doesn't

@@ -6,7 +6,7 @@ use Rattle.hk_shard.proofs.shard.Shard.checkpoint.Goals as goal
 
 pub invariant_of-self : goal.invariant_of-self
 invariant_of-self c =
-    let kept = checkpoint_by _ c.replace.new.dest c.clear.new.self.items c.self.invariant.0 (c.replace.ensures.after ∙ c.new.ensures) c.clear.ensures.items in
+    let kept = checkpoint_by _ c.replace.new.dest c.clear.new.self.items c.self.invariant.0 (c.replace.ensures.after ∙ c.empty_journal-next.ensures) c.clear.ensures.items in
     (kept.0, kept.1, c.self.invariant.2, c.self.invariant.3)
 
 pub returns-clause-anew : goal.returns-clause-anew
@@ -19,4 +19,4 @@ returns-clause-anew c =
       ends = c.self.inside.writer;
       lease = c.self.inside.keeper;
     } in
-    checkpoint_is s c.replace.new.dest c.clear.new.self.items (c.replace.ensures.after ∙ c.new.ensures) c.clear.ensures.items ∙ ap checkpointed c.self.view_is
+    checkpoint_is s c.replace.new.dest c.clear.new.self.items (c.replace.ensures.after ∙ c.empty_journal-next.ensures) c.clear.ensures.items ∙ ap checkpointed c.self.view_is
