@@ -1,9 +1,7 @@
 -- A list in which one more is published.
-use Rattle.std.specs.Prelude.{⊤}
-use Rattle.std.proofs.Common.{◌≡◌, ℕ, ◌+◌, ◌≤◌, List, [], ◌∷◌, ◌++◌, length, take, drop, Option, Some, None, Bool, true, false, if◌then◌else◌, nat_lt, refl, sym, ap, ◌∙◌, subst, arith, append_assoc, length-append}
+use Rattle.std.proofs.Common.{◌≡◌, ℕ, ◌+◌, ◌≤◌, List, [], ◌∷◌, ◌++◌, length, take, drop, Option, Some, None, Bool, true, false, if◌then◌else◌, nat_lt, refl, ap, ◌∙◌, arith, append_assoc, length-append}
 use Rattle.std.specs.List.{AllByRecursion}
 use Rattle.std.proofs.lemmas.List.{take_at, drop_at}
-use mathlib.Core.List.{IsPrefix}
 use Rattle.hk_base.specs.declared.call.State.{State}
 use Rattle.hk_base.specs.declared.call.State.TheVariants.{Valid, Invalid, Write, Replay, Trans}
 use Rattle.hk_base.specs.declared.stamp.Stamp.{Stamp}
@@ -15,10 +13,11 @@ use Rattle.hk_snap.specs.declared.snapshot.Snapshot.{Snapshot}
 use Rattle.hk_snap.specs.declared.snapshot.Shape.{Shape}
 use Rattle.hk_snap.specs.declared.snapshot.Shape.TheVariants.{Small, Large, Missing}
 use Rattle.hk_snap.specs.Packed.{packed, unpacked, words_for, bytes_in, AreBytes}
-use Rattle.hk_snap.specs.Layout.{state_number, state_numbered, data_in, used, head_words, words_of, no_words, words_at, shown_in, IsInWords, AreWords}
+use Rattle.hk_snap.specs.Layout.{state_number, state_numbered, data_in, used, head_words, words_of, no_words, words_at, shown_in, IsInWords, AreFront, AreWords, CanShow}
 use Rattle.hk_snap.proofs.Packing.{unpacks, length_packed, enough}
 use Rattle.hk_snap.proofs.Using.{used_words}
-use Rattle.hk_snap.specs.Snapshots.{last_shown, snapshot_of, shape_of, IsNext, IsRising}
+use Rattle.std.specs.Str.{bytes_eq}
+use Rattle.hk_snap.specs.Snapshots.{last_shown, snapshot_of, shape_of, glance_of, IsNext, IsRising}
 use Rattle.hk_snap.specs.Rule.{IsInRange}
 
 pub last_of_more : (log : List Publication) (p : Publication) → last_shown (log ++ p ∷ []) ≡ Some (snapshot_of p)
@@ -99,30 +98,44 @@ small_bytes content all = small_bytes_by content (nat_lt MAX_SMALL_LEN (length c
 wide_back : (s : Snapshot) (rest : List ℕ) → used (length s.key) (length (data_in s.shape)) ≤ length (words_of s ++ rest)
 wide_back s rest = let all : length (words_of s ++ rest) ≡ used (length s.key) (length (data_in s.shape)) + length rest = length-append (words_of s) rest ∙ ap (λ (n : ℕ). n + length rest) (used_words s) in omega (arith, all)
 
+pub front_back : (s : Snapshot) (small rest : List ℕ) → IsInWords s → AreFront (((head_words s ++ packed (words_for (length s.key)) s.key) ++ small) ++ rest)
+front_back s small rest is =
+    let n : ℕ = words_for (length s.key) in
+    let front : List ℕ = head_words s ++ packed n s.key in
+    let long : length front ≡ 9 + n = length-append (head_words s) (packed n s.key) ∙ ap (λ (z : ℕ). 9 + z) (length_packed n s.key) in
+    let all : length ((front ++ small) ++ rest) ≡ length front + length small + length rest = length-append (front ++ small) rest ∙ ap (λ (z : ℕ). z + length rest) (length-append front small) in
+    record { version = is.version; node = is.node; key = is.key; place = omega (arith, long, all) }
+
 words_back : (s : Snapshot) (rest : List ℕ) → IsInWords s → AreWords (words_of s ++ rest)
 unfolding words_of
-words_back s rest is = record { version = is.version; node = is.node; flags = is.flags; key = is.key; small = is.small; wide = wide_back s rest }
+words_back s rest is = record { front = front_back s (packed (words_for (length (data_in s.shape))) (data_in s.shape)) rest is; flags = is.flags; small = is.small; wide = wide_back s rest }
 
 nothing_back : (rest : List ℕ) → (shown_in (no_words ++ rest) ≡ None) × AreWords (no_words ++ rest)
 unfolding shown_in no_words
-nothing_back rest = (refl, record { version = omega arith; node = omega arith; flags = omega arith; key = omega arith; small = omega arith; wide = omega arith })
+nothing_back rest = (
+  refl,
+  record { front = record { version = omega arith; node = omega arith; key = omega arith; place = omega arith }; flags = omega arith; small = omega arith; wide = omega arith },
+)
 
-abbrev CanShow : Option Snapshot → Type 0
-CanShow None = ⊤
-CanShow (Some s) = IsInWords s
-
-shown_back : (shown : Option Snapshot) (rest : List ℕ) → CanShow shown → (shown_in (words_at shown ++ rest) ≡ shown) × AreWords (words_at shown ++ rest)
+pub shown_back : (shown : Option Snapshot) (rest : List ℕ) → CanShow shown → (shown_in (words_at shown ++ rest) ≡ shown) × AreWords (words_at shown ++ rest)
 shown_back None rest is = nothing_back rest
 shown_back (Some s) rest is = (snapshot_back s.key s.state s.stamp s.ticket s.shape rest is, words_back s rest is)
 
-last_in_range : (log : List Publication) → AllByRecursion IsInRange log → CanShow (last_shown log)
+pub last_in_range : (log : List Publication) → AllByRecursion IsInRange log → CanShow (last_shown log)
 last_in_range [] all = tt
 last_in_range (p ∷ []) all = all.0
 last_in_range (p ∷ q ∷ log) all = last_in_range (q ∷ log) all.1
 
--- what words show that begin with those of a list's last
-pub shows_last : (log : List Publication) (words : List ℕ) → AllByRecursion IsInRange log → IsPrefix (words_at (last_shown log)) words → shown_in words ≡ last_shown log
-shows_last log words all p = ap shown_in (sym p.1) ∙ (shown_back (last_shown log) p.0 (last_in_range log all)).0
-
-pub words_of_last : (log : List Publication) (words : List ℕ) → AllByRecursion IsInRange log → IsPrefix (words_at (last_shown log)) words → AreWords words
-words_of_last log words all p = subst AreWords p.1 (shown_back (last_shown log) p.0 (last_in_range log all)).1
+-- ---- where words of the data are wanting, the row is shown beside its content
+pub glanced_back : (key : List ℕ) (state : State) (stamp : Stamp) (ticket : ℕ) (shape : Shape) (small rest k : List ℕ) → let s : Snapshot = record { key = key; state = state; stamp = stamp; ticket = ticket; shape = shape } in
+    IsInWords s → glance_of (shown_in (((head_words s ++ packed (words_for (length key)) key) ++ small) ++ rest)) k ≡ glance_of (Some s) k
+unfolding shown_in
+glanced_back key state stamp ticket (Small content) small rest k is =
+    let b = key_back key small rest is.key_bytes in
+    λ i. if bytes_eq (b i) k then Some (record { state = state_back state i; stamp = stamp; is_large = false }) else None
+glanced_back key state stamp ticket Large small rest k is =
+    let b = key_back key small rest is.key_bytes in
+    λ i. if bytes_eq (b i) k then Some (record { state = state_back state i; stamp = stamp; is_large = true }) else None
+glanced_back key state stamp ticket Missing small rest k is =
+    let b = key_back key small rest is.key_bytes in
+    λ i. if bytes_eq (b i) k then Some (record { state = state_back state i; stamp = stamp; is_large = false }) else None

@@ -22,22 +22,22 @@ unfolding words_of
 first_word s = refl
 
 -- the words in use tell their own number
-own_number : (shown : Option Snapshot) → get_or (words_at shown) 0 0 ≡ length (words_at shown)
+pub own_number : (shown : Option Snapshot) → get_or (words_at shown) 0 0 ≡ length (words_at shown)
 unfolding no_words
 own_number None = refl
 own_number (Some s) = first_word s ∙ sym (used_words s)
 
-some_words : (shown : Option Snapshot) → 0 < length (words_at shown)
+pub some_words : (shown : Option Snapshot) → 0 < length (words_at shown)
 unfolding no_words
 some_words None = omega arith
 some_words (Some s) = omega (arith, used_words s)
 
-first_of_front : (front words : List ℕ) → 0 < length front → IsPrefix front words → get_or words 0 0 ≡ get_or front 0 0
+pub first_of_front : (front words : List ℕ) → 0 < length front → IsPrefix front words → get_or words 0 0 ≡ get_or front 0 0
 first_of_front [] words some p = absurd (omega arith)
 first_of_front (x ∷ front) words some p = ap (λ l. get_or l 0 0) (sym p.1)
 
 -- a front that tells its own length is just the words in use
-uses : (front words : List ℕ) → 0 < length front → get_or front 0 0 ≡ length front → length words ≡ 166 → IsPrefix front words
+pub uses : (front words : List ℕ) → 0 < length front → get_or front 0 0 ≡ length front → length words ≡ 166 → IsPrefix front words
     → (in_use 166 words ≡ length front) × (take (in_use 166 words) words ≡ front)
 uses front words some own long p =
     let first : get_or words 0 0 ≡ length front = first_of_front front words some p ∙ own in

@@ -1,7 +1,10 @@
 -- What contracts see of a writer and of a reader: for each of the 32 cells what was seen of its list.
-use Rattle.std.specs.Prelude.{◌≡◌, ℕ, ◌+◌, List, [], ◌∷◌, ◌++◌, map, Option, slice_set, slice_index_or}
+use Rattle.std.specs.Prelude.{◌≡◌, ℕ, ◌+◌, List, [], ◌∷◌, ◌++◌, map, Option, Some, None, slice_set, slice_index_or}
 use mathlib.Core.List.{IsPrefix}
 use Rattle.atomic_table.specs.Seated.{TableId}
+use Rattle.atomic_table.specs.declared.shared.Seat.{Seat}
+use Rattle.crossbeam_utils.specs.declared.atomic.seq_cell.Doing.{Doing}
+use Rattle.crossbeam_utils.specs.Seq.{cell_view}
 use Rattle.hk_snap.specs.declared.rule.Publication.{Publication}
 use Rattle.hk_snap.specs.declared.rule.Knowledge.{Knowledge}
 use Rattle.hk_snap.specs.declared.snapshot.Snapshot.{Snapshot}
@@ -20,6 +23,11 @@ end_of name v = record { name = name; seen = v.seen; loads = v.loads }
 
 abbrev pub writing_end : TableId → List Publication → End
 writing_end name seen = record { name = name; seen = seen; loads = 0 }
+
+-- what the pass of the last load has seen the cell show, if there was a load
+abbrev pub shown_by : Option (Seat (List ℕ) (Doing (List ℕ) Knowledge)) → Option Snapshot
+shown_by None = None
+shown_by (Some pass) = last_shown (cell_view pass).seen
 
 -- a reader's end of all cells, and what it loaded last
 pub record Reader : Type 0 where

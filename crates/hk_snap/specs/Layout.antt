@@ -1,5 +1,6 @@
 -- The words in use of a snapshot, with which a cell's words begin. No contract of a public call rests on their layout: what is loaded is said by `last_shown`.
-use Rattle.std.specs.Prelude.{ℕ, ◌+◌, ◌<◌, ◌≤◌, ◌^◌, List, [], ◌∷◌, ◌++◌, length, drop, replicate, slice_index, Option, Some, None, ◌==◌, if◌then◌else◌}
+use Rattle.std.specs.Prelude.{⊤, ℕ, ◌+◌, ◌<◌, ◌≤◌, ◌^◌, List, [], ◌∷◌, ◌++◌, length, take, drop, replicate, slice_index, Option, Some, None, ◌==◌, if◌then◌else◌}
+use mathlib.Core.List.{IsPrefix}
 use Rattle.hk_base.specs.Range.{IsWithin}
 use Rattle.hk_base.specs.declared.call.State.{State}
 use Rattle.hk_base.specs.declared.call.State.TheVariants.{Valid, Invalid, Write, Replay, Trans}
@@ -86,11 +87,27 @@ pub record IsInWords (s : Snapshot) : Type 0 where
   pub small : length (data_in s.shape) ≤ 1000
   pub small_bytes : AreBytes (data_in s.shape)
 
--- the first words are within the ranges of what they stand for, and as many stand behind them as these tell
-pub record AreWords (words : List ℕ) : Type 0 where
+-- the first words are within the ranges of what they stand for, and those of the key stand behind them
+pub record AreFront (words : List ℕ) : Type 0 where
   pub version : slice_index words 3 ≤ MAX_VERSION
   pub node : slice_index words 4 < 2 ^ 16
-  pub flags : slice_index words 6 < 2 ^ 32
   pub key : slice_index words 7 ≤ 250
+  pub place : 9 + words_for (slice_index words 7) ≤ length words
+
+-- so it is, and with the words of the data
+pub record AreWords (words : List ℕ) : Type 0 where
+  pub front : AreFront words
+  pub flags : slice_index words 6 < 2 ^ 32
   pub small : slice_index words 8 ≤ 1000
   pub wide : used (slice_index words 7) (slice_index words 8) ≤ length words
+
+-- words can show it, where it is anything
+abbrev pub CanShow : Option Snapshot → Type 0
+CanShow None = ⊤
+CanShow (Some s) = IsInWords s
+
+-- What a room keeps of the words in use that show this: those of the head and the key, and of the data's as many as it has place for.
+pub record Keeps (room : List ℕ) (shown : Option Snapshot) : Type 0 where
+  pub wide : 41 ≤ length room
+  pub front : IsPrefix (take (length room) (words_at shown)) room
+  pub able : CanShow shown

@@ -9,10 +9,11 @@ ghost use mathlib.Core.List.{IsPrefix};
 ghost use Rattle.hk_snap.specs.Ends.{names, at, seen_at, with_publication, looked, noted, Loads, another, joined_ends, writing_end};
 
 use crate::ends::{CellReader, CellWriter};
-use crate::local::{Local, local_of};
+use crate::local::Local;
+use crate::room::Room;
 use crate::rule::Words;
 use crate::snapshot::{Glance, Snapshot};
-use crate::words::{glance, no_words, shown, shown_content};
+use crate::words::no_words;
 use hk_base::{CallNo, Content, Key, Memory};
 use hk_key::Row;
 use std::alloc::Global;
@@ -66,19 +67,18 @@ impl Model for SnapWriter {
 #[derive(Drop)]
 pub struct SnapReader {
     ends: Vec<CellReader>,
-    room: Words,
+    room: Room,
 }
 
 impl Model for SnapReader {
     ghost use Rattle.std.specs.Prelude.{◌≡◌, length};
-    ghost use Rattle.hk_snap.specs.Layout.{shown_in, AreWords};
     ghost use Rattle.hk_snap.specs.Ends.{Reader};
 
     ghost Value = { Reader };
 
-    ghost view = { λ r. record { ends = r.ends.items; shown = shown_in r.room } };
+    ghost view = { λ r. record { ends = r.ends.items; shown = r.room } };
 
-    ghost invariant = { λ r. (length r.ends.items ≡ 32) × AreWords r.room };
+    ghost invariant = { λ r. length r.ends.items ≡ 32 };
 }
 
 impl SnapWriter {
@@ -128,7 +128,8 @@ impl SnapWriter {
 }
 
 impl SnapReader {
-    /// Loads a cell, by one load into the reader's own room.
+    /// Loads a cell, by one load into the reader's own room. The room grows with the rows that it holds: where there is no memory for the data of one, the
+    /// load is made all the same, and only who asks for that data is told Memory.
     pub fn load<R: Wait>(&mut self, rt: &R, cell: u8)
         requires { cell < 32 }
         ensures loaded { Loads self.old cell self.new }
@@ -143,21 +144,21 @@ impl SnapReader {
     pub fn shown(&self, alloc: Global) -> Result<Option<Snapshot>, Memory>
         ensures { IfOk result (λ shown. shown ≡ self.now.shown) }
     {
-        shown(alloc, &self.room)
+        self.room.shown(alloc)
     }
 
     /// What the last load found of the key, beside its content. None where it found another key, or none. It takes no memory.
     pub fn glance(&self, key: &Key) -> Option<Glance>
         ensures { result ≡ glance_of self.now.shown key.now }
     {
-        glance(&self.room, key.bytes())
+        self.room.glance(key)
     }
 
     /// The content that the last load found. None where it found none, or one with more than 1,000 bytes of data.
     pub fn content(&self, alloc: Global) -> Result<Option<Content>, Memory>
         ensures { IfOk result (λ content. content ≡ shown_content self.now.shown) }
     {
-        shown_content(alloc, &self.room)
+        self.room.content(alloc)
     }
 
     // What a read of the key is told from what the last load found.
@@ -171,7 +172,7 @@ impl SnapReader {
     ) -> Result<Local, Memory>
         ensures { IfOk result (λ local. local ≡ local_of self.now.shown key.now end now skew) }
     {
-        local_of(alloc, &self.room, key.bytes(), end, now, skew)
+        self.room.local(alloc, key, end, now, skew)
     }
 
     /// Another reader of the same cells, which has seen what this one has seen. It has loaded nothing.
@@ -180,10 +181,8 @@ impl SnapReader {
         ensures reader { IfOk result (λ r. r ≡ record { ends = map another self.old.ends; shown = None }) }
     {
         let ends = split_all(alloc, &mut self.ends)?;
-        Ok(SnapReader {
-            ends,
-            room: no_words(),
-        })
+        let room = Room::new(alloc)?;
+        Ok(SnapReader { ends, room })
     }
 
     /// Takes in another reader of the same cells. Of what the two have seen of a cell the longer stays; one is a beginning of the
@@ -192,7 +191,8 @@ impl SnapReader {
         requires { names other.ends ≡ names self.old.ends }
         ensures { self.new ≡ record { ends = joined_ends self.old.ends other.ends; shown = self.old.shown } }
     {
-        let SnapReader { ends, room: _ } = other;
+        let SnapReader { ends, room } = other;
+        drop(room);
         join_all(&mut self.ends, ends);
     }
 }
@@ -251,6 +251,7 @@ pub fn cells<R: Wait>(_rt: &R, alloc: Global) -> Result<(SnapWriter, SnapReader)
 {
     let mut writers = writers(alloc, CELLS)?;
     let readers = readers(alloc, &mut writers)?;
+    let room = Room::new(alloc)?;
     Ok((
         SnapWriter {
             ends: writers,
@@ -258,7 +259,7 @@ pub fn cells<R: Wait>(_rt: &R, alloc: Global) -> Result<(SnapWriter, SnapReader)
         },
         SnapReader {
             ends: readers,
-            room: no_words(),
+            room,
         },
     ))
 }

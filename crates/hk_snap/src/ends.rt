@@ -5,13 +5,13 @@ ghost use mathlib.Core.List.{IsPrefix};
 ghost use Rattle.crossbeam_utils.specs.Seq.{cell_view};
 ghost use Rattle.hk_base.specs.Range.{IsWithin};
 ghost use Rattle.hk_snap.specs.Snapshots.{published, last_shown, IsNext, IsRising};
-ghost use Rattle.hk_snap.specs.Layout.{shown_in, AreWords};
 ghost use Rattle.hk_snap.specs.Rule.{longer, Adds};
 ghost use Rattle.hk_snap.specs.Ends.{writing_end, another};
 
+use crate::room::Room;
 use crate::rule::{Cell, CellPass, Picked, Words};
 use crate::steps::{cell, join, load, meet, put, see, split};
-use crate::words::show_row;
+use crate::words::{no_words, show_row};
 use hk_base::{CallNo, Key, Memory};
 use hk_key::Row;
 use std::alloc::Global;
@@ -120,15 +120,16 @@ impl CellWriter {
     }
 
     // The reader has seen all: one load.
-    pub(crate) fn meet<R: Wait>(&mut self, rt: &R, reader: &mut CellReader, room: &mut Words)
+    pub(crate) fn meet<R: Wait>(&mut self, rt: &R, reader: &mut CellReader, room: &mut Room)
         requires { reader.old.name ≡ self.old.name }
         ensures same { self.new ≡ self.old }
         ensures told { reader.new ≡ record { name = reader.old.name; seen = self.old.seen; loads = reader.old.loads + 1 } }
         ensures grown { IsPrefix reader.old.seen self.old.seen }
-        ensures shown { shown_in room.new ≡ last_shown self.old.seen }
-        ensures words { AreWords room.new }
+        ensures shown { room.new ≡ last_shown self.old.seen }
     {
-        meet(rt, &self.cell, &mut self.pass, &mut reader.pass, room);
+        let mut words = no_words();
+        meet(rt, &self.cell, &mut self.pass, &mut reader.pass, &mut words);
+        room.keep(&words, split(&self.cell, &mut self.pass));
     }
 
     // The same with no word read.
@@ -144,15 +145,16 @@ impl CellWriter {
 
 impl CellReader {
     // One load.
-    pub(crate) fn load<R: Wait>(&mut self, rt: &R, room: &mut Words)
+    pub(crate) fn load<R: Wait>(&mut self, rt: &R, room: &mut Room)
         ensures name { self.new.name ≡ self.old.name }
         ensures seen { IsPrefix self.old.seen self.new.seen }
-        ensures shown { shown_in room.new ≡ last_shown self.new.seen }
-        ensures words { AreWords room.new }
+        ensures shown { room.new ≡ last_shown self.new.seen }
         ensures rising { IsRising self.new.seen }
         ensures loads { self.new.loads ≡ self.old.loads + 1 }
     {
-        load(rt, &self.cell, &mut self.pass, room);
+        let mut words = no_words();
+        load(rt, &self.cell, &mut self.pass, &mut words);
+        room.keep(&words, split(&self.cell, &mut self.pass));
     }
 
     // A reader that has seen as much.

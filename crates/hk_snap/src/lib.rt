@@ -20,6 +20,7 @@ mod lease_rule;
 mod lease_steps;
 mod local;
 mod pack;
+mod room;
 mod rule;
 mod snapshot;
 mod steps;

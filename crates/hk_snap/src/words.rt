@@ -7,7 +7,7 @@ ghost use Rattle.hk_base.specs.declared.call.CallNo.{CallNo};
 ghost use Rattle.hk_snap.specs.Packed.{packed, words_for, AreBytes};
 ghost use Rattle.hk_base.specs.Range.{IsWithin};
 ghost use Rattle.hk_snap.specs.Snapshots.{snapshot_of, published, shape_of, is_large, glance_of, shown_content};
-ghost use Rattle.hk_snap.specs.Layout.{no_words, words_of, state_number, state_numbered, shape_number, shape_numbered, flags_in, data_in, key_in, small_in, shown_in, AreWords};
+ghost use Rattle.hk_snap.specs.Layout.{no_words, words_of, state_number, state_numbered, shape_number, shape_numbered, flags_in, data_in, key_in, small_in, shown_in, AreFront, AreWords};
 ghost use Rattle.hk_snap.specs.Rule.{IsInRange};
 
 use crate::pack::{bytes_in, pack, words_for};
@@ -17,8 +17,10 @@ use hk_base::{Content, Data, Key, Memory, Stamp, State};
 use hk_key::Row;
 use std::alloc::Global;
 
-// How many words the head has.
-const HEAD: usize = 9;
+// How many words the head has, and how many it has with the longest key.
+pub(crate) const HEAD: usize = 9;
+
+pub(crate) const FRONT_WORDS: usize = 41;
 
 fn state_number(state: State) -> u64
     ensures { result ≡ state_number state }
@@ -69,9 +71,7 @@ fn shape(content: &Option<Content>) -> (u64, u32, &[u8])
 
 // A cell's words with nothing published.
 pub(crate) fn no_words() -> Words
-    ensures nothing { IsPrefix no_words result }
-    ensures shown { shown_in result ≡ None }
-    ensures words { AreWords result }
+    ensures { IsPrefix no_words result }
 {
     let mut words = [0; CELL_WORDS];
     words[0] = HEAD as u64;
@@ -133,7 +133,7 @@ pub(crate) fn show_row(words: &mut Words, key: &Key, row: &Row, ticket: u64)
 
 // The bytes of the key that the words show, put into the room.
 fn key_bytes<'a>(words: &[u64], room: &'a mut [u8; 256]) -> &'a [u8]
-    requires { AreWords words.now }
+    requires { AreFront words.now }
     ensures { result.now ≡ key_in words.now }
 {
     bytes_in(&words[HEAD..], words[7] as usize, room)
@@ -150,7 +150,7 @@ fn small_bytes<'a>(words: &[u64], room: &'a mut [u8; 1_000]) -> &'a [u8]
 
 // Whether the words show this key.
 pub(crate) fn shows_key(words: &[u64], key: &[u8]) -> bool
-    requires { AreWords words.now }
+    requires { AreFront words.now }
     ensures { result ≡ bytes_eq (key_in words.now) key.now }
 {
     let mut room = [0; 256];
@@ -159,7 +159,7 @@ pub(crate) fn shows_key(words: &[u64], key: &[u8]) -> bool
 }
 
 fn key_in(alloc: Global, words: &[u64]) -> Result<Key, Memory>
-    requires { AreWords words.now }
+    requires { AreFront words.now }
     ensures { IfOk result (λ key. key ≡ key_in words.now) }
 {
     let mut room = [0; 256];
@@ -201,14 +201,14 @@ fn shape_in(alloc: Global, words: &[u64]) -> Result<Shape, Memory>
 }
 
 pub(crate) fn state_in(words: &[u64]) -> State
-    requires { AreWords words.now }
+    requires { AreFront words.now }
     ensures { result ≡ state_numbered (slice_index words.now 2) }
 {
     state_numbered(words[2])
 }
 
 pub(crate) fn stamp_in(words: &[u64]) -> Stamp
-    requires { AreWords words.now }
+    requires { AreFront words.now }
     ensures stamp { result ≡ record { version = slice_index words.now 3; node = slice_index words.now 4 } }
     ensures within { IsWithin result }
 {
@@ -239,7 +239,7 @@ pub(crate) fn shown(alloc: Global, words: &[u64]) -> Result<Option<Snapshot>, Me
 }
 
 fn is_large(words: &[u64]) -> bool
-    requires { AreWords words.now }
+    requires { AreFront words.now }
     ensures { result ≡ is_large (shape_numbered (slice_index words.now 1) (slice_index words.now 6) (small_in words.now)) }
 {
     if words[1] == 1 {
@@ -251,7 +251,7 @@ fn is_large(words: &[u64]) -> bool
 // What the words show of the key beside its content.
 #[tactic(auto, unfolding(crate::specs::Layout::shown_in))]
 pub(crate) fn glance(words: &[u64], key: &[u8]) -> Option<Glance>
-    requires { AreWords words.now }
+    requires { AreFront words.now }
     ensures { result ≡ glance_of (shown_in words.now) key.now }
 {
     if words[1] == 0 {
