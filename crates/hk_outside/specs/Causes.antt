@@ -5,6 +5,10 @@ use Rattle.std.specs.Prelude.{◌≡◌, ℕ, ◌+◌, ◌-◌, ◌^◌, ◌≤�
 abbrev pub Rose : ℕ → ℕ → Type 0
 Rose before now = min (before + 1) (2 ^ 64 - 1) ≤ now
 
+-- a count rose by so many at least, or stands at the last value of its type
+abbrev pub RoseBy : ℕ → ℕ → ℕ → Type 0
+RoseBy times before now = min (before + times) (2 ^ 64 - 1) ≤ now
+
 -- a count stayed as it was, below its last value
 abbrev pub Stayed : ℕ → ℕ → Type 0
 Stayed before now = (now ≡ before) × (now < 2 ^ 64 - 1)

@@ -15,6 +15,7 @@ mod desk;
 mod dial;
 mod doors;
 mod memory;
+mod notices;
 mod primed;
 mod record;
 mod standard;

@@ -1,15 +1,27 @@
 //! Connections over TCP on 127.0.0.1, that come and that are dialled.
 
-ghost use Rattle.std.specs.Prelude.{◌≡◌, None, Some, [], refl, IfOk, IfSome};
+ghost use Rattle.std.specs.Prelude.{◌≡◌, None, Some, [], refl, is_none, IfOk, IfSome};
 ghost use Rattle.std.specs.List.{concat};
 ghost use Rattle.hk_outside.specs.Causes.{HasCause};
 
 use crate::dial::Dial;
 use crate::doors::Doors;
+use crate::notices::{tell_open, tell_port_fault, tell_take_fault};
 use crate::record::Record;
 use crate::stream::{Connection, Failed, Sink, Source};
 use std::io::{Eprint, Read, Write};
 use std::net::{Ipv4Addr, Net, OpenListener, SocketAddr, TcpListener, TcpStream};
+use std::time::Duration;
+
+// Who is dialled has so many seconds to take the connection, and then so many to take some of what is written at once.
+const DIAL_SECONDS: u64 = 1;
+
+const WRITE_SECONDS: u64 = 10;
+
+// The address of a port of this machine.
+fn address(port: u16) -> SocketAddr {
+    SocketAddr::from((Ipv4Addr::new(127, 0, 0, 1), port))
+}
 
 /// A connection over TCP. It records the bytes that came and those that were taken, and can't tell what is left.
 #[derive(Drop)]
@@ -98,13 +110,15 @@ impl Connection for TcpConnection {
     ghost one_record = { λ c. refl };
 }
 
-/// Doors on a port of 127.0.0.1. Before a port is open no connection comes. That it was opened is written on standard error, for
-/// the person who started the program.
+/// Doors on a port of 127.0.0.1. Where no port is open no connection comes. What becomes of the port is written on standard error, for the person who started
+/// the program.
 #[derive(Drop)]
 pub struct TcpDoors<R: Net<Listener = TcpListener, Stream = TcpStream> + Eprint + Copy> {
     rt: R,
     listener: Option<TcpListener>,
     faults: u64,
+    // Whether the last connection could not be taken.
+    is_failing: bool,
 }
 
 impl<R: Net<Listener = TcpListener, Stream = TcpStream> + Eprint + Copy> TcpDoors<R> {
@@ -113,6 +127,7 @@ impl<R: Net<Listener = TcpListener, Stream = TcpStream> + Eprint + Copy> TcpDoor
             rt,
             listener: None,
             faults: 0,
+            is_failing: false,
         }
     }
 }
@@ -127,18 +142,18 @@ impl<R: Net<Listener = TcpListener, Stream = TcpStream> + Eprint + Copy + Send +
 
     ghost faults = { λ d. d.faults };
 
+    ghost closed = { λ d. is_none d.listener };
+
     fn open(&mut self, port: u16) -> Result<(), Failed> {
-        match TcpListener::bind(
-            &self.rt,
-            SocketAddr::from((Ipv4Addr::new(127, 0, 0, 1), port)),
-        ) {
+        match TcpListener::bind(&self.rt, address(port)) {
             Ok(listener) => {
                 self.listener = Some(listener);
-                let _ = eprintln!(self.rt; "hermes: serves on port {port} of 127.0.0.1");
+                tell_open(&self.rt, port);
                 Ok(())
             }
-            Err(_) => {
+            Err(error) => {
                 self.faults = self.faults.saturating_add(1);
+                tell_port_fault(&self.rt, port, &error);
                 Err(Failed)
             }
         }
@@ -155,12 +170,24 @@ impl<R: Net<Listener = TcpListener, Stream = TcpStream> + Eprint + Copy + Send +
             return Ok(None);
         };
         match listener.accept() {
-            Ok((stream, _)) => Ok(Some(TcpConnection::new(stream))),
-            Err(_) => {
+            Ok((stream, _)) => {
+                self.is_failing = false;
+                Ok(Some(TcpConnection::new(stream)))
+            }
+            Err(error) => {
                 self.faults = self.faults.saturating_add(1);
+                // told once, since the next tries fail for as long as the cause lasts
+                if !self.is_failing {
+                    tell_take_fault(&self.rt, &error);
+                }
+                self.is_failing = true;
                 Err(Failed)
             }
         }
+    }
+
+    fn close(&mut self) {
+        self.listener = None;
     }
 
     fn dialer(&self) -> TcpDialer<R> {
@@ -168,7 +195,32 @@ impl<R: Net<Listener = TcpListener, Stream = TcpStream> + Eprint + Copy + Send +
     }
 }
 
-/// Dials the ports of 127.0.0.1.
+// Whether a connection that was dialled met itself. The system may give who dials a port of its own range that very port as its own, and where nobody has opened it the
+// two ends are one: nobody would ever read what is written, and the port's owner could not open it.
+fn meets_itself(stream: &TcpStream) -> bool {
+    let Ok(own) = stream.local_addr() else {
+        return false;
+    };
+    match stream.peer_addr() {
+        Ok(other) => own == other,
+        Err(_) => false,
+    }
+}
+
+// A connection to whoever serves this port, if one can be had in time.
+fn connected<R: Net<Stream = TcpStream>>(rt: &R, port: u16) -> Option<TcpStream> {
+    let stream = rt
+        .connect_timeout(address(port), Duration::from_secs(DIAL_SECONDS))
+        .ok()?;
+    if meets_itself(&stream) {
+        return None;
+    }
+    // where that can't be had, a write waits for as long as the other side does
+    let _ = stream.set_write_timeout(Some(Duration::from_secs(WRITE_SECONDS)));
+    Some(stream)
+}
+
+/// Dials the ports of 127.0.0.1. It waits a second for a connection, and a write to one waits ten: then each fails.
 #[derive(Drop)]
 pub struct TcpDialer<R: Net<Listener = TcpListener, Stream = TcpStream> + Copy> {
     rt: R,
@@ -194,12 +246,9 @@ impl<R: Net<Listener = TcpListener, Stream = TcpStream> + Copy> Dial for TcpDial
         ensures given { IfOk result (λ c. c.given.pieces ≡ []) }
         ensures taken { IfOk result (λ c. c.taken.pieces ≡ []) }
     {
-        match self
-            .rt
-            .connect(SocketAddr::from((Ipv4Addr::new(127, 0, 0, 1), port)))
-        {
-            Ok(stream) => Ok(TcpConnection::new(stream)),
-            Err(_) => {
+        match connected(&self.rt, port) {
+            Some(stream) => Ok(TcpConnection::new(stream)),
+            None => {
                 self.faults = self.faults.saturating_add(1);
                 Err(Failed)
             }

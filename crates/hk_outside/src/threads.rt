@@ -8,16 +8,19 @@ use crate::stream::Failed;
 use hk_base::Memory;
 use std::alloc::Global;
 use std::marker::PhantomData;
-use std::thread;
-use std::thread::{JoinHandle, Threads};
+use std::thread::{Builder, JoinHandle, Threads};
+
+// The size of a thread's stack, in bytes. A job's deepest call takes a small part of it; what a thread of the system has by default, 8 MB of addresses, is what many
+// connections would lack.
+const STACK: usize = 256 * 1_024;
 
 /// Work that is done once, in a thread of its own.
 pub trait Job: Send + Drop + 'static {
     fn run(self);
 }
 
-/// Shows that a job could not be started. `Spawner::start` alone makes one, so that no other call can raise a
-/// spawner's count of faults.
+/// Shows that a job could not be started. `Spawner::start` and `Spawner::start_made` alone make one, so that no other call can
+/// raise a spawner's count of faults.
 #[derive(Drop)]
 pub struct Refusal {
     shown: (),
@@ -66,7 +69,10 @@ pub trait Spawner {
             self.refused(Refusal { shown: () });
             return Err(Failed);
         };
-        match thread::spawn(rt, move || job.run()) {
+        match Builder::new()
+            .stack_size(STACK)
+            .spawn(rt, move || job.run())
+        {
             Ok(thread) => {
                 self.took(thread);
                 Ok(())
@@ -76,6 +82,18 @@ pub trait Spawner {
                 Err(Failed)
             }
         }
+    }
+
+    /// Starts a job that was made. One for which there was no memory is refused as well.
+    final fn start_made<J: Job>(&mut self, made: Result<J, Memory>) -> Result<(), Failed>
+        ensures taken { TakesJob (taken self.old) (taken self.new) result }
+        ensures cause { HasCause (faults self.old) (faults self.new) result }
+    {
+        let Ok(job) = made else {
+            self.refused(Refusal { shown: () });
+            return Err(Failed);
+        };
+        self.start(job)
     }
 }
 
