@@ -1,5 +1,6 @@
 -- How a server ends whose connections are jobs.
 use Rattle.std.specs.Prelude.{◌≡◌, ℕ, ◌+◌, ◌-◌, ◌^◌, ◌≤◌, ◌<◌, min, Option, None, Some, ⊤}
+use Rattle.hk_outside.specs.Causes.{RoseBy}
 use Rattle.hk_outside.specs.declared.status.Status.{Status}
 use Rattle.hk_outside.specs.declared.status.Status.TheVariants as status
 
@@ -26,10 +27,18 @@ abbrev pub Taken : Option ℕ → Option ℕ → ℕ → Type 0
 Taken None now count = ⊤
 Taken (Some before) now count = (jobs : ℕ) × (now ≡ Some jobs) × (min (before + count) (2 ^ 64 - 1) ≤ jobs)
 
--- The stated number of connections came, or all that were left where those were fewer, and for each a job was taken.
-pub record HasServed (left left' taken taken' : Option ℕ) (conns : ℕ) : Type 0 where
+-- So many connections were received: for each a job was taken, or the spawner's count of faults rose by one. So where that count stayed, each got a job.
+pub record AreReceived (taken taken' : Option ℕ) (faults faults' : ℕ) (count : ℕ) : Type 0 where
+  pub jobs : ℕ
+  pub refused : ℕ
+  pub each : jobs + refused ≡ count
+  pub started : Taken taken taken' jobs
+  pub faulted : RoseBy refused faults faults'
+
+-- The stated number of connections came, or all that were left where those were fewer, and they were received.
+pub record HasServed (left left' taken taken' : Option ℕ) (faults faults' : ℕ) (conns : ℕ) : Type 0 where
   pub count : ℕ
   pub within : count ≤ conns
   pub came : Came left left' count
-  pub started : Taken taken taken' count
+  pub received : AreReceived taken taken' faults faults' count
   pub all : count < conns → AreAll left count

@@ -1,8 +1,9 @@
 //! The loop that takes connections.
 
-ghost use Rattle.std.specs.Prelude.{◌≡◌};
-ghost use Rattle.hk_outside.specs.Causes.{Rose};
-ghost use Rattle.hk_accept.specs.Serving.{EndsServe, HasServed};
+ghost use Rattle.std.specs.Prelude.{◌≡◌, ◌⊎◌, true, Ok};
+ghost use Rattle.hk_outside.specs.Counts.{Accepts};
+ghost use Rattle.hk_outside.specs.declared.stream.Failed.{Failed as FailedOf};
+ghost use Rattle.hk_accept.specs.Serving.{HasServed};
 
 use crate::desks::Desks;
 use crate::reception::Reception;
@@ -11,42 +12,51 @@ use crossbeam_utils::sync::WaitGroup;
 use hk_outside::{Doors, Spawner, Status};
 use std::alloc::Global;
 use std::sync::{Arc, Wait};
+use std::thread::Parker;
+use std::time::Duration;
 
-/// Starts the job of each connection that comes through open doors, at most so many.
-///
-/// Done: so many connections were taken, or no more came, and each got a job. Memory: there was none to make a job. DoorFault: the next connection could not be
-/// taken. SpawnFault: a connection got no job, and was closed.
-pub fn take_each<D: Doors, S: Spawner, V: Reception<D::Conn>>(
+// So long the loop rests where a connection can't be taken, as where too many files are open.
+const REST_MILLISECONDS: u64 = 20;
+
+/// The next connection that comes, or none where no more come. Where doors fail it rests and tries again, for as long as they do.
+#[tactic(auto, using(crate::proofs::Counting::stays_at_first, crate::proofs::Counting::stays_left, crate::proofs::Counting::comes_then))]
+pub fn next_connection<R: Wait, D: Doors>(rt: &R, doors: &mut D) -> Option<D::Conn>
+    ensures { Accepts {E = FailedOf} (D.left doors.old) (D.left doors.new) (Ok result) }
+{
+    for _ in rt.forever() {
+        if let Ok(come) = doors.accept() {
+            return come;
+        }
+        Parker::new().park_timeout(rt, Duration::from_millis(REST_MILLISECONDS));
+    }
+    unreachable!()
+}
+
+/// Starts the job of each connection that comes through open doors, at most so many, and returns once so many were taken or no more come. A connection that gets no
+/// job, for want of memory or of a thread, is closed, and ends nothing.
+#[tactic(auto, using(crate::proofs::Received::received_none, crate::proofs::Received::received_more))]
+pub fn take_each<R: Wait, D: Doors, S: Spawner, V: Reception<D::Conn>>(
+    rt: &R,
     doors: &mut D,
     spawner: &mut S,
     reception: &V,
     conns: u32,
-) -> Status
-    ensures ends { EndsServe result }
-    ensures done { result ≡ Status.Done → HasServed (D.left doors.old) (D.left doors.new) (S.taken spawner.old) (S.taken spawner.new) conns }
-    ensures door_fault { result ≡ Status.DoorFault → Rose (D.faults doors.old) (D.faults doors.new) }
-    ensures spawn_fault { result ≡ Status.SpawnFault → Rose (S.faults spawner.old) (S.faults spawner.new) }
+)
+    ensures { HasServed (D.left doors.old) (D.left doors.new) (S.taken spawner.old) (S.taken spawner.new) (S.faults spawner.old) (S.faults spawner.new) conns }
 {
     for number in 0..conns {
-        let conn = match doors.accept() {
-            Ok(Some(conn)) => conn,
-            Ok(None) => return Status::Done,
-            Err(_) => return Status::DoorFault,
+        let Some(conn) = next_connection(rt, doors) else {
+            return;
         };
-        let Ok(visit) = reception.visit(conn, number) else {
-            return Status::Memory;
-        };
-        if spawner.start(visit).is_err() {
-            return Status::SpawnFault;
-        }
+        let _ = spawner.start_made(reception.visit(conn, number));
     }
-    Status::Done
 }
 
-/// Serves the connections that come through open doors, each by a job of its own at a desk of its own, and returns once those jobs have ended.
+/// Serves the connections that come through open doors, each by a job of its own at a desk of its own. Behind the last one it closes the doors, and it returns once
+/// those jobs have ended.
 ///
-/// Done: so many connections were taken, or no more came, and each got a job. Memory: there was none to count the jobs. DoorFault: the next connection could
-/// not be taken. SpawnFault: a connection got no job, and was closed. Those before it are served to their ends.
+/// Done: so many connections were taken, or no more came. One that got no job was closed, and the spawner counts it as a fault. Memory: there was none to count the
+/// jobs, and no connection was taken.
 pub fn serve_each<R: Wait, D: Doors, S: Spawner, K: Desks + Send + Sync + Drop + 'static>(
     rt: &R,
     alloc: Global,
@@ -55,12 +65,13 @@ pub fn serve_each<R: Wait, D: Doors, S: Spawner, K: Desks + Send + Sync + Drop +
     desks: &Arc<K>,
     conns: u32,
 ) -> Status
-    ensures ends { EndsServe result }
-    ensures done { result ≡ Status.Done → HasServed (D.left doors.old) (D.left doors.new) (S.taken spawner.old) (S.taken spawner.new) conns }
-    ensures door_fault { result ≡ Status.DoorFault → Rose (D.faults doors.old) (D.faults doors.new) }
-    ensures spawn_fault { result ≡ Status.SpawnFault → Rose (S.faults spawner.old) (S.faults spawner.new) }
+    ensures ends { (result ≡ Status.Done) ⊎ (result ≡ Status.Memory) }
+    ensures done { result ≡ Status.Done → HasServed (D.left doors.old) (D.left doors.new) (S.taken spawner.old) (S.taken spawner.new) (S.faults spawner.old) (S.faults spawner.new) conns }
+    ensures none_taken { result ≡ Status.Memory → (D.left doors.new ≡ D.left doors.old) × (spawner.new ≡ spawner.old) }
+    ensures closed { D.closed doors.new ≡ true }
 {
     let Ok(group) = WaitGroup::new(alloc) else {
+        doors.close();
         return Status::Memory;
     };
     let clients = Clients {
@@ -68,7 +79,8 @@ pub fn serve_each<R: Wait, D: Doors, S: Spawner, K: Desks + Send + Sync + Drop +
         desks,
         group: &group,
     };
-    let status = take_each(doors, spawner, &clients, conns);
+    take_each(rt, doors, spawner, &clients, conns);
+    doors.close();
     group.wait(rt);
-    status
+    Status::Done
 }

@@ -3,7 +3,10 @@
 //! [`serve_each`] starts a job for each connection that comes through open doors. The job makes a desk for the connection ([`Desks`]) and serves the connection
 //! there to its end. When `serve_each` returns, all jobs that it started have ended, so no reply is lost on the way. How it ends, and what shows it, stands in its
 //! contract; that each job serves its connection, and that it waits for them, no clause says. [`take_each`] is the loop alone, over whatever makes the jobs
-//! ([`Reception`]).
+//! ([`Reception`]), and [`next_connection`] what it waits by.
+//!
+//! Nothing that a full machine does ends the loop. Where a connection can't be taken, it rests for a moment and tries again; where there is no memory or no thread
+//! for a connection's job, that connection is closed.
 //!
 //! The caller gives doors, a spawner, and what makes the desks.
 #![tactic(auto)]
@@ -14,7 +17,7 @@ mod reception;
 mod spawner;
 mod visit;
 
-pub use accept::{serve_each, take_each};
+pub use accept::{next_connection, serve_each, take_each};
 pub use desks::Desks;
 pub use reception::Reception;
 pub use spawner::LooseSpawner;
