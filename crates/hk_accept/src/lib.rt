@@ -13,6 +13,7 @@
 
 mod accept;
 mod desks;
+mod notices;
 mod reception;
 mod spawner;
 mod visit;
