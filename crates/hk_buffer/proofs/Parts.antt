@@ -1,6 +1,6 @@
 -- The parts of a buffer.
 use Rattle.std.proofs.Common.{◌≡◌, ℕ, ◌+◌, ◌-◌, ◌≤◌, List, [], ◌++◌, length, take, drop, refl, ap, ◌∙◌, sym, arith, append-nil, length-append, length-take, length-drop}
-use Rattle.std.proofs.lemmas.List.{drop-append-le, take_all, drop-take, take_at, drop_at}
+use Rattle.std.proofs.lemmas.List.{drop-append-le, take_all, take-take, drop-take, take_at, drop_at}
 use Rattle.std.proofs.Math.Seq.{take-add}
 use Rattle.std.proofs.Math.ListN.{drop_of_length-le}
 
@@ -43,3 +43,7 @@ pub come : (xs : List ℕ) (s e n : ℕ) → s ≤ e → e ≤ length xs → dro
 come xs s e n h k =
     let split : take (e + n) xs ≡ take e xs ++ take n (drop e xs) = take-add _ _ _ in
     rw split (drop-append-le s (take e xs) (take n (drop e xs)) (grind (arith, h, k, length-take)))
+
+-- the front of a longer front
+pub front_of_front : (xs ys : List ℕ) (e n : ℕ) → e ≤ n → ys ≡ take n xs → take e ys ≡ take e xs
+front_of_front xs ys e n h p = ap (take e) p ∙ take-take e n xs h

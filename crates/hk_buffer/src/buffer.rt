@@ -9,7 +9,14 @@ use hk_base::Memory;
 use std::alloc::Global;
 use std::marker::Model;
 
-/// The bytes that came and were not given yet, those that were given last, and room for those that come.
+// Room beyond so many bytes goes back once few bytes are unread.
+const MOST_KEPT: usize = 65_536;
+
+// So much is kept then: as much as there is at first.
+const FIRST_ROOM: usize = 16_384;
+
+/// The bytes that came and were not given yet, those that were given last, and room for those that come. Once few bytes are unread no more than 64 KiB are held,
+/// unless the memory has no smaller place: then the buffer stays where it is.
 #[derive(Drop)]
 pub struct Buffer {
     bytes: Vec<u8>,
@@ -68,7 +75,10 @@ impl Buffer {
         self.compact();
         let needed = self.end + count;
         if self.bytes.len() < needed {
-            self.bytes.resize(needed, 0)?;
+            self.bytes.reserve(needed - self.bytes.len())?;
+            // All that is held is room, so that long bytes come in few reads.
+            let held = self.bytes.capacity();
+            self.bytes.resize(held, 0)?;
         }
         Ok(())
     }
@@ -91,8 +101,16 @@ impl Buffer {
         self.end += count;
     }
 
-    // Once more than half of what is held was taken, what is left moves to the front. So less is moved than was taken.
+    // Nothing is given any more, and what was taken goes.
     fn compact(&mut self)
+        ensures { self.new ≡ with_room self.old self.new.room }
+    {
+        self.move_up();
+        self.give_back();
+    }
+
+    // Once more than half of what is held was taken, what is left moves to the front. So less is moved than was taken.
+    fn move_up(&mut self)
         ensures { self.new ≡ with_room self.old self.new.room }
     {
         self.from = 0;
@@ -104,6 +122,16 @@ impl Buffer {
             self.bytes.drain(..self.start);
             self.end -= self.start;
             self.start = 0;
+        }
+    }
+
+    // Gives back room that is beyond what is kept, once few bytes are left.
+    fn give_back(&mut self)
+        ensures { self.new ≡ record self.old { room = self.new.room } }
+    {
+        if self.end <= FIRST_ROOM && self.bytes.capacity() > MOST_KEPT {
+            self.bytes.truncate(FIRST_ROOM);
+            self.bytes.shrink_to(FIRST_ROOM);
         }
     }
 

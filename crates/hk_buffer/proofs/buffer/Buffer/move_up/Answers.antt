@@ -1,6 +1,6 @@
 use Rattle.std.proofs.Common.{rules, ◌≡◌, drop, refl}
 use Rattle.hk_buffer.proofs.Parts.{moved}
-use Rattle.hk_buffer.proofs.buffer.Buffer.compact.Goals as goal
+use Rattle.hk_buffer.proofs.buffer.Buffer.move_up.Goals as goal
 
 pub returns-then-self-2 : goal.returns-then-self-2
 returns-then-self-2 c =
