@@ -9,13 +9,16 @@ use hk_base::Memory;
 use std::alloc::Global;
 use std::marker::Model;
 
-// Room beyond so many bytes goes back once few bytes are unread.
-const MOST_KEPT: usize = 65_536;
+// Room beyond so many bytes goes back once few bytes are unread. Below that it is not worth the time to take it again.
+const MOST_KEPT: usize = 262_144;
 
 // So much is kept then: as much as there is at first.
 const FIRST_ROOM: usize = 16_384;
 
-/// The bytes that came and were not given yet, those that were given last, and room for those that come. Once few bytes are unread no more than 64 KiB are held,
+// So much more than was asked for is made room at most, so that long bytes come in few reads.
+const MOST_BESIDE: usize = 65_536;
+
+/// The bytes that came and were not given yet, those that were given last, and room for those that come. Once few bytes are unread no more than 256 KiB are held,
 /// unless the memory has no smaller place: then the buffer stays where it is.
 #[derive(Drop)]
 pub struct Buffer {
@@ -76,8 +79,10 @@ impl Buffer {
         let needed = self.end + count;
         if self.bytes.len() < needed {
             self.bytes.reserve(needed - self.bytes.len())?;
-            // All that is held is room, so that long bytes come in few reads.
-            let held = self.bytes.capacity();
+            let held = self
+                .bytes
+                .capacity()
+                .min(needed.saturating_add(MOST_BESIDE));
             self.bytes.resize(held, 0)?;
         }
         Ok(())

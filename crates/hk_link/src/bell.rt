@@ -1,16 +1,17 @@
 //! What wakes a worker.
 
-use std::sync::atomic::{AtomicU64, Ordering};
+use std::sync::atomic::{AtomicBool, AtomicU64, Ordering};
 use std::sync::{Condvar, Mutex, Wait};
 
 /// Lets a thread sleep until another one rings. A thread that would sleep notes the rings so far, looks once more for something to do, and waits for a ring behind
 /// those that it noted: so it sleeps through no ring. No wait ends by time.
 ///
-/// To ring where nobody sleeps takes no lock.
+/// To ring where nobody sleeps takes no lock. Once those that waited here have ended for good, `close` tells it to those that ring.
 #[derive(Drop)]
 pub struct Bell {
     rings: AtomicU64,
     sleepers: AtomicU64,
+    closed: AtomicBool,
     lock: Mutex<()>,
     rung: Condvar,
 }
@@ -21,6 +22,7 @@ impl Bell {
         Bell {
             rings: AtomicU64::new(0),
             sleepers: AtomicU64::new(0),
+            closed: AtomicBool::new(false),
             lock: Mutex::new(()),
             rung: Condvar::new(),
         }
@@ -52,5 +54,15 @@ impl Bell {
             guard = self.rung.wait(rt, guard);
         }
         self.sleepers.fetch_sub(1, Ordering::SeqCst);
+    }
+
+    /// Nobody takes any more of what is put where this bell rings.
+    pub fn close(&self) {
+        self.closed.store(true, Ordering::SeqCst);
+    }
+
+    /// Whether it was closed.
+    pub fn is_closed(&self) -> bool {
+        self.closed.load(Ordering::SeqCst)
     }
 }

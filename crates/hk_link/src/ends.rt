@@ -111,6 +111,19 @@ impl Outlet {
         }
     }
 
+    /// The bell that each put rings, if there is one.
+    pub fn bell(&self) -> Option<&Arc<Bell>> {
+        self.bell.as_ref()
+    }
+
+    /// Whether nobody takes from the link any more, which its bell tells. What is put then stays there.
+    pub fn is_closed(&self) -> bool {
+        match &self.bell {
+            Some(bell) => bell.is_closed(),
+            None => false,
+        }
+    }
+
     // Rings the bell, if there is one.
     fn ring<R: Wait>(&self, rt: &R) {
         if let Some(bell) = &self.bell {

@@ -12,7 +12,7 @@ use Rattle.hk_peer.specs.Cut.{Cutting, IsPart}
 use Rattle.hk_peer.specs.Counted.{GivesMore, IsCount, end_mark}
 use Rattle.hk_peer.specs.Parcels.{AreFrames, NoFrame, Passes}
 use Rattle.hk_peer.specs.Serving.{IsRest, IsOver, IsFirst, GoOn, Serves}
-use Rattle.hk_peer.specs.Turns.{IsStop, Comes, Pieces, IsServing}
+use Rattle.hk_peer.specs.Turns.{IsStop, Comes, Pieces, PassesUnlessEnded, IsServing}
 use Rattle.hk_peer.proofs.Counting.{given_none, given_more, read_now, read_on}
 use Rattle.hk_peer.proofs.Framing.{passes_none, passes_more, passes_on, no_frame_in_part, no_frame_in_bad}
 
@@ -119,11 +119,11 @@ goes_on : (me : NodeId) (left left' : Option (List ℕ)) (given given' : Option 
 goes_on me left left' given given' before after turns unread s part = record { parcels = s.passed.parcels; rest = unread; frames = subst (λ (b : List ℕ). AreFrames b s.passed.parcels unread) (sym s.reads.joined) s.passed.frames; part = part }
 
 -- a pass that did not come to its end
-pub serves_stopped : (me : NodeId) (ended : PeerEnd) (left left' left'' : Option (List ℕ)) (given given' given'' : Option (List (List ℕ))) (before middle after : Known) (turns count : ℕ) (c c' : Cutting) (rest : List ℕ) → IsServing me left left' given given' before middle turns c.unread → IsPart c.unread → Comes count left' left'' given' given'' c c' → (count ≡ 0 → ⊥) → Passes me c'.unread rest middle after → IsStop (Err ended) rest → turns < 4294967295
+pub serves_stopped : (me : NodeId) (ended : PeerEnd) (left left' left'' : Option (List ℕ)) (given given' given'' : Option (List (List ℕ))) (before middle after : Known) (turns count : ℕ) (c c' : Cutting) (rest : List ℕ) → IsServing me left left' given given' before middle turns c.unread → IsPart c.unread → Comes count left' left'' given' given'' c c' → (count ≡ 0 → ⊥) → PassesUnlessEnded (Err ended) me c'.unread rest middle after → IsStop (Err ended) rest → turns < 4294967295
     → Serves me ended left left'' given given'' before after
 serves_stopped me ends.Memory left left' left'' given given' given'' before middle after turns count c c' rest s part k some p stop few =
     let fed = serving_fed me left left' left'' given given' given'' before middle turns count c c' s k some in
-    serves_now me ends.Memory left left'' given given'' before after (turns + 1) rest (serving_passed me left left'' given given'' before middle after (turns + 1) c'.unread rest fed p) tt refl (omega (arith, few)) tt tt
+    serves_now me ends.Memory left left'' given given'' before after (turns + 1) p.0 (serving_passed me left left'' given given'' before middle after (turns + 1) c'.unread p.0 fed p.1) tt refl (omega (arith, few)) tt tt
 serves_stopped me (ends.BadFrame fault) left left' left'' given given' given'' before middle after turns count c c' rest s part k some p stop few =
     let fed = serving_fed me left left' left'' given given' given'' before middle turns count c c' s k some in
     serves_now me (ends.BadFrame fault) left left'' given given'' before after (turns + 1) rest (serving_passed me left left'' given given'' before middle after (turns + 1) c'.unread rest fed p) stop refl (omega (arith, few)) tt (s.reads.pieces, k.piece, refl, goes_on me left left' given given' before middle turns c.unread s part)

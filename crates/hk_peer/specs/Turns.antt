@@ -16,6 +16,11 @@ IsStop (Err ends.Memory) rest = ⊤
 IsStop (Err (ends.BadFrame fault)) rest = IsBad fault rest
 IsStop (Err ended) rest = ⊥
 
+-- Some bytes were cut into parcels, and those to this node were put: all that are there, up to this rest. At `Memory` that is a beginning of them, up to some rest.
+abbrev pub PassesUnlessEnded : Result (Unit {0}) PeerEnd → NodeId → List ℕ → List ℕ → Known → Known → Type 0
+PassesUnlessEnded (Err ends.Memory) me bytes rest before after = (behind : List ℕ) × Passes me bytes behind before after
+PassesUnlessEnded result me bytes rest before after = Passes me bytes rest before after
+
 -- a piece came off the source and to the cutter; none comes only at the end
 pub record Comes (count : ℕ) (left left' : Option (List ℕ)) (given given' : Option (List (List ℕ))) (c c' : Cutting) : Type 0 where
   pub piece : List ℕ

@@ -6,7 +6,7 @@ use thiserror::Error;
 /// How the connection of a peer ended.
 #[derive(Clone, Copy, Debug, PartialEq, Eq, Error)]
 pub enum PeerEnd {
-    /// An allocation was refused. Some of the parcels were put.
+    /// An allocation was refused, or a put found the link full when nobody took from it any more. Some of the parcels were put.
     #[error("no memory")]
     Memory,
     /// The peer sent no more.

@@ -1,9 +1,9 @@
 //! Passes on the parcels that are there.
 
-ghost use Rattle.std.specs.Prelude.{◌≡◌, true, false};
+ghost use Rattle.std.specs.Prelude.{◌≡◌, true, false, OnOk, OnErr};
 ghost use Rattle.hk_link.specs.Ends.{IsPut, IsSameLink};
-ghost use Rattle.hk_peer.specs.Parcels.{is_to, Passes};
-ghost use Rattle.hk_peer.specs.Turns.{IsStop};
+ghost use Rattle.hk_peer.specs.Parcels.{is_to};
+ghost use Rattle.hk_peer.specs.Turns.{IsStop, PassesUnlessEnded};
 
 use crate::cutter::PeerCutter;
 use crate::ends::PeerEnd;
@@ -13,19 +13,61 @@ use hk_link::{Full, Outlet, Parcel};
 use std::alloc::Global;
 use std::sync::Wait;
 use std::thread;
+use std::thread::Parker;
+use std::time::Duration;
 
-// Puts the parcel, as often as the link is full.
-fn put<R: Wait>(rt: &R, outlet: &mut Outlet, parcel: Parcel)
+// So often a put that finds the link full is made again at once, when others had their turn. From then on it is made again after each pause.
+const TRIES: u32 = 64;
+
+const PAUSE_MILLISECONDS: u64 = 1;
+
+// The link was full, and nobody takes from it any more. The parcel is lost.
+#[derive(Drop)]
+struct Untaken;
+
+// Waits for room in a link. Whoever takes from it rings for nobody, so a wait ends by time.
+#[derive(Drop)]
+struct Waiting {
+    tries: u32,
+    parker: Parker,
+}
+
+impl Waiting {
+    fn new() -> Waiting {
+        Waiting {
+            tries: 0,
+            parker: Parker::new(),
+        }
+    }
+
+    fn wait<R: Wait>(&mut self, rt: &R) {
+        if self.tries < TRIES {
+            self.tries += 1;
+            thread::yield_now();
+        } else {
+            self.parker
+                .park_timeout(rt, Duration::from_millis(PAUSE_MILLISECONDS));
+        }
+    }
+}
+
+// Puts the parcel, as often as the link is full, unless nobody takes from it any more.
+fn put<R: Wait>(rt: &R, outlet: &mut Outlet, parcel: Parcel) -> Result<(), Untaken>
     ensures link { IsSameLink outlet.new outlet.old }
-    ensures put { IsPut outlet.old.known parcel outlet.new.known }
+    ensures put { OnOk result (IsPut outlet.old.known parcel outlet.new.known) }
+    ensures untaken { OnErr result (outlet.new.known ≡ outlet.old.known) }
 {
-    let mut waiting = parcel;
+    let mut unput = parcel;
+    let mut waiting = Waiting::new();
     for _ in rt.forever() {
-        match outlet.put(rt, waiting) {
-            Ok(()) => return,
+        match outlet.put(rt, unput) {
+            Ok(()) => return Ok(()),
             Err(Full(back)) => {
-                waiting = back;
-                thread::yield_now();
+                if outlet.is_closed() {
+                    return Err(Untaken);
+                }
+                unput = back;
+                waiting.wait(rt);
             }
         }
     }
@@ -42,14 +84,16 @@ fn is_to(me: NodeId, parcel: &Parcel) -> bool
 }
 
 // Puts a parcel to this node. Any other is lost.
-fn pass_on<R: Wait>(rt: &R, me: NodeId, outlet: &mut Outlet, parcel: Parcel)
+fn pass_on<R: Wait>(rt: &R, me: NodeId, outlet: &mut Outlet, parcel: Parcel) -> Result<(), Untaken>
     ensures link { IsSameLink outlet.new outlet.old }
-    ensures put { is_to me parcel ≡ true → IsPut outlet.old.known parcel outlet.new.known }
-    ensures lost { is_to me parcel ≡ false → outlet.new.known ≡ outlet.old.known }
+    ensures put { OnOk result (is_to me parcel ≡ true → IsPut outlet.old.known parcel outlet.new.known) }
+    ensures lost { OnOk result (is_to me parcel ≡ false → outlet.new.known ≡ outlet.old.known) }
+    ensures untaken { OnErr result (outlet.new.known ≡ outlet.old.known) }
 {
     if is_to(me, &parcel) {
-        put(rt, outlet, parcel);
+        return put(rt, outlet, parcel);
     }
+    Ok(())
 }
 
 /// Puts the parcels to this node whose frames are there, in their order.
@@ -61,12 +105,15 @@ pub fn pass<R: Wait>(
     outlet: &mut Outlet,
 ) -> Result<(), PeerEnd>
     ensures link { IsSameLink outlet.new outlet.old }
-    ensures passed { Passes me cutter.old.unread cutter.new.unread outlet.old.known outlet.new.known }
+    ensures passed { PassesUnlessEnded result me cutter.old.unread cutter.new.unread outlet.old.known outlet.new.known }
     ensures stop { IsStop result cutter.new.unread }
 {
     loop {
         match cutter.next(alloc) {
-            Ok(PeerStep::Parcel(parcel)) => pass_on(rt, me, outlet, parcel),
+            Ok(PeerStep::Parcel(parcel)) => match pass_on(rt, me, outlet, parcel) {
+                Ok(()) => {}
+                Err(Untaken) => return Err(PeerEnd::Memory),
+            },
             Ok(PeerStep::Need) => return Ok(()),
             Ok(PeerStep::Bad(fault)) => return Err(PeerEnd::BadFrame(fault)),
             Err(_) => return Err(PeerEnd::Memory),

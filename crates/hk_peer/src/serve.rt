@@ -36,7 +36,7 @@ fn read_piece<C: Source>(cutter: &mut PeerCutter, conn: &mut C) -> Result<usize,
 }
 
 /// Serves the connection of a peer: puts each parcel whose letter is to this node into the link, in the order in which they came, and passes over any other. A put
-/// waits while the link is full.
+/// waits while the link is full, unless the link's bell is closed: then nobody takes from it any more, and the connection ends.
 ///
 /// What was put is all that the bytes hold which were read before the connection ended, but at `Memory`, where it is a beginning of that.
 pub fn serve_peer<R: Wait, C: Source>(

@@ -31,7 +31,7 @@ returns-then-count-eq0-clause-served g c =
 pub returns-in-Err-pass-clause-served : goal.returns-in-Err-pass-clause-served
 returns-in-Err-pass-clause-served g c =
     let few : c.loop-read._read < 4294967295 = search rules in
-    serves_stopped c.args.me c.in-Err-pass.end (g.C.Source.left c.args.conn.now) (g.C.Source.left c.loop-read.conn) (g.C.Source.left c.read_piece.new.conn) (g.C.Source.given c.args.conn.now) (g.C.Source.given c.loop-read.conn) (g.C.Source.given c.read_piece.new.conn) c.args.outlet.now.known c.loop-read.outlet.known c.pass.new.outlet.known c.loop-read._read c.in-Ok-read_piece.count c.loop-read.cutter c.read_piece.new.cutter c.pass.new.cutter.unread c.loop-read.invariant.serving c.loop-read.invariant.part c.in-Ok-read_piece.ensures.pieces c.if-count-eq0.false c.pass.ensures.passed c.in-Err-pass.ensures.stop few
+    serves_stopped c.args.me c.in-Err-pass.end (g.C.Source.left c.args.conn.now) (g.C.Source.left c.loop-read.conn) (g.C.Source.left c.read_piece.new.conn) (g.C.Source.given c.args.conn.now) (g.C.Source.given c.loop-read.conn) (g.C.Source.given c.read_piece.new.conn) c.args.outlet.now.known c.loop-read.outlet.known c.pass.new.outlet.known c.loop-read._read c.in-Ok-read_piece.count c.loop-read.cutter c.read_piece.new.cutter c.pass.new.cutter.unread c.loop-read.invariant.serving c.loop-read.invariant.part c.in-Ok-read_piece.ensures.pieces c.if-count-eq0.false (rw c.in-Err-pass.is at c.pass.ensures.passed) c.in-Err-pass.ensures.stop few
 
 pub loop-read-preserved : goal.loop-read-preserved
 loop-read-preserved g c =
@@ -40,7 +40,7 @@ loop-read-preserved g c =
       link = same_link c.pass.new.outlet c.loop-read.outlet c.args.outlet.now c.pass.ensures.link c.loop-read.invariant.link;
       part = c.in-Ok-pass.ensures.stop;
       faults = omega (arith, c.loop-read.invariant.faults, c.read_piece.ensures.later);
-      serving = serving_passed c.args.me (g.C.Source.left c.args.conn.now) (g.C.Source.left c.read_piece.new.conn) (g.C.Source.given c.args.conn.now) (g.C.Source.given c.read_piece.new.conn) c.args.outlet.now.known c.loop-read.outlet.known c.pass.new.outlet.known (c.loop-read._read + 1) c.read_piece.new.cutter.unread c.pass.new.cutter.unread fed c.pass.ensures.passed;
+      serving = serving_passed c.args.me (g.C.Source.left c.args.conn.now) (g.C.Source.left c.read_piece.new.conn) (g.C.Source.given c.args.conn.now) (g.C.Source.given c.read_piece.new.conn) c.args.outlet.now.known c.loop-read.outlet.known c.pass.new.outlet.known (c.loop-read._read + 1) c.read_piece.new.cutter.unread c.pass.new.cutter.unread fed (rw c.in-Ok-pass.is at c.pass.ensures.passed);
     }
 
 pub returns-clause-served : goal.returns-clause-served
