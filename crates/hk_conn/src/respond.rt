@@ -14,8 +14,14 @@ use crate::stream::write_all;
 use hk_outside::{Connection, Desk, Sink, Source};
 use std::alloc::Global;
 
-// How much room for replies is kept.
-const KEPT_ROOM: usize = 131_072;
+// How much room for replies is kept between writes.
+const KEPT_ROOM: usize = 16_384;
+
+// Lets go what was written, and the room that a large reply took.
+fn give_back(out: &mut Vec<u8>) {
+    out.clear();
+    out.shrink_to(KEPT_ROOM);
+}
 
 // Answers all that was said so far, and writes the replies: at once, unless they pass the size of a write.
 pub fn respond<C: Connection, D: Desk>(
@@ -37,7 +43,6 @@ pub fn respond<C: Connection, D: Desk>(
 {
     loop {
         out.clear();
-        out.shrink_to(KEPT_ROOM);
         let stop = match pass(alloc, reader, desk, patience, out) {
             Ok(stop) => stop,
             Err(_) => return Err(ConnEnd::Memory),
@@ -46,6 +51,7 @@ pub fn respond<C: Connection, D: Desk>(
             Ok(()) => {}
             Err(_) => return Err(ConnEnd::WriteFault),
         }
+        give_back(out);
         match stop {
             Stop::Full => {}
             _ => return Ok(stop),
