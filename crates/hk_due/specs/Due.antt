@@ -1,5 +1,5 @@
 -- What is to be sent again of an open key.
-use Rattle.std.specs.Prelude.{ℕ, List, Bool, Option, is_some, if◌then◌else◌}
+use Rattle.std.specs.Prelude.{ℕ, List, Bool, Option, Some, None, is_some, if◌then◌else◌}
 use Rattle.std.specs.Option.{option_map}
 use Rattle.hk_node.specs.declared.event.NodeEvent.{NodeEvent}
 use Rattle.hk_node.specs.declared.event.NodeEvent.TheVariants as event
@@ -7,6 +7,7 @@ use Rattle.hk_node.specs.Rows.{Rows, row_at}
 use Rattle.hk_node.specs.Open.{next_open}
 use Rattle.hk_due.specs.declared.due.Due.{Due}
 use Rattle.hk_due.specs.declared.due.Due.TheVariants.{Resend, Replay}
+use Rattle.hk_node.specs.Index.{is_open_at}
 use Rattle.hk_due.specs.Keys.{OpenState, next_due}
 
 abbrev pub key_of : Due → List ℕ
@@ -32,3 +33,7 @@ due_key after before keys rows = if keys.whole then next_due after before keys e
 
 abbrev pub due_of : Option (List ℕ) → ℕ → OpenState → Rows → Option Due
 due_of after before keys rows = option_map (due_at rows) (due_key after before keys rows)
+
+-- what is to be sent again of a key, if its row is open
+abbrev pub due_of_key : Rows → List ℕ → Option Due
+due_of_key rows key = if is_open_at rows key then Some (due_at rows key) else None

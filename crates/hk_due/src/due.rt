@@ -3,9 +3,10 @@
 ghost use Rattle.std.specs.Prelude.{◌≡◌, IfOk};
 ghost use Rattle.hk_node.specs.Sound.{IsNodeEvent};
 ghost use Rattle.hk_node.specs.Laws.{IsNoCall};
-ghost use Rattle.hk_due.specs.Due.{key_of, event_of, has_pending, due_at};
+ghost use Rattle.hk_node.specs.Index.{is_open_at};
+ghost use Rattle.hk_due.specs.Due.{key_of, event_of, has_pending, due_at, due_of_key};
 
-use hk_base::{Key, Memory};
+use hk_base::{Key, Memory, State};
 use hk_node::{Node, NodeEvent};
 
 /// What is to be sent again of an open key.
@@ -60,4 +61,25 @@ pub(crate) fn due_at(part: &Node, key: &Key) -> Result<Due, Memory>
     } else {
         Ok(Due::Replay(key))
     }
+}
+
+/// Whether the key's row is open at the node, one that is not Valid.
+pub(crate) fn is_open(part: &Node, key: &Key) -> bool
+    ensures { result ≡ is_open_at part.now.rows key.now }
+{
+    match part.row(key) {
+        Some(row) => row.state != State::Valid,
+        None => false,
+    }
+}
+
+/// What is to be sent again of the key, if its row is open at the node.
+pub fn due_of_key(part: &Node, key: &Key) -> Result<Option<Due>, Memory>
+    ensures { IfOk result (λ due. due ≡ due_of_key part.now.rows key.now) }
+{
+    if !is_open(part, key) {
+        return Ok(None);
+    }
+    let due = due_at(part, key)?;
+    Ok(Some(due))
 }

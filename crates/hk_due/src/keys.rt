@@ -3,12 +3,11 @@
 ghost use Rattle.std.specs.Prelude.{◌≡◌, ◌⊎◌, [], true, map, Some, None, IsTrue, IfOk, OnOk, OnErr};
 ghost use Rattle.std.specs.List.{find, filter};
 ghost use Rattle.std.specs.Option.{option_map, option_copied};
-ghost use Rattle.hk_node.specs.Index.{is_open_at};
 ghost use Rattle.hk_due.specs.Due.{due_key, due_of};
 ghost use Rattle.hk_due.specs.Keys.{since_of, AreOthersSame, IsKept, IsMissed, IsLetGo, IsNoted, AreNoted, is_later, is_due, next_due};
 
-use crate::due::{Due, due_at};
-use hk_base::{Key, Memory, State};
+use crate::due::{Due, due_at, is_open};
+use hk_base::{Key, Memory};
 use hk_node::{Node, PriorRow};
 use std::alloc::Global;
 use std::collections::BTreeMap;
@@ -29,15 +28,6 @@ impl Model for OpenKeys {
     ghost Value = { OpenState };
 
     ghost view = { λ o. record { since = o.since.entries; whole = o.whole } };
-}
-
-fn is_open(part: &Node, key: &Key) -> bool
-    ensures { result ≡ is_open_at part.now.rows key.now }
-{
-    match part.row(key) {
-        Some(row) => row.state != State::Valid,
-        None => false,
-    }
 }
 
 // The first key that is open since a step up to `before`.

@@ -3,7 +3,7 @@
 //! A row that is not Valid waits for letters that may be lost, so its update is sent again now and then. To find such rows a worker looks at no row: it keeps
 //! the keys of the open ones ([`OpenKeys`]), each with the ticket of the step since which it is open, by what each step reports to have changed. A key is due
 //! only where it was open at some earlier ticket, which the worker chooses: else what is on its way would be sent again at once. What is to be sent again
-//! of it its row tells ([`Due`]).
+//! of it its row tells ([`Due`]). Of a key for which someone waits that is told at once ([`due_of_key`]).
 //!
 //! The caller tells each step of the shard's node, in the order of their tickets, with the node as it is after the step.
 #![tactic(auto)]
@@ -12,6 +12,6 @@ mod due;
 mod keys;
 mod laws;
 
-pub use due::Due;
+pub use due::{Due, due_of_key};
 pub use keys::OpenKeys;
 pub use laws::steps_keep_the_open_keys;

@@ -1,13 +1,13 @@
 -- What a worker takes.
-use Rattle.std.proofs.Common.{◌≡◌, ℕ, zero, suc, ◌-◌, ◌<◌, List, [], ◌∷◌, length, slice_index_or, slice_set, Option, Some, None, unwrap_or, MatchOption, refl, sym, ap, ◌∙◌, subst, arith}
+use Rattle.std.proofs.Common.{◌≡◌, ℕ, suc, ◌+◌, ◌-◌, ◌<◌, ◌≤◌, drop, List, [], ◌∷◌, length, slice_index_or, slice_set, Option, Some, None, unwrap_or, MatchOption, refl, sym, ap, ◌∙◌, subst, arith}
 use Rattle.std.specs.Option.{IfSome}
-use Rattle.std.specs.List.{slice_get, AllByRecursion}
-use Rattle.std.proofs.lemmas.List.{set-get_or}
+use Rattle.std.specs.List.{AllByRecursion}
+use Rattle.std.proofs.lemmas.List.{set-get_or, at_drop_more, at_drop_all}
 use Rattle.std.proofs.lemmas.Option.{slice_get_read}
 use Rattle.hk_link.specs.declared.parcel.Parcel.{Parcel}
 use Rattle.hk_link.specs.Ends.{End, IsTaken as IsTakenFrom, WasEmpty, IsSameLink}
 use Rattle.hk_due.specs.declared.due.Due.{Due}
-use Rattle.hk_turns.specs.Requests.{RequestState, first_due, IsTaken}
+use Rattle.hk_turns.specs.Requests.{RequestState, first_due, requests_in, IsTaken}
 use Rattle.hk_turns.specs.Rounds.{RoundState}
 use Rattle.hk_turns.specs.Workers.{WorkerState, with_inlets, with_requests, with_round, WasEmptyAt, IsTakenAt, TakesParcel, FindsNoParcel, TakesRequest, Walks, TakesDue}
 
@@ -52,3 +52,15 @@ pub takes_due : (finds : ℕ → Option (List ℕ) → ℕ → Option Due → Ty
     → Walks finds lacks (8 - w.round.shard) w.round found round → TakesDue finds lacks found now (with_round w round)
 takes_due finds lacks w now round found same walks =
     subst (λ (x : WorkerState). TakesDue finds lacks found x (with_round w round)) same (record { walks = walks; same = refl })
+
+-- ---- how many requests are due
+pub requests_more : (xs : List ℕ) (place x y due : ℕ) → place < length xs → x ≡ slice_index_or xs place x → y ≡ x → due + requests_in (drop place xs) ≡ requests_in xs
+    → due + y + requests_in (drop (place + 1) xs) ≡ requests_in xs
+requests_more xs place x y due below is same all =
+    let step : requests_in (drop place xs) ≡ slice_index_or xs place x + requests_in (drop (place + 1) xs) = at_drop_more requests_in xs place x below in
+    omega (arith, step, is, same, all)
+
+pub requests_all : (xs : List ℕ) (place due : ℕ) → length xs ≤ place → due + requests_in (drop place xs) ≡ requests_in xs → due ≡ requests_in xs
+requests_all xs place due past all =
+    let none : requests_in (drop place xs) ≡ 0 = at_drop_all requests_in xs place past in
+    omega (arith, none, all)

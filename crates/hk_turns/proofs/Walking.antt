@@ -1,9 +1,9 @@
 -- The walk over the open keys, a shard further.
-use Rattle.std.proofs.Common.{◌≡◌, ◌⊎◌, inl, inr, ℕ, suc, ◌+◌, ◌-◌, ◌<◌, List, Option, Some, None, refl, sym, ap, ◌∙◌, subst, arith}
+use Rattle.std.proofs.Common.{◌≡◌, ◌⊎◌, inl, inr, ℕ, suc, ◌+◌, ◌-◌, ◌<◌, List, Option, Some, None, sym, ap, ◌∙◌, subst, arith}
 use Rattle.hk_due.specs.declared.due.Due.{Due}
 use Rattle.hk_due.specs.Due.{key_of}
 use Rattle.hk_turns.specs.Rounds.{RoundState, behind_key, next_shard}
-use Rattle.hk_turns.specs.Workers.{IsFoundAt, Walks}
+use Rattle.hk_turns.specs.Workers.{Walks}
 
 module _ (finds : ℕ → Option (List ℕ) → ℕ → Option Due → Type 0) (lacks : ℕ → Type 0) where
   one_left : (shard : ℕ) → shard < 8 → 8 - shard ≡ suc (8 - (shard + 1))

@@ -1,5 +1,5 @@
 -- The requests for leases that are due.
-use Rattle.std.specs.Prelude.{◌≡◌, ℕ, ◌-◌, List, nat_lt, Option, Some, slice_set, replicate}
+use Rattle.std.specs.Prelude.{◌≡◌, ℕ, ◌+◌, ◌-◌, List, [], ◌∷◌, nat_lt, Option, Some, slice_set, replicate}
 use Rattle.std.specs.List.{position, slice_get}
 
 -- how many managers there are, and of each shard to how many its request has still to go
@@ -13,6 +13,11 @@ no_requests managers = record { managers = managers; left = replicate 8 0 }
 -- the shard is to ask each manager once
 abbrev pub raised : RequestState → ℕ → RequestState
 raised r shard = record { managers = r.managers; left = slice_set r.left shard r.managers }
+
+-- how many requests are due
+abbrev pub requests_in : List ℕ → ℕ
+requests_in [] = 0
+requests_in (count ∷ left) = count + requests_in left
 
 abbrev pub first_due : List ℕ → Option ℕ
 first_due left = position (λ count. nat_lt 0 count) left

@@ -62,8 +62,8 @@ pub record Working (G : Type 0) : Type 0 where
   pub worker : WorkerState
   pub way : Way G
 
--- by which steps were made at shards, what is due there, where memory was wanting, and what the gate answers
-module _ {G : Type 0} (applies : ℕ → NodeEvent → List Letter → Type 0) (finds : ℕ → Option (List ℕ) → ℕ → Option Due → Type 0) (lacks : ℕ → Type 0) (answers : G → Bool → G → Type 0) where
+-- by which steps were made at shards, what is due there, what is owed there, where memory was wanting, and what the gate answers
+module _ {G : Type 0} (applies : ℕ → NodeEvent → List Letter → Type 0) (finds : ℕ → Option (List ℕ) → ℕ → Option Due → Type 0) (owes : ℕ → Due → Type 0) (lacks : ℕ → Type 0) (answers : G → Bool → G → Type 0) where
   -- a parcel is taken, and its letter is given to its shard
   pub record ReceivesParcel (before after : Working G) : Type 0 where
     pub parcel : Parcel
@@ -84,9 +84,18 @@ module _ {G : Type 0} (applies : ℕ → NodeEvent → List Letter → Type 0) (
     pub taken : TakesDue finds lacks found before.worker after.worker
     pub sent : IsSentAgain applies lacks answers found before.way after.way
 
-  -- what a turn does where the inlets have no parcel: it asks a manager, or else sends again what is due
+  -- no request is due, and what is owed at a shard, of a row that was open, is sent again
+  pub record SendsWanted (before after : Working G) : Type 0 where
+    pub no_request : first_due before.worker.requests.left ≡ None
+    pub shard : ℕ
+    pub due : Due
+    pub owed : owes shard due
+    pub same : after.worker ≡ before.worker
+    pub sent : IsMadeOrLost applies lacks answers shard (event_of due) before.way after.way
+
+  -- what a turn does where the inlets have no parcel: it asks a manager, or else sends again what someone waits for, or what is due
   abbrev pub GoesOn : Working G → Working G → Type 0
-  GoesOn before after = AsksManager before after ⊎ SendsAgain before after
+  GoesOn before after = AsksManager before after ⊎ (SendsWanted before after ⊎ SendsAgain before after)
 
   abbrev pub IsTurn : Working G → Working G → Type 0
   IsTurn before after = ReceivesParcel before after ⊎ (FindsNoParcel before.worker × GoesOn before after)
@@ -96,21 +105,21 @@ abbrev pub at_gate : {G : Type 0} → Working G → G → Working G
 at_gate w gate = record { worker = w.worker; way = record { gate = gate; outlets = w.way.outlets } }
 
 -- so many turns, before each of which the gate let the worker pass
-abbrev pub AreTurns : {G : Type 0} → (ℕ → NodeEvent → List Letter → Type 0) → (ℕ → Option (List ℕ) → ℕ → Option Due → Type 0) → (ℕ → Type 0) → (G → Bool → G → Type 0) → (G → Bool)
+abbrev pub AreTurns : {G : Type 0} → (ℕ → NodeEvent → List Letter → Type 0) → (ℕ → Option (List ℕ) → ℕ → Option Due → Type 0) → (ℕ → Due → Type 0) → (ℕ → Type 0) → (G → Bool → G → Type 0) → (G → Bool)
     → ℕ → Working G → Working G → Type 0
-AreTurns applies finds lacks answers closed zero before after = after ≡ before
-AreTurns applies finds lacks answers closed (suc turns) before after =
-    (between : Working _) × AreTurns applies finds lacks answers closed turns before between × (passed : _) × (closed passed ≡ false)
-    × IsTurn applies finds lacks answers (at_gate between passed) after
+AreTurns applies finds owes lacks answers closed zero before after = after ≡ before
+AreTurns applies finds owes lacks answers closed (suc turns) before after =
+    (between : Working _) × AreTurns applies finds owes lacks answers closed turns before between × (passed : _) × (closed passed ≡ false)
+    × IsTurn applies finds owes lacks answers (at_gate between passed) after
 
 -- the walk over the open keys begins, or goes on, at a ticket
 abbrev pub begins : {G : Type 0} → Working G → ℕ → Working G
 begins w ticket = record { worker = with_round w.worker (begun w.worker.round ticket); way = w.way }
 
 -- A call that made so many turns. At its end the gate may have closed.
-pub record Works {G : Type 0} (applies : ℕ → NodeEvent → List Letter → Type 0) (finds : ℕ → Option (List ℕ) → ℕ → Option Due → Type 0) (lacks : ℕ → Type 0) (answers : G → Bool → G → Type 0)
+pub record Works {G : Type 0} (applies : ℕ → NodeEvent → List Letter → Type 0) (finds : ℕ → Option (List ℕ) → ℕ → Option Due → Type 0) (owes : ℕ → Due → Type 0) (lacks : ℕ → Type 0) (answers : G → Bool → G → Type 0)
     (closed : G → Bool) (turns : ℕ) (before after : Working G) : Type 0 where
   pub ticket : ℕ
   pub last : Working G
-  pub turned : AreTurns applies finds lacks answers closed turns (begins before ticket) last
+  pub turned : AreTurns applies finds owes lacks answers closed turns (begins before ticket) last
   pub end : (after ≡ last) ⊎ ((after ≡ at_gate last after.way.gate) × (closed after.way.gate ≡ true))

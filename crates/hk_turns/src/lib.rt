@@ -1,8 +1,8 @@
 //! The loop of a worker, which keeps a node's shards going.
 //!
 //! A worker ([`Worker`]) has inlets and outlets of its node's links. [`work`] makes its turns, each asked of a gate before. A turn takes one parcel and gives its
-//! letter to the shard that it is for; where all inlets are empty it makes one request for a lease that is due, or else it sends again the update of the next
-//! key, in the order of shards and keys, that was open at the call of `work` before. What the step sends goes on for the same shard, each letter asked of the
+//! letter to the shard that it is for; where all inlets are empty it makes one request for a lease that is due, or else it sends again the update of a key for
+//! which someone waits, or of the next key, in the order of shards and keys, that was open at the call of `work` before. What the step sends goes on for the same shard, each letter asked of the
 //! gate. A turn that has nothing to do yields. One that finds no memory loses its parcel. What turns do is a definition, `specs/Turns.antt`.
 //!
 //! Where the steps are made is behind a trait ([`Workplace`]), so that this crate knows of no lock. The caller owes that all workers of a node share its shards.

@@ -1,7 +1,7 @@
 //! The requests for leases that are due.
 
 ghost use Rattle.std.specs.Prelude.{◌≡◌, ◌<◌, length, None, MatchOption, IfOk, IfSome};
-ghost use Rattle.hk_turns.specs.Requests.{first_due, no_requests, raised, IsTaken};
+ghost use Rattle.hk_turns.specs.Requests.{first_due, no_requests, raised, requests_in, IsTaken};
 
 use hk_base::Memory;
 use std::alloc::Global;
@@ -51,6 +51,17 @@ impl LeaseRequests {
         ensures long { length self.old.left ≡ 8 }
     {
         self.left[usize::from(shard)] = self.managers;
+    }
+
+    /// How many requests are due.
+    pub fn count(&self) -> u64
+        ensures { result ≡ requests_in self.now.left }
+    {
+        let mut due = 0;
+        for place in 0..SHARDS {
+            due += u64::from(self.left[place]);
+        }
+        due
     }
 
     /// Takes the first request that is due, in the order of shards and managers: the shard and the manager that it asks. It takes no memory.

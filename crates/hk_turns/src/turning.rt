@@ -110,11 +110,15 @@ fn go_on<W: Workplace, G: Gate, R: Wait>(
     outlets: &mut Vec<(Actor, Outlet)>,
     gate: &mut G,
 )
-    ensures { GoesOn (W.applies place.now) (W.finds place.now) (W.lacks place.now) G.answers (record { worker = worker.old; way = record { gate = gate.old; outlets = outlets.old.items } }) (record { worker = worker.new; way = record { gate = gate.new; outlets = outlets.new.items } }) }
+    ensures { GoesOn (W.applies place.now) (W.finds place.now) (W.owes place.now) (W.lacks place.now) G.answers (record { worker = worker.old; way = record { gate = gate.old; outlets = outlets.old.items } }) (record { worker = worker.new; way = record { gate = gate.new; outlets = outlets.new.items } }) }
 {
     if let Some((shard, manager)) = worker.take_request() {
         let event = NodeEvent::AskLease { manager };
         make(rt, alloc, place, gate, outlets, shard, event);
+        return;
+    }
+    if let Some((shard, due)) = place.take_wanted(rt) {
+        make(rt, alloc, place, gate, outlets, shard, due.event());
         return;
     }
     if let Some((shard, due)) = worker.take_due(rt, place) {
@@ -134,10 +138,11 @@ fn make_turn<W: Workplace, G: Gate, R: Wait>(
     outlets: &mut Vec<(Actor, Outlet)>,
     gate: &mut G,
 )
-    ensures { IsTurn (W.applies place.now) (W.finds place.now) (W.lacks place.now) G.answers (record { worker = worker.old; way = record { gate = gate.old; outlets = outlets.old.items } }) (record { worker = worker.new; way = record { gate = gate.new; outlets = outlets.new.items } }) }
+    ensures { IsTurn (W.applies place.now) (W.finds place.now) (W.owes place.now) (W.lacks place.now) G.answers (record { worker = worker.old; way = record { gate = gate.old; outlets = outlets.old.items } }) (record { worker = worker.new; way = record { gate = gate.new; outlets = outlets.new.items } }) }
 {
     worker.note(false);
     if let Some(parcel) = worker.take(rt) {
+        worker.count(&parcel.letter);
         receive(rt, alloc, place, worker.node(), gate, outlets, parcel);
         return;
     }
@@ -154,7 +159,7 @@ pub fn work<W: Workplace, G: Gate, R: Wait>(
     gate: &mut G,
     turns: u64,
 ) -> u64
-    ensures made { Works (W.applies place.now) (W.finds place.now) (W.lacks place.now) G.answers G.closed result (record { worker = worker.old; way = record { gate = gate.old; outlets = outlets.old.items } }) (record { worker = worker.new; way = record { gate = gate.new; outlets = outlets.new.items } }) }
+    ensures made { Works (W.applies place.now) (W.finds place.now) (W.owes place.now) (W.lacks place.now) G.answers G.closed result (record { worker = worker.old; way = record { gate = gate.old; outlets = outlets.old.items } }) (record { worker = worker.new; way = record { gate = gate.new; outlets = outlets.new.items } }) }
     ensures most { result ≤ turns }
     ensures fewer { result < turns → G.closed gate.new ≡ true }
 {

@@ -2,19 +2,21 @@
 
 ghost use Rattle.std.specs.Prelude.{◌≡◌, ◌⊎◌, ◌<◌, ℕ, length, Some, None, MatchOption, IfOk, IfSome};
 ghost use Rattle.std.specs.List.{AllByRecursion};
+ghost use Rattle.hk_base.specs.Range.{IsLetter};
 ghost use Rattle.hk_link.specs.Ends.{WasEmpty};
-ghost use Rattle.hk_turns.specs.Requests.{first_due, no_requests, raised};
+ghost use Rattle.hk_turns.specs.Requests.{first_due, no_requests, raised, requests_in};
 ghost use Rattle.hk_turns.specs.Rounds.{resting, begun};
 ghost use Rattle.hk_turns.specs.Workers.{WasEmptyAt, IsTakenAt, TakesParcel, FindsNoParcel, TakesRequest, TakesDue, with_requests, with_round};
 
 use crate::requests::LeaseRequests;
 use crate::round::{Round, next_due};
 use crate::workplace::Workplace;
-use hk_base::{Memory, NodeId, Sequence};
+use hk_base::{Letter, Memory, NodeId, Sequence, frame_length};
 use hk_due::Due;
 use hk_link::{Inlet, Parcel};
 use std::alloc::Global;
 use std::marker::Model;
+use std::mem;
 use std::sync::Wait;
 
 /// The inlets of a worker.
@@ -29,6 +31,8 @@ pub struct Worker {
     round: Round,
     // Whether its last turn found nothing to do.
     rests: bool,
+    // So many bytes of letters its parcels brought since that was taken.
+    brought: u64,
 }
 
 impl Model for Worker {
@@ -76,6 +80,7 @@ impl Worker {
             requests,
             round: Round::new(),
             rests: false,
+            brought: 0,
         })
     }
 
@@ -93,6 +98,20 @@ impl Worker {
         self.rests
     }
 
+    /// How many requests for leases are due.
+    pub fn requests_due(&self) -> u64
+        ensures { result ≡ requests_in self.now.requests.left }
+    {
+        self.requests.count()
+    }
+
+    /// How many bytes the letters of its parcels have as frames, of those that were taken since the last call.
+    pub fn take_brought(&mut self) -> u64
+        ensures { self.new ≡ self.old }
+    {
+        mem::replace(&mut self.brought, 0)
+    }
+
     /// Its node.
     pub(crate) fn node(&self) -> NodeId
         ensures { result ≡ self.now.node }
@@ -105,6 +124,14 @@ impl Worker {
         ensures { self.new ≡ self.old }
     {
         self.rests = rests;
+    }
+
+    // A parcel brought this letter.
+    pub(crate) fn count(&mut self, letter: &Letter)
+        requires { IsLetter letter.now }
+        ensures { self.new ≡ self.old }
+    {
+        self.brought = self.brought.saturating_add(frame_length(letter) as u64);
     }
 
     // A call of `work` begins, at this ticket.

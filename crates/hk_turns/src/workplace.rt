@@ -1,7 +1,7 @@
 //! Where a worker's steps are made.
 
 ghost use Rattle.std.specs.Prelude.{◌≡◌, ◌<◌, ⊤, ℕ, List, Option, IfOk, OnErr};
-ghost use Rattle.std.specs.Option.{option_copied};
+ghost use Rattle.std.specs.Option.{option_copied, IfSome};
 ghost use Rattle.std.specs.List.{AllByRecursion};
 ghost use Rattle.hk_base.specs.declared.letter.Letter.{Letter};
 ghost use Rattle.hk_base.specs.Range.{IsLetter};
@@ -23,6 +23,9 @@ pub trait Workplace {
 
     /// At some moment this was to be sent again at a shard: of the least key behind one, or of all, that was open since a step of a ticket up to one.
     ghost finds: { Self → ℕ → Option (List ℕ) → ℕ → Option IsDue → Type 0 };
+
+    /// At some moment a row was open at a shard, and this was to be sent again of its key.
+    ghost owes: { Self → ℕ → IsDue → Type 0 };
 
     /// Memory was wanting at a shard, at some moment. Only the calls here tell it, so a loop that says so has made one.
     ghost lacks: { Self → ℕ → Type 0 } = { λ place shard. ⊤ };
@@ -56,4 +59,10 @@ pub trait Workplace {
         requires { shard < 8 }
         ensures due { IfOk result (λ due. finds self.now shard (option_copied after.entry) before due) }
         ensures err { OnErr result (lacks self.now shard) };
+
+    /// Takes a key for whose row someone waits, if there is one, and tells what is to be sent again of it and at which shard. None also where its row is open no
+    /// longer, or memory is wanting.
+    fn take_wanted<R: Wait>(&self, rt: &R) -> Option<(u8, Due)>
+        ensures owed { IfSome result (λ due. owes self.now due.0 due.1) }
+        ensures below { IfSome result (λ due. due.0 < 8) };
 }

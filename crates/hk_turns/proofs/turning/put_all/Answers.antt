@@ -1,5 +1,4 @@
 use Rattle.std.proofs.Common.{rules, ◌≡◌, ◌∷◌}
-use Rattle.hk_turns.specs.Turns.{Way}
 use Rattle.hk_turns.proofs.Making.{in_range, out_more}
 use Rattle.hk_turns.proofs.turning.put_all.Goals as goal
 
