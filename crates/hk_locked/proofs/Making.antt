@@ -13,7 +13,7 @@ use Rattle.hk_shard.specs.Shard.{ShardState, IsApplied}
 use Rattle.hk_journal.specs.declared.step_entry.JournalEntry.{JournalEntry}
 use Rattle.hk_snap.specs.Leases.{Lease}
 use Rattle.hk_due.specs.declared.due.Due.{Due}
-use Rattle.hk_due.specs.Due.{due_of}
+use Rattle.hk_due.specs.Due.{due_of, due_of_key}
 use Rattle.std.proofs.lemmas.Bool.{false≢true}
 use Rattle.hk_node.specs.Rows.{Rows}
 use Rattle.hk_node.specs.Index.{is_open_at}
@@ -81,13 +81,20 @@ is_due s now part after before (Ok due) same at found =
     found ∙ (ap (λ (n : NodeState). due_of after before s.open_keys n.rows) at ∙ ap (λ (x : LockedState). due_in after before x) same)
 is_due s now part after before (Err e) same at found = tt
 
+pub is_owed : {E : Type 0} (s now : LockedState) (part : NodeState) (key : List ℕ) (result : Result (Option Due) E) → s ≡ now → part ≡ s.shard.part
+    → IfOk result (λ due. due ≡ due_of_key part.rows key) → IfOk result (λ due. due ≡ due_of_key now.shard.part.rows key)
+is_owed s now part key (Ok due) same at found =
+    found ∙ (ap (λ (n : NodeState). due_of_key n.rows key) at ∙ ap (λ (x : LockedState). due_of_key x.shard.part.rows key) same)
+is_owed s now part key (Err e) same at found = tt
+
 pub is_journal : {E : Type 0} (s now : LockedState) (journal : List JournalEntry) (result : Result (List JournalEntry) E) → s ≡ now → journal ≡ s.shard.journal
     → IfOk result (λ same. same ≡ journal) → IfOk result (λ same. same ≡ now.shard.journal)
 is_journal s now journal (Ok copy) same at is = is ∙ (at ∙ ap (λ (x : LockedState). x.shard.journal) same)
 is_journal s now journal (Err e) same at is = tt
 
 -- how much is left of a lease, as a reader saw it
-pub short_met : (length : ℕ) (s : LockedState) (old new : ReaderState) (short : Bool) → MeetsLease s old new → short ≡ is_short length (lease_end s.shard.part) s.shard.part.clock
-    → short ≡ is_short length new.lease.end new.lease.now
+pub short_met : (length : ℕ) (s : LockedState) (old new : ReaderState) (short : Bool) → MeetsLease s old new → short ≡ is_short length old.skew (lease_end s.shard.part) s.shard.part.clock
+    → short ≡ is_short length new.skew new.lease.end new.lease.now
 short_met length s old new short met is =
-    is ∙ (sym (ap (λ e. is_short length e s.shard.part.clock) met.end) ∙ sym (ap (is_short length new.lease.end) met.now))
+    is ∙ (sym (ap (λ e. is_short length old.skew e s.shard.part.clock) met.end) ∙ (sym (ap (is_short length old.skew new.lease.end) met.now)
+    ∙ sym (ap (λ k. is_short length k new.lease.end new.lease.now) met.skew)))

@@ -23,6 +23,8 @@ use Rattle.hk_told.specs.declared.ask.Ask.{Ask}
 use Rattle.hk_told.specs.Held.{Asks, IsNewAsk, IsWith}
 use Rattle.hk_told.specs.Kept.{asks_in, given_up, AreOthersSame}
 use Rattle.hk_told.specs.Shown.{BeginsIn, Starts, Looks}
+use Rattle.hk_locked.specs.declared.told.ToldAsks.{ToldAsks}
+use Rattle.hk_locked.specs.declared.told.ToldAsks.TheVariants.{Nobody, One, Several}
 use Rattle.hk_locked.specs.Locked.{LockedState, ReaderState, lists_in}
 
 -- what the reader has seen of the key's cell
@@ -80,9 +82,9 @@ pub record Ticks (now : ℕ) (old new : ReaderState) : Type 0 where
   pub looked : LooksAtLease old.lease new.lease
   pub clock : now ≤ new.lease.now
 
--- of a lease of this length less is left than has gone
-abbrev pub is_short : ℕ → ℕ → ℕ → Bool
-is_short length_of_lease end now = nat_lt (end - now) (length_of_lease - (end - now))
+-- For so long a lease serves where clocks may differ by `skew`: its length, or what is left of it, without the skew. Of that less is left than has gone.
+abbrev pub is_short : ℕ → ℕ → ℕ → ℕ → Bool
+is_short length_of_lease skew end now = nat_lt (end - now - skew) (length_of_lease - skew - (end - now - skew))
 
 -- A read of the key without the lock, by one load of its cell and one of the lease, at a reading of the clock: it is told by what was seen.
 pub record Reads (key : List ℕ) (now : ℕ) (old new : ReaderState) (told : Local) : Type 0 where
@@ -102,6 +104,12 @@ Trims entries old new (Some journal) =
 abbrev pub replies_with : CallNo → Option Answer → List Reply
 replies_with call None = []
 replies_with call (Some answer) = record { call = call; answer = answer } ∷ []
+
+-- whose asks replies tell
+unfoldable pub told_asks : List Reply → ToldAsks
+told_asks [] = Nobody
+told_asks (reply ∷ []) = One reply.call
+told_asks (reply ∷ other ∷ replies) = Several
 
 -- the replies are that of the call alone, or none
 abbrev pub AreOneOrNone : CallNo → List Reply → Type 0

@@ -16,8 +16,10 @@ mod by_row;
 mod locked;
 mod places;
 mod reader;
+mod told;
 
 pub use by_row::RowRead;
 pub use locked::{Given, LockedShard, Started};
 pub use places::Places;
 pub use reader::ShardReader;
+pub use told::ToldAsks;

@@ -21,15 +21,17 @@ ghost use Rattle.hk_node.specs.Calls.{lease_end};
 ghost use Rattle.hk_locked.specs.Places.{shard_names, node_names};
 ghost use Rattle.hk_locked.specs.ByRow.{ReadsRow};
 ghost use Rattle.hk_locked.specs.Makes.{Stands, Follows, Makes, MakesCall, CallsAt, IsQuiet, due_in};
-ghost use Rattle.hk_locked.specs.Steps.{IsGrown, Meets, MeetsLease, Ticks, Trims, Begins, StartsAt, LooksFor, GivesUp, HasNoAsk, HasCalled, AreOneOrNone, replies_with, is_short};
+ghost use Rattle.hk_due.specs.Due.{due_of_key};
+ghost use Rattle.hk_locked.specs.Steps.{IsGrown, Meets, MeetsLease, Ticks, Trims, Begins, StartsAt, LooksFor, GivesUp, HasNoAsk, HasCalled, AreOneOrNone, replies_with, told_asks, is_short};
 ghost use Rattle.hk_told.specs.declared.asks.AskState.TheVariants.{Gone};
 
 use crate::by_row::{RowRead, told_by};
 use crate::places::Places;
 use crate::reader::ShardReader;
+use crate::told::{ToldAsks, told_asks};
 use hk_base::{Answer, CallNo, Key, Letters, Memory, NodeId, Op, Replies, Reply, State};
 use hk_callback::{Callbacks, Completion};
-use hk_due::{Due, OpenKeys};
+use hk_due::{Due, OpenKeys, due_of_key};
 use hk_journal::{Journal, share_journal};
 use hk_node::{Node, NodeEvent, NodeOut, Report};
 use hk_shard::Shard;
@@ -46,6 +48,8 @@ pub struct Given {
     pub letters: Letters,
     /// What it did to its node.
     pub report: Report,
+    /// Whose asks it told.
+    pub told: ToldAsks,
 }
 
 /// How a call began.
@@ -316,6 +320,13 @@ impl<F: Completion + Copy + Drop, P: Places> LockedShard<F, P> {
         self.open_keys.due(self.shard.part(), after, before)
     }
 
+    /// What is to be sent again of a key, if its row is open. It looks at no other row.
+    pub fn due_of_key(&self, key: &Key) -> Result<Option<Due>, Memory>
+        ensures { IfOk result (λ due. due ≡ due_of_key self.now.shard.part.rows key.now) }
+    {
+        due_of_key(self.shard.part(), key)
+    }
+
     /// Makes the step of an event that is no call, publishes the rows that it changed, calls the completions of its replies and tells the asks. After `Memory`
     /// nothing has changed.
     pub fn apply<R: Wait>(
@@ -332,6 +343,7 @@ impl<F: Completion + Copy + Drop, P: Places> LockedShard<F, P> {
         ensures applied { OnOk result (IsApplied self.old.shard ticket event self.new.shard) }
         ensures made { IfOk result (λ given. Makes ticket event given.letters self.old self.new) }
         ensures told { OnOk result (Delivers (replies_of (node_step self.old.shard.part event)) (asks_in self.old.asks) (asks_in self.new.asks)) }
+        ensures heard { IfOk result (λ given. given.told ≡ told_asks (replies_of (node_step self.old.shard.part event))) }
         ensures stands { OnOk result (Stands P.places self.new) }
         ensures err { OnErr result (self.new ≡ self.old) }
     {
@@ -350,9 +362,14 @@ impl<F: Completion + Copy + Drop, P: Places> LockedShard<F, P> {
             report,
             ..
         } = out;
+        let told = told_asks(&replies);
         deliver(&mut self.completions, &mut self.asks, replies);
         keeps(&self.shard);
-        Ok(Given { letters, report })
+        Ok(Given {
+            letters,
+            report,
+            told,
+        })
     }
 
     // Whether the reader is of this shard.
@@ -496,13 +513,15 @@ impl<F: Completion + Copy + Drop, P: Places> LockedShard<F, P> {
         Ok(self.asks.look(call, ticket))
     }
 
-    // Whether of a lease of this length less is left than has gone.
-    fn is_short(&self, length: u64) -> bool
-        ensures { result ≡ is_short length (lease_end self.now.shard.part) self.now.shard.part.clock }
+    // Whether of the time for which a lease of this length serves, where clocks may differ by `skew`, less is left than has gone.
+    fn is_short(&self, length: u64, skew: u64) -> bool
+        ensures { result ≡ is_short length skew (lease_end self.now.shard.part) self.now.shard.part.clock }
     {
         let part = self.shard.part();
-        let left = lease_end(part).saturating_sub(part.now());
-        left < length.saturating_sub(left)
+        let left = lease_end(part)
+            .saturating_sub(part.now())
+            .saturating_sub(skew);
+        left < length.saturating_sub(skew).saturating_sub(left)
     }
 
     // Raises the clock to a reading, where it is below that.
@@ -518,8 +537,8 @@ impl<F: Completion + Copy + Drop, P: Places> LockedShard<F, P> {
         Ok(())
     }
 
-    /// Raises the clock to a reading, where it is below that, and the reader sees it by one load of the lease. It gives whether of a lease of this length less is
-    /// left then than has gone. Where it answers `Memory` the clock may have risen.
+    /// Raises the clock to a reading, where it is below that, and the reader sees it by one load of the lease. It gives whether of the time for which a lease of
+    /// this length serves less is left then than has gone. Where it answers `Memory` the clock may have risen.
     pub fn tick<R: Wait>(
         &mut self,
         rt: &R,
@@ -532,11 +551,11 @@ impl<F: Completion + Copy + Drop, P: Places> LockedShard<F, P> {
         requires ticket { self.old.shard.last < ticket }
         requires now { now ≤ MAX_TIME }
         ensures ticks { OnOk result (Ticks now reader.old reader.new) }
-        ensures short { IfOk result (λ short. short ≡ is_short length reader.new.lease.end reader.new.lease.now) }
+        ensures short { IfOk result (λ short. short ≡ is_short length reader.new.skew reader.new.lease.end reader.new.lease.now) }
         ensures err { OnErr result (reader.new ≡ reader.old) }
     {
         self.raise(rt, alloc, ticket, now)?;
-        let short = self.is_short(length);
+        let short = self.is_short(length, reader.skew);
         self.meet_lease(rt, reader)?;
         reader.ticked = now;
         Ok(short)

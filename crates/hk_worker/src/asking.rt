@@ -11,6 +11,7 @@ ghost use Rattle.hk_worker.specs.Asking.{LooksOften, Tells};
 ghost use Rattle.hk_worker.specs.Sending.{SendsOrFails};
 
 use crate::shards::Shards;
+use crate::waiting::{ANSWER, Patience, SETTLE, wait_for};
 use hk_base::{Actor, Answer, CallNo, Key, Memory, Op};
 use hk_callback::Completion;
 use hk_link::Outlet;
@@ -20,72 +21,35 @@ use hk_overseer::send_all;
 use hk_told::AskState;
 use std::alloc::Global;
 use std::sync::{MutexGuard, Wait};
-use std::{hint, thread};
 
 /// After so many looks the outcome of an update is told as unknown.
 pub const TURNS: u64 = 100_000;
 
-// So often a desk looks, before it makes its call, whether the key's row is Valid.
-const LOOKS: u64 = 1_000;
-
-// Who looks again and again rings at the 256th of so many looks, so that the node's workers send again what got lost.
-const LOOKS_A_RING: u64 = 1_024;
-
-const FIRST_RING: u64 = 255;
-
-// Behind each of its first looks it waits for a step of a worker at the shard, for so many pauses at most.
-const FIRST_LOOKS: u64 = 64;
-
-const PAUSES: u64 = 16;
-
-// Before other threads go first a pause is so long.
-const SPINS: u32 = 32;
-
-// Other threads go first.
-fn pause() {
-    for _ in 0..SPINS {
-        hint::spin_loop();
-    }
-    thread::yield_now();
-}
-
-// How many pauses there are behind the look of this number at most. Most asks are told in the first looks; the others are not to take long.
-fn pauses_behind(look: u64) -> u64 {
-    if look < FIRST_LOOKS { PAUSES } else { 1 }
-}
-
-/// What is done between two looks. Before the first of them so many steps of workers had been made at the shard: one more may have changed what is looked for.
-pub(crate) fn wait_for_step<F: Completion + Copy + Drop, P: Places, R: Wait>(
+// Whether the key's row is Valid now, or there is none.
+fn is_settled<F: Completion + Copy + Drop, P: Places, R: Wait>(
     rt: &R,
     shards: &Shards<F, P>,
     shard: u8,
-    steps: u64,
-    look: u64,
-) {
-    if look % LOOKS_A_RING == FIRST_RING {
-        shards.bell().ring(rt);
-    }
-    for _ in 0..pauses_behind(look) {
-        if shards.steps_at(shard) != steps {
-            return;
-        }
-        pause();
-    }
+    key: &Key,
+) -> bool {
+    shards.lock_of(shard).lock(rt).is_settled(key)
 }
 
-// Waits until the key's row is Valid, for so many looks at most.
+// Waits a while until the key's row is Valid.
 fn settle<F: Completion + Copy + Drop, P: Places, R: Wait>(
     rt: &R,
     shards: &Shards<F, P>,
     shard: u8,
     key: &Key,
 ) {
-    for look in 0..LOOKS {
-        let steps = shards.steps_at(shard);
-        if shards.lock_of(shard).lock(rt).is_settled(key) {
+    let steps = shards.steps_at(shard);
+    let mut patience = Patience::new(SETTLE);
+    for _ in rt.forever() {
+        let seen = steps.seen();
+        if patience.is_over() || is_settled(rt, shards, shard, key) {
             return;
         }
-        wait_for_step(rt, shards, shard, steps, look);
+        wait_for(rt, shards, key, steps, seen, &mut patience);
     }
 }
 
@@ -187,7 +151,7 @@ fn turn<F: Completion + Copy + Drop, P: Places, R: Wait>(
     look(&mut *held, reader, key, call, ticket)
 }
 
-// Looks until the ask of the call was told something, 100,000 times at most.
+// Looks until the ask of the call was told something, 100,000 times at most. Those that are left once its patience is over follow at once.
 fn wait<F: Completion + Copy + Drop, P: Places, R: Wait>(
     rt: &R,
     shards: &Shards<F, P>,
@@ -199,12 +163,13 @@ fn wait<F: Completion + Copy + Drop, P: Places, R: Wait>(
     ensures waits { IfOk result (λ told. (turns : ℕ) × (told ≡ None → turns ≡ 100000) × LooksOften turns key.now ticket reader.old reader.new told) }
     ensures grown { IsGrown key.now reader.old reader.new }
 {
-    let shard = reader.number();
-    for looked in 0..TURNS {
-        let steps = shards.steps_at(shard);
+    let told = shards.told_to(call);
+    let mut patience = Patience::new(ANSWER);
+    for _looked in 0..TURNS {
+        let seen = told.seen();
         match turn(rt, shards, reader, key, call, ticket)? {
             AskState::Told(answer) => return Ok(Some(answer)),
-            AskState::Waits => wait_for_step(rt, shards, shard, steps, looked),
+            AskState::Waits => wait_for(rt, shards, key, told, seen, &mut patience),
             AskState::Gone => return Err(Memory),
         }
     }

@@ -6,7 +6,7 @@
 //! may sleep while its post rests ([`Post::rests`]), until the bell of the shards is rung.
 //!
 //! A [`NodeDesk`] asks operations at a post: it makes the call under the shard's lock, and where the update has to wait for other nodes it looks again until the
-//! answer was delivered. What it tells is shown by what its post has seen of the key's cell (`specs/Asking.antt`). A [`ClockDesk`] has a clock too: it tells a read
+//! answer was delivered. Who waits for what, and until when, stands in `src/waiting.rt`. What it tells is shown by what its post has seen of the key's cell (`specs/Asking.antt`). A [`ClockDesk`] has a clock too: it tells a read
 //! from what the key's shard shows, with no lock, where that serves, and else raises the shard's clock and asks as a [`NodeDesk`] does.
 //!
 //! The caller founds the shards of all its nodes, names their cells once (`Places` of `hk_locked`), gives each post of a node another number, and ticks the
@@ -14,6 +14,7 @@
 #![tactic(auto)]
 
 mod asking;
+mod changes;
 mod clock_desk;
 mod desk;
 mod eight;
@@ -22,9 +23,11 @@ mod post;
 mod reading;
 mod shards;
 mod tickets;
+mod waiting;
 mod working;
 
 pub use asking::TURNS;
+pub use changes::Changes;
 pub use clock_desk::ClockDesk;
 pub use desk::NodeDesk;
 pub use eight::Eight;
@@ -32,4 +35,5 @@ pub use laws::{asks_are_shown, clock_asks_are_shown, updates_stay_apart};
 pub use post::Post;
 pub use shards::{Founded, Shards};
 pub use tickets::Tickets;
+pub use waiting::Patience;
 pub use working::work;

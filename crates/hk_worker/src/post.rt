@@ -5,6 +5,7 @@ ghost use Rattle.hk_base.specs.declared.time.TheConstants.{MAX_TIME};
 ghost use Rattle.hk_outside.specs.Desk.{Suits};
 ghost use Rattle.hk_worker.specs.Asking.{AsksAtPost, AreReadersBelow, HaveTicked, HaveAsked, AsksBy, IsTicked, call_number};
 ghost use Rattle.std.specs.Arc.{arc_value};
+ghost use Rattle.hk_turns.specs.Requests.{requests_in};
 ghost use Rattle.hk_worker.specs.Sending.{Sends};
 ghost use Rattle.hk_worker.specs.Working.{HasWorked, WereQuietBelow};
 
@@ -137,7 +138,7 @@ impl<F: Completion + Copy + Drop, P: Places> Post<F, P> {
     }
 
     /// Raises the clocks of all shards to a reading. One above the limit counts as the limit. Where the reading is above all that the post ticked to before, each
-    /// shard of whose lease less than half is left then is to ask each of its managers for a lease once. After `Memory` the shards before the refused one have it.
+    /// shard that has then less than half left of the time for which a lease serves is to ask each of its managers for one. After `Memory` the shards before the refused one have it.
     pub fn tick<R: Wait>(&mut self, rt: &R, now: u64) -> Result<(), Memory>
         ensures ticked { OnOk result (IsTicked 8 now self.old self.new) }
         ensures err { OnErr result ((count : ℕ) × (count < 8) × IsTicked count now self.old self.new) }
@@ -171,6 +172,20 @@ impl<F: Completion + Copy + Drop, P: Places> Post<F, P> {
             gate,
             turns,
         )
+    }
+
+    /// How many requests for leases are due.
+    pub fn requests_due(&self) -> u64
+        ensures { result ≡ requests_in self.now.worker.requests.left }
+    {
+        self.worker.requests_due()
+    }
+
+    /// How many bytes the letters of the parcels have, as frames, that its worker took since the last call.
+    pub fn take_brought(&mut self) -> u64
+        ensures { self.new ≡ self.old }
+    {
+        self.worker.take_brought()
     }
 
     /// Whether its worker may sleep until the bell of the shards is rung: its last turn found nothing to do, and no row of a shard is open.
@@ -224,7 +239,7 @@ fn note_lease(worker: &mut Worker, shard: u8, rises: bool, short: bool)
     }
 }
 
-// Raises the clocks of the readers' shards, one after the other. Where the reading rises, those of whose lease less than half is left are to ask for one.
+// Raises the clocks of the readers' shards, one after the other. Where the reading rises, those whose lease is short are to ask for one.
 fn tick_all<F: Completion + Copy + Drop, P: Places, R: Wait>(
     rt: &R,
     alloc: Global,

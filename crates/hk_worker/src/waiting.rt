@@ -1,0 +1,128 @@
+//! Who waits for whom at a node, and until when.
+//!
+//! | Who waits | for what | looks | and goes on |
+//! |---|---|---|---|
+//! | an ask whose update other nodes have to acknowledge | what it is told | under the shard's lock, behind each answer to an ask of its post | behind 100,000 looks, and not before 2 s ([`ANSWER`]): its outcome is unknown then |
+//! | a desk that is to make a call | the key's row to be Valid | under the lock, behind each step of a worker at the shard | after 32 ms ([`SETTLE`]): the call is made then, and told Busy of the row |
+//! | a read | the same | at the key's cell, with no lock, behind each step | after 32 ms: it is told Busy of the row then |
+//! | a desk whose node's lease has run out (`hk_group`) | one that serves | at the lease's cell, behind each step at the key's shard | after two lengths of a lease, and not before 1 s; until there is one again it waits no more |
+//! | a worker, a manager's loop | a ring of its bell (`hk_link`) | at its inlets | when it is rung |
+//!
+//! All but the last look again also where nothing has changed for a millisecond, and once they waited for long, for ten: a wake-up that is lost costs that, and
+//! no answer. A connection asks again what was told Busy, 64 times in all (`hk_conn`): so `busy` of a row comes after 2 s.
+//!
+//! What got lost on its way is sent again for who waits: after 3 milliseconds, after 9, 27, and then at each 64th it has its key noted
+//! ([`crate::Shards::want`]) and rings, and a worker sends what is open of that key, however many others are.
+//!
+//! Time is counted by the sleeps that no change ended, each of which lasts its milliseconds by the system's steady clock: so no clock has to be handed in, and
+//! what was counted has passed. A thread that is woken again and again does not run out of looks before its time: behind 50,000 of them it sleeps where nobody
+//! can wake it.
+
+use crate::changes::Changes;
+use crate::shards::Shards;
+use hk_base::Key;
+use hk_callback::Completion;
+use hk_locked::Places;
+use std::sync::Wait;
+use std::sync::atomic::AtomicU64;
+use std::time::Duration;
+
+/// So long, in milliseconds, an ask waits for what it is told at least, before its outcome is unknown.
+pub(crate) const ANSWER: u64 = 2_000;
+
+/// So long, in milliseconds, whoever finds a row that is not Valid waits for it to become so.
+pub(crate) const SETTLE: u64 = 32;
+
+// For so many milliseconds a look follows each; then it follows each ten.
+const SOON: u64 = 32;
+
+const LATE_SLEEP: u64 = 10;
+
+// Behind so many milliseconds what got lost is sent again, then behind three times as many, but so many later at most.
+const FIRST_RING: u64 = 3;
+
+const BETWEEN_RINGS: u64 = 64;
+
+// So many changes may end a sleep.
+const WAKES: u64 = 50_000;
+
+/// How long someone goes on waiting.
+#[derive(Drop)]
+pub struct Patience {
+    limit: u64,
+    // So many milliseconds were slept.
+    slept: u64,
+    // So many waits ended by a change.
+    woken: u64,
+    next_ring: u64,
+}
+
+// Sleeps for so many milliseconds. Nobody wakes it.
+fn sleep<R: Wait>(rt: &R, millis: u64) {
+    let word = AtomicU64::new(0);
+    word.park_timeout(rt, 0, Duration::from_millis(millis));
+}
+
+impl Patience {
+    /// For so many milliseconds.
+    pub fn new(limit: u64) -> Patience {
+        Patience {
+            limit,
+            slept: 0,
+            woken: 0,
+            next_ring: FIRST_RING,
+        }
+    }
+
+    /// Whether so many milliseconds have passed.
+    pub fn is_over(&self) -> bool {
+        self.slept >= self.limit
+    }
+
+    // Whether a change ended a sleep of so many milliseconds.
+    fn is_woken<R: Wait>(&self, rt: &R, changes: &Changes, seen: u64, millis: u64) -> bool {
+        if self.woken < WAKES {
+            return changes.wait(rt, seen, millis);
+        }
+        sleep(rt, millis);
+        false
+    }
+
+    /// Waits between two looks: until there was a change since `seen`, for a few milliseconds at most. Once it is over it waits no more.
+    pub fn wait<R: Wait>(&mut self, rt: &R, changes: &Changes, seen: u64) {
+        if self.is_over() {
+            return;
+        }
+        let millis = if self.slept < SOON { 1 } else { LATE_SLEEP };
+        if self.is_woken(rt, changes, seen, millis) {
+            self.woken = self.woken.saturating_add(1);
+        } else {
+            self.slept = self.slept.saturating_add(millis);
+        }
+    }
+
+    /// Whether what is waited for is to be asked for again now. It is told once for each time.
+    pub fn is_to_ask(&mut self) -> bool {
+        if self.slept < self.next_ring {
+            return false;
+        }
+        let later = self.slept.saturating_mul(2).min(BETWEEN_RINGS);
+        self.next_ring = self.slept.saturating_add(later);
+        true
+    }
+}
+
+/// What is done between two looks at the row of a key.
+pub(crate) fn wait_for<F: Completion + Copy + Drop, P: Places, R: Wait>(
+    rt: &R,
+    shards: &Shards<F, P>,
+    key: &Key,
+    changes: &Changes,
+    seen: u64,
+    patience: &mut Patience,
+) {
+    patience.wait(rt, changes, seen);
+    if patience.is_to_ask() {
+        shards.want(rt, key);
+    }
+}
