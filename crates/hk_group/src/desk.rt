@@ -1,6 +1,6 @@
 //! The desk of one connection.
 
-ghost use Rattle.std.specs.Prelude.{◌≡◌, None, length};
+ghost use Rattle.std.specs.Prelude.{◌≡◌, ◌<◌, None, length};
 ghost use Rattle.hk_outside.specs.Desk.{Suits};
 ghost use Rattle.hk_worker.specs.Reading.{AsksByClock};
 
@@ -12,15 +12,11 @@ use hk_locked::Places;
 use hk_outside::{Clock, Desk, DeskReply};
 use hk_shard::shard_of;
 use hk_snap::LeaseCell;
-use hk_worker::ClockDesk;
+use hk_worker::{Changes, ClockDesk, Patience, Shards};
 use std::sync::{Arc, Wait};
-use std::thread;
 
-// So often a desk looks whether its node has a lease, before it asks without one.
-const LOOKS: u64 = 100_000;
-
-// While it looks it rings at each of so many looks.
-const LOOKS_A_RING: u64 = 64;
+// So long, in milliseconds, a desk waits at least for a lease that serves.
+const LEASE_WAIT: u64 = 1_000;
 
 // After so many updates a desk looks at the journals.
 const UPDATES_A_LOOK: u64 = 64;
@@ -39,6 +35,23 @@ pub(crate) struct LeaseTerms {
     pub(crate) skew: u64,
 }
 
+impl LeaseTerms {
+    // For how many milliseconds a new lease serves. One no longer than the skew serves nothing.
+    fn serves(self) -> u64 {
+        self.length.saturating_sub(self.skew)
+    }
+
+    // Whether less is left of that than has gone.
+    fn is_short(self, left: u64) -> bool {
+        left < self.serves().saturating_sub(left)
+    }
+
+    // How long a desk waits for a lease that serves.
+    fn patience(self) -> Patience {
+        Patience::new(self.length.saturating_mul(2).max(LEASE_WAIT))
+    }
+}
+
 // What a desk has to do beside asking.
 #[derive(Drop)]
 pub(crate) struct Ringing<C: Drop> {
@@ -51,31 +64,56 @@ pub(crate) struct Ringing<C: Drop> {
     pub(crate) updates: u64,
     /// So many bytes they brought since the workers were to look.
     pub(crate) bytes: u64,
+    /// It waited for a lease in vain, and has found none since.
+    pub(crate) is_out: bool,
     pub(crate) ghost eight: { length leases.items ≡ 8 },
 }
 
 impl<C: Clock + Drop> Ringing<C> {
-    // By how many milliseconds the lease of the key's shard is still sure to run.
-    fn left<R: Wait>(&mut self, rt: &R, key: &Key) -> u64 {
-        let end = self.leases[usize::from(shard_of(key))].end(rt);
-        end.saturating_sub(self.clock.now().saturating_add(self.terms.skew))
+    // For how many milliseconds the lease of a shard is still sure to serve; None where it serves no longer.
+    fn left<R: Wait>(&mut self, rt: &R, shard: u8) -> Option<u64>
+        requires { shard < 8 }
+    {
+        let end = self.leases[usize::from(shard)].end(rt);
+        end.checked_sub(self.clock.now().saturating_add(self.terms.skew))
     }
 
-    // Has the workers ask for a lease where it is near its end, and waits a while where it is over. A lease no longer than the skew serves nothing.
-    fn keep_lease<R: Wait>(&mut self, rt: &R, key: &Key) {
-        if !self.terms.asked || self.terms.length <= self.terms.skew {
+    // Has the workers ask for a lease where so much of it is left.
+    fn ask_if_short<R: Wait>(&self, rt: &R, left: Option<u64>) {
+        if self.terms.is_short(left.unwrap_or(0)) {
+            self.bell.ring(rt);
+        }
+    }
+
+    // Waits until the lease of the shard serves, behind each step that is made there, and gives whether it does. Whoever waited in vain waits no more until it does.
+    fn wait_for_lease<R: Wait>(&mut self, rt: &R, shard: u8, steps: &Changes) -> bool
+        requires { shard < 8 }
+    {
+        let mut patience = self.terms.patience();
+        let mut asks = true;
+        for _ in rt.forever() {
+            let seen = steps.seen();
+            let left = self.left(rt, shard);
+            if asks {
+                self.ask_if_short(rt, left);
+            }
+            if left.is_some() || self.is_out || patience.is_over() {
+                return left.is_some();
+            }
+            patience.wait(rt, steps, seen);
+            asks = patience.is_to_ask();
+        }
+        unreachable!()
+    }
+
+    // Has the lease of the key's shard asked for where it is near its end, and waits a while where it serves no longer.
+    fn keep_lease<R: Wait, P: Places>(&mut self, rt: &R, shards: &Shards<Unheard, P>, key: &Key) {
+        if !self.terms.asked || self.terms.serves() == 0 {
             return;
         }
-        for look in 0..LOOKS {
-            let left = self.left(rt, key);
-            if left < self.terms.length / 2 && look % LOOKS_A_RING == 0 {
-                self.bell.ring(rt);
-            }
-            if left > 0 {
-                return;
-            }
-            thread::yield_now();
-        }
+        let shard = shard_of(key);
+        let serves = self.wait_for_lease(rt, shard, shards.steps_at(shard));
+        self.is_out = !serves;
     }
 
     // Has the workers look at the journals where much data was brought.
@@ -119,7 +157,8 @@ impl<C: Clock + Drop, R: Wait + Drop, P: Places> Desk for GroupDesk<C, R, P> {
         ensures suits { Suits op.now result }
         ensures told { AsksByClock (C.reading self.old.desk.clock.value) key.now op.now self.old.desk.desk.post self.new.desk.desk.post result }
     {
-        self.ringing.keep_lease(&self.rt, key);
+        self.ringing
+            .keep_lease(&self.rt, self.desk.desk.post.shards(), key);
         let reply = self.desk.ask(key, op);
         if self.ringing.count(&self.rt, op) {
             let _ = self.desk.desk.post.trim(&self.rt, MAX_ENTRIES);

@@ -70,6 +70,7 @@ fn new_ringing<R: Wait + Drop, C: Clock + Drop, P: Places>(
         load: Arc::try_clone(&station.load)?,
         updates: 0,
         bytes: 0,
+        is_out: false,
     })
 }
 

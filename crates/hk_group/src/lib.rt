@@ -6,8 +6,8 @@
 //! its contract; that all have ended then is only tested.
 //!
 //! A worker sleeps until its node's bell is rung: by what puts a parcel for the node, by a desk there that waits for long, that finds a lease near its end, or that
-//! brought much data, and by the end of the server. For each ring one of the node's workers makes a turn. So does a manager's loop. No wait ends by time, so a server
-//! at rest uses no processor.
+//! brought much data, and by the end of the server. For each ring one of the node's workers makes a turn. So does a manager's loop. Both sleep with no time limit, so a
+//! server at rest uses no processor; who waits for an answer sleeps with one (`hk_worker`).
 //!
 //! The caller gives the runtime value, a clock, doors, a spawner, and a group within the limits of `specs/Founding.antt`.
 #![tactic(auto)]

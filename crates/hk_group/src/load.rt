@@ -6,10 +6,10 @@ use std::sync::atomic::{AtomicU64, Ordering};
 /// A journal is begun anew at so many entries. That is done under the lock of its shard, for which all who ask there wait.
 pub(crate) const MAX_ENTRIES: u32 = 64;
 
-// Or where the calls of all nodes brought so many bytes of data since.
+// Or where calls and letters brought so many bytes since, to all nodes.
 const MAX_DATA: u64 = 16 * 1_048_576;
 
-/// How many bytes of data the calls of all nodes brought.
+/// How many bytes the data of calls and the letters between nodes brought to all nodes.
 #[derive(Drop)]
 pub(crate) struct Load {
     brought: AtomicU64,
@@ -22,7 +22,7 @@ impl Load {
         }
     }
 
-    /// Calls brought so many bytes more.
+    /// So many bytes more were brought.
     pub(crate) fn add(&self, bytes: u64) {
         self.brought.fetch_add(bytes, Ordering::SeqCst);
     }
@@ -49,7 +49,7 @@ impl Trimming {
         self.turns = self.turns.saturating_add(turns);
     }
 
-    // Whether the calls brought much data since this was told last.
+    // Whether much was brought since this was told last.
     fn is_much(&mut self, load: &Load) -> bool {
         let brought = load.brought();
         if brought.wrapping_sub(self.seen) < MAX_DATA {
@@ -68,7 +68,7 @@ impl Trimming {
         true
     }
 
-    /// From how many entries on journals are to begin anew, if any are: all, where the calls brought much data, else those that are full.
+    /// From how many entries on journals are to begin anew, if any are: all, where much was brought, else those that are full.
     pub(crate) fn due(&mut self, load: &Load) -> Option<u32> {
         if self.is_much(load) {
             return Some(1);

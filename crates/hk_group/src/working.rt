@@ -6,12 +6,11 @@ use crate::load::{Load, Trimming};
 use crossbeam_utils::sync::WaitGroup;
 use hk_locked::Places;
 use hk_outside::{Clock, Job};
-use hk_shard::SHARDS;
 use hk_worker::{Post, work};
 use std::sync::{Arc, Wait};
 
-/// A worker makes at most so many turns before it looks at the clock and the journals.
-pub(crate) const TURNS: u64 = 64;
+/// A worker makes at most so many turns before it looks at the clock and the journals. Each may bring a mebibyte.
+const TURNS: u64 = 16;
 
 /// A worker of a node.
 #[derive(Drop)]
@@ -25,23 +24,37 @@ pub struct WorkJob<R: Wait + Drop, C: Drop, P: Places> {
     pub(crate) jobs: WaitGroup,
 }
 
-// What is done between turns: the node's clock rises to the reading, and journals begin anew. Where memory is wanting, it is left out.
-fn tend<R: Wait, P: Places>(
+// Before turns the node's clock rises to the reading. Where it rose a turn is granted for each request for a lease that is due then. Where memory is wanting, the shards that
+// were not reached rise later.
+fn raise<R: Wait, P: Places>(
     rt: &R,
     post: &mut Post<Unheard, P>,
-    reading: u64,
+    gate: &mut Open,
     last: u64,
-    due: Option<u32>,
+    reading: u64,
 ) {
     if last < reading {
         let _ = post.tick(rt, reading);
+        gate.grant(post.requests_due());
     }
-    if let Some(entries) = due {
+}
+
+// Behind so many turns journals begin anew, where they are full or much was brought. Where memory is wanting, they do later.
+fn tend<R: Wait, P: Places>(
+    rt: &R,
+    post: &mut Post<Unheard, P>,
+    load: &Load,
+    trimming: &mut Trimming,
+    turns: u64,
+) {
+    trimming.count(turns);
+    load.add(post.take_brought());
+    if let Some(entries) = trimming.due(load) {
         let _ = post.trim(rt, entries);
     }
 }
 
-// Makes turns until the ending is told: one for each ring, and where the clock rose one for each request for a lease that may be due then. It sleeps in between.
+// Makes turns until the ending is told: one for each ring, and where the clock rose one for each request for a lease that is due then. It sleeps in between.
 fn go_on<R: Wait, C: Clock, P: Places>(
     rt: &R,
     post: &mut Post<Unheard, P>,
@@ -49,17 +62,14 @@ fn go_on<R: Wait, C: Clock, P: Places>(
     load: &Load,
     gate: &mut Open,
 ) {
-    let requests = u64::from(SHARDS) * u64::from(post.shards().managers());
     let mut last = 0;
     let mut trimming = Trimming::new();
     for _ in rt.forever() {
         let reading = clock.now();
-        tend(rt, post, reading, last, trimming.due(load));
-        if last < reading {
-            gate.grant(requests);
-        }
+        raise(rt, post, gate, last, reading);
         last = reading;
-        trimming.count(work(rt, post, gate, TURNS));
+        let turns = work(rt, post, gate, TURNS);
+        tend(rt, post, load, &mut trimming, turns);
         if gate.is_over() {
             return;
         }
