@@ -1,0 +1,10 @@
+pub mod Parts
+pub mod Received
+pub mod Entries
+pub mod Bodies
+pub mod Framing
+pub mod Holding
+pub mod Standing
+pub mod Fronts
+pub mod Cuts
+pub mod Changes
