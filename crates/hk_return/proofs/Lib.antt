@@ -1,0 +1,5 @@
+pub mod Grants
+pub mod Parts
+pub mod Going
+pub mod Beginning
+pub mod Working

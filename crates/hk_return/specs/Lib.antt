@@ -1,0 +1,4 @@
+pub mod Lives
+pub mod Machine
+pub mod Guarded
+pub mod Worked

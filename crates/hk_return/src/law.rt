@@ -1,0 +1,24 @@
+//! The laws of managers that return.
+
+ghost use Rattle.hk_return.specs.Guarded.{GuardedWithReturns, GuardedWhereViewsMayBegin};
+ghost use Rattle.hk_return.specs.Worked.{MissedWithLatest, MissedWithNone, WorkedReturn};
+
+/// With managers that stop and return, and whose clocks begin anew then, each view that any node has installed has ended, and so has each
+/// view for which a majority sent ACTIVATE.
+pub fn returned_managers_let_views_end()
+    ensures installed { GuardedWithReturns }
+    ensures letters { GuardedWhereViewsMayBegin }
+{}
+
+/// There is a run in which a manager stops and returns, loses what was not on the disk, grants a lease anew, and lets a view begin
+/// without the node that had it.
+pub fn a_manager_returns()
+    ensures { WorkedReturn }
+{}
+
+/// Where a manager that returns notes no until anew, or only those of the view that it holds at the end of its log, there is a run in
+/// which a view is installed while a lease runs that it leaves out.
+pub fn a_manager_that_forgets_is_not_safe()
+    ensures none { MissedWithNone }
+    ensures latest { MissedWithLatest }
+{}

@@ -1,0 +1,8 @@
+//! Why a manager may stop and return.
+#![tactic(auto)]
+
+mod law;
+
+pub use law::{
+    a_manager_returns, a_manager_that_forgets_is_not_safe, returned_managers_let_views_end,
+};
