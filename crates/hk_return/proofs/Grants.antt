@@ -120,11 +120,11 @@ until_up untils n until k = ⊎_elim
 pub until_noted : (untils : List (NodeId × ℕ)) (n : NodeId) (until : ℕ) → until ≤ until_of (with_grant untils n until) n
 until_noted untils n until = let h = granted_same untils n until in omega (arith, h)
 
-all_up : (untils : List (NodeId × ℕ)) (nodes : List NodeId) (until : ℕ) (k : NodeId) → until_of untils k ≤ until_of (with_all untils nodes until) k
+pub all_up : (untils : List (NodeId × ℕ)) (nodes : List NodeId) (until : ℕ) (k : NodeId) → until_of untils k ≤ until_of (with_all untils nodes until) k
 all_up untils [] until k = le_refl (until_of untils k)
 all_up untils (n ∷ nodes) until k = le_trans (all_up untils nodes until k) (until_up (with_all untils nodes until) n until k)
 
-all_noted : (untils : List (NodeId × ℕ)) (nodes : List NodeId) (until : ℕ) (k : NodeId) → is_member k nodes ≡ true → until ≤ until_of (with_all untils nodes until) k
+pub all_noted : (untils : List (NodeId × ℕ)) (nodes : List NodeId) (until : ℕ) (k : NodeId) → is_member k nodes ≡ true → until ≤ until_of (with_all untils nodes until) k
 all_noted untils [] until k h = absurd (false≢true h)
 all_noted untils (n ∷ nodes) until k h = ⊎_elim
     (λ (e : nat_eq n.0 k.0 ≡ true). let s : k ≡ n = same_node k n (sym (eqb-true n.0 k.0 e)) in rw s (until_noted (with_all untils nodes until) n until))

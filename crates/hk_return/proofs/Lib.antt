@@ -3,3 +3,8 @@ pub mod Parts
 pub mod Going
 pub mod Beginning
 pub mod Working
+pub mod Timeless
+pub mod Replaying
+pub mod Noting
+pub mod Making
+pub mod Grouping

@@ -2,3 +2,5 @@ pub mod Lives
 pub mod Machine
 pub mod Guarded
 pub mod Worked
+pub mod Log
+pub mod Group

@@ -1,6 +1,8 @@
 //! The laws of managers that return.
 
 ghost use Rattle.hk_return.specs.Guarded.{GuardedWithReturns, GuardedWhereViewsMayBegin};
+ghost use Rattle.hk_return.specs.Group.{ReturningManagersAgree};
+ghost use Rattle.hk_return.specs.Log.{LogsAreReplayed, UntilsAreNotedAnew};
 ghost use Rattle.hk_return.specs.Worked.{MissedWithLatest, MissedWithNone, WorkedReturn};
 
 /// With managers that stop and return, and whose clocks begin anew then, each view that any node has installed has ended, and so has each
@@ -21,4 +23,16 @@ pub fn a_manager_returns()
 pub fn a_manager_that_forgets_is_not_safe()
     ensures none { MissedWithNone }
     ensures latest { MissedWithLatest }
+{}
+
+/// A manager made anew from its log is one that it was, but for its clock and untils, and nothing that it said is taken back. For each
+/// member of each view that it came to hold by its log it notes an until anew.
+pub fn logs_are_replayed()
+    ensures replay { LogsAreReplayed }
+    ensures returned { UntilsAreNotedAnew }
+{}
+
+/// Managers that stop and return, each made anew from its log, agree as managers that never stop.
+pub fn returning_managers_agree()
+    ensures { ReturningManagersAgree }
 {}

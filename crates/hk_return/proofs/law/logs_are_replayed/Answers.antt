@@ -1,0 +1,9 @@
+use Rattle.hk_return.proofs.Replaying.{logs_are_replayed}
+use Rattle.hk_return.proofs.Noting.{untils_are_noted_anew}
+use Rattle.hk_return.proofs.law.logs_are_replayed.Goals as goal
+
+pub returns-clause-replay : goal.returns-clause-replay
+returns-clause-replay c = logs_are_replayed
+
+pub returns-clause-returned : goal.returns-clause-returned
+returns-clause-returned c = untils_are_noted_anew
