@@ -1,5 +1,5 @@
 -- Each event keeps what holds at every moment.
-use Rattle.std.proofs.Common.{◌≡◌, ◌≢◌, ◌⊎◌, ℕ, suc, ◌+◌, ◌<◌, ◌≤◌, Bool, true, false, cond, List, [], ◌∷◌, ◌++◌, drop, length, nat_eq, nat_le, max, refl, sym, ◌∙◌, inl, inr, ⊎_elim, arith, le_refl, le_trans}
+use Rattle.std.proofs.Common.{◌≡◌, ◌≢◌, ◌⊎◌, ℕ, suc, ◌+◌, ◌-◌, ◌<◌, ◌≤◌, Bool, true, false, cond, List, [], ◌∷◌, ◌++◌, drop, length, nat_eq, nat_le, max, refl, sym, subst, ◌∙◌, inl, inr, ⊎_elim, arith, le_refl, le_trans}
 use Rattle.std.proofs.lemmas.Bool.{eqb-true, cases_lt}
 use Rattle.hk_base.specs.declared.stamp.NodeId.{NodeId}
 use Rattle.hk_base.specs.declared.letter.Actor.TheVariants.{Node, Manager}
@@ -12,7 +12,7 @@ use Rattle.hk_earned.specs.Earned.{NeverReturns}
 use Rattle.hk_earned.proofs.Majorities.{Most, Below, below_up, below_with, length_with, most_reach, end_reached}
 use Rattle.hk_earned.proofs.Places.{by_put, by_node}
 use Rattle.hk_return.specs.Lives.{Lives, IsPacedForLeases}
-use Rattle.hk_return.specs.Machine.{Part, State, Event, epochs, held, every, noted_again, heard_with, next, MayHappen, IsRun, last_state}
+use Rattle.hk_return.specs.Machine.{Part, State, Event, epochs, held, every, KeepsSynced, noted_again, heard_with, next, MayHappen, IsRun, last_state}
 use Rattle.hk_return.specs.Machine.Event.{Pass, Learn, AskLease, TakeAsk, TakeGive, SendActivate, TakeActivate, Install, Sync, Note, Return}
 use Rattle.hk_return.specs.Guarded.{FoundersAreMembers}
 use Rattle.hk_return.proofs.Grants.{Granted, granted_more, granted_last, all_granted, is_granted, latest_is, below_latest, descends_left, until_up, until_noted, IsInOne, in_one_more, noted_for_all, in_left, in_right, in_either}
@@ -128,7 +128,7 @@ module _ (s : Setting) (lives : Lives) (last : ℕ) (paced : IsPacedForLeases s.
         activates = λ sent i. let a = k.activates sent i in (a.0, past_goes s lives last paced st.now (epochs p) (p.gives ++ st.gives) m sent.epoch low k.bounds a.1);
       }
 
-  learn_kept : (st : State) (m epoch : ℕ) → MayHappen s lives every st (Learn m epoch) → Parts s lives last paced st → Parts s lives last paced (next s lives every st (Learn m epoch))
+  learn_kept : (st : State) (m epoch : ℕ) → MayHappen s lives every KeepsSynced st (Learn m epoch) → Parts s lives last paced st → Parts s lives last paced (next s lives every st (Learn m epoch))
   learn_kept st m epoch may h = alters_kept st m (record p { unsynced = epoch ∷ p.unsynced }) (record { kept = part; past = λ e old. old }) h
     where
       p : Part
@@ -149,7 +149,7 @@ module _ (s : Setting) (lives : Lives) (last : ℕ) (paced : IsPacedForLeases s.
         activates = λ sent i. let a = k.activates sent i in (a.0, past_up s lives last paced st.now (epochs p) (epoch ∷ epochs p) (p.gives ++ st.gives) (p.gives ++ st.gives) m sent.epoch (λ e i. inr i) (λ n end g. g) a.1);
       }
 
-  ask_kept : (st : State) (n : NodeId) (m : ℕ) → MayHappen s lives every st (AskLease n m) → Parts s lives last paced st → Parts s lives last paced (next s lives every st (AskLease n m))
+  ask_kept : (st : State) (n : NodeId) (m : ℕ) → MayHappen s lives every KeepsSynced st (AskLease n m) → Parts s lives last paced st → Parts s lives last paced (next s lives every st (AskLease n m))
   ask_kept st n m may h = record {
     managers = h.managers;
     asks = λ ask i. ⊎_elim
@@ -178,7 +178,7 @@ module _ (s : Setting) (lives : Lives) (last : ℕ) (paced : IsPacedForLeases s.
   note_kept : (st : State) (m : ℕ) (n : NodeId) (until : ℕ) → Parts s lives last paced st → Parts s lives last paced (next s lives every st (Note m n until))
   note_kept st m n until h = alters_kept st m (record (st.manager m) { untils = with_grant (st.manager m).untils n until }) (record { kept = noted_kept st.now st.gives m (st.manager m) n until (h.managers m); past = λ e old. old }) h
 
-  grant_kept : (st : State) (ask : Ask) → st.now ≤ last → MayHappen s lives every st (TakeAsk ask) → NeverReturns s → Parts s lives last paced st → Parts s lives last paced (next s lives every st (TakeAsk ask))
+  grant_kept : (st : State) (ask : Ask) → st.now ≤ last → MayHappen s lives every KeepsSynced st (TakeAsk ask) → NeverReturns s → Parts s lives last paced st → Parts s lives last paced (next s lives every st (TakeAsk ask))
   grant_kept st ask low may chain h = alters_kept st ask.manager new (record { kept = part; past = λ e old. kept_past p.synced e (λ i. in_right p.unsynced p.synced e i) old }) h
     where
       p : Part
@@ -227,7 +227,7 @@ module _ (s : Setting) (lives : Lives) (last : ℕ) (paced : IsPacedForLeases s.
         activates = λ sent i. let a = k.activates sent i in (a.0, kept_past (epochs p) sent.epoch (λ i. i) a.1);
       }
 
-  give_kept : (st : State) (give : Give) → MayHappen s lives every st (TakeGive give) → Parts s lives last paced st → Parts s lives last paced (next s lives every st (TakeGive give))
+  give_kept : (st : State) (give : Give) → MayHappen s lives every KeepsSynced st (TakeGive give) → Parts s lives last paced st → Parts s lives last paced (next s lives every st (TakeGive give))
   give_kept st give may h = record {
     managers = h.managers;
     asks = h.asks;
@@ -256,7 +256,7 @@ module _ (s : Setting) (lives : Lives) (last : ℕ) (paced : IsPacedForLeases s.
           let e : max (st.granted give.node) (granted_end ends) ≡ st.granted give.node = omega (arith, g) in
           rw e (h.reached give.node (omega (arith, some, g)))) (cases_lt (st.granted give.node) (granted_end ends))
 
-  send_kept : (st : State) (m : ℕ) → st.now ≤ last → MayHappen s lives every st (SendActivate m) → Parts s lives last paced st → Parts s lives last paced (next s lives every st (SendActivate m))
+  send_kept : (st : State) (m : ℕ) → st.now ≤ last → MayHappen s lives every KeepsSynced st (SendActivate m) → Parts s lives last paced st → Parts s lives last paced (next s lives every st (SendActivate m))
   send_kept st m low may h = alters_kept st m (record p { activates = record { manager = m; epoch = held p } ∷ p.activates }) (record { kept = part; past = λ e old. old }) h
     where
       p : Part
@@ -311,8 +311,8 @@ module _ (s : Setting) (lives : Lives) (last : ℕ) (paced : IsPacedForLeases s.
         activates = λ sent i. absurd i;
       }
 
-  return_kept : (st : State) (m lost : ℕ) → st.now ≤ last → MayHappen s lives every st (Return m lost) → FoundersAreMembers s → Parts s lives last paced st → Parts s lives last paced (next s lives every st (Return m lost))
-  return_kept st m lost low may founders h = alters_kept st m new (record { kept = part; past = λ epoch old. past_up s lives last paced st.now p.synced p.synced (p.gives ++ st.gives) st.gives m epoch (λ e i. i) fewer old }) h
+  return_kept : (st : State) (m lost : ℕ) → st.now ≤ last → MayHappen s lives every KeepsSynced st (Return m lost) → FoundersAreMembers s → Parts s lives last paced st → Parts s lives last paced (next s lives every st (Return m lost))
+  return_kept st m lost low may founders h = subst (λ (xs : List ℕ). Parts s lives last paced (after st m (with_synced xs) [] [])) (sym kept_all) (alters_kept st m new (record { kept = part; past = λ epoch old. past_up s lives last paced st.now p.synced p.synced (p.gives ++ st.gives) st.gives m epoch (λ e i. i) fewer old }) h)
     where
       p : Part
       p = st.manager m
@@ -326,8 +326,15 @@ module _ (s : Setting) (lives : Lives) (last : ℕ) (paced : IsPacedForLeases s.
       until : ℕ
       until = (lives.at st.now).clock (Manager m) + wait s.lease
 
+      with_synced : List ℕ → Part
+      with_synced synced = record { life = lives.life st.now m; synced = synced; unsynced = left; untils = noted_again s (left ++ synced) until; gives = []; activates = [] }
+
       new : Part
-      new = record { life = lives.life st.now m; synced = p.synced; unsynced = left; untils = noted_again s (left ++ p.synced) until; gives = []; activates = [] }
+      new = with_synced p.synced
+
+      -- nothing that is synced is lost
+      kept_all : drop (lost - length p.unsynced) p.synced ≡ p.synced
+      kept_all = let none : lost - length p.unsynced ≡ 0 = let few = may.2 in omega (arith, few) in rw none refl
 
       fewer : (n : NodeId) (end : ℕ) → Granted s st.gives m n end → Granted s (p.gives ++ st.gives) m n end
       fewer n end g = granted_more s st.gives (p.gives ++ st.gives) m n end (λ give i q. in_right p.gives st.gives give i) g
@@ -347,7 +354,7 @@ module _ (s : Setting) (lives : Lives) (last : ℕ) (paced : IsPacedForLeases s.
         activates = λ sent i. absurd i;
       }
 
-  heard_kept : (st : State) (n : NodeId) (sent : Activate) → MayHappen s lives every st (TakeActivate n sent) → Parts s lives last paced st → Parts s lives last paced (next s lives every st (TakeActivate n sent))
+  heard_kept : (st : State) (n : NodeId) (sent : Activate) → MayHappen s lives every KeepsSynced st (TakeActivate n sent) → Parts s lives last paced st → Parts s lives last paced (next s lives every st (TakeActivate n sent))
   heard_kept st n sent may h = record {
     managers = h.managers;
     asks = h.asks;
@@ -369,7 +376,7 @@ module _ (s : Setting) (lives : Lives) (last : ℕ) (paced : IsPacedForLeases s.
       by_place k m true is = new m (nat_eq (st.heard_epoch n) sent.epoch) refl is
       by_place k m false is = h.heard k m is
 
-  install_kept : (st : State) (n : NodeId) → MayHappen s lives every st (Install n) → Parts s lives last paced st → Parts s lives last paced (next s lives every st (Install n))
+  install_kept : (st : State) (n : NodeId) → MayHappen s lives every KeepsSynced st (Install n) → Parts s lives last paced st → Parts s lives last paced (next s lives every st (Install n))
   install_kept st n may h = record {
     managers = h.managers;
     asks = h.asks;
@@ -383,7 +390,7 @@ module _ (s : Setting) (lives : Lives) (last : ℕ) (paced : IsPacedForLeases s.
   }
 
   module _ (chain : NeverReturns s) (founders : FoundersAreMembers s) where
-    pub event_kept : (st : State) (event : Event) → (next s lives every st event).now ≤ last → MayHappen s lives every st event → Parts s lives last paced st → Parts s lives last paced (next s lives every st event)
+    pub event_kept : (st : State) (event : Event) → (next s lives every st event).now ≤ last → MayHappen s lives every KeepsSynced st event → Parts s lives last paced st → Parts s lives last paced (next s lives every st event)
     event_kept st Pass low may h = pass_kept st low h
     event_kept st (Learn m epoch) low may h = learn_kept st m epoch may h
     event_kept st (AskLease n m) low may h = ask_kept st n m may h
@@ -396,6 +403,6 @@ module _ (s : Setting) (lives : Lives) (last : ℕ) (paced : IsPacedForLeases s.
     event_kept st (Note m n until) low may h = note_kept st m n until h
     event_kept st (Return m lost) low may h = return_kept st m lost low may founders h
 
-    pub run_kept : (st : State) → Parts s lives last paced st → (events : List Event) → IsRun s lives every st events → (last_state s lives every st events).now ≤ last → Parts s lives last paced (last_state s lives every st events)
+    pub run_kept : (st : State) → Parts s lives last paced st → (events : List Event) → IsRun s lives every KeepsSynced st events → (last_state s lives every st events).now ≤ last → Parts s lives last paced (last_state s lives every st events)
     run_kept st h [] run low = h
     run_kept st h (event ∷ events) run low = run_kept (next s lives every st event) (event_kept st event (le_trans (rises s lives (next s lives every st event) events) low) run.0 h) events run.1 low

@@ -8,3 +8,4 @@ pub mod Replaying
 pub mod Noting
 pub mod Making
 pub mod Grouping
+pub mod Covering

@@ -1,15 +1,16 @@
 -- The worked runs are what they are said to be.
-use Rattle.std.proofs.Common.{◌≡◌, ℕ, zero, suc, ◌<◌, ◌≤◌, true, false, nat_lt, nat_eq, refl, sym, subst, ◌∙◌, inl, ⊎_elim, arith, le_refl, le_trans}
-use Rattle.std.proofs.lemmas.Bool.{and_parts, cases_lt, false≢true}
+use Rattle.std.proofs.Common.{◌≡◌, Bool, ◌||◌, ℕ, zero, suc, ◌<◌, ◌≤◌, true, false, nat_lt, nat_eq, refl, sym, subst, ◌∙◌, inl, ⊎_elim, arith, le_refl, le_trans}
+use Rattle.std.proofs.lemmas.Bool.{eqb-true, eqb-false, and_parts, cases_lt, false≢true}
 use Rattle.hk_base.specs.declared.stamp.NodeId.{NodeId}
 use Rattle.hk_base.specs.declared.letter.Actor.TheVariants.{Node, Manager}
 use Rattle.hk_clocks.specs.Paced.{Moment}
 use Rattle.hk_earned.specs.Machine.{member}
+use Rattle.hk_earned.specs.Earned.{NeverReturns}
 use Rattle.hk_earned.specs.Worked.{second_node, setting}
 use Rattle.hk_earned.proofs.Working.{worked_run}
 use Rattle.hk_return.specs.Lives.{NeverOutruns, IsPacedForLeases}
 use Rattle.hk_return.specs.Guarded.{FoundersAreMembers}
-use Rattle.hk_return.specs.Worked.{life_at, at, lives, WorkedReturn, missed_at, missed_lives, MissedWithNone, MissedWithLatest}
+use Rattle.hk_return.specs.Worked.{life_at, at, lives, WorkedReturn, missed_at, missed_lives, MissedWithNone, MissedWithLatest, disk_setting, WorkedDisk}
 
 -- what rises at each moment rises from any to any later one
 rises : (f : ℕ → ℕ) → ((i : ℕ) → f i ≤ f (suc i)) → (from to : ℕ) → from ≤ to → f from ≤ f to
@@ -30,8 +31,8 @@ founders node few = by_number node.0 few
 module _ (moments : ℕ → Moment) (nodes : (i : ℕ) (n : NodeId) → (moments i).live (Node n) ≡ nat_lt n.0 2) (first : (m i : ℕ) → (moments i).live (Manager m) ≡ true → (moments 0).live (Manager m) ≡ true)
     (begins : (m : ℕ) → (moments 0).clock (Manager m) ≡ 1) (reads : (i : ℕ) (n : NodeId) → 1 ≤ (moments i).clock (Node n)) (manager_reads : (i m : ℕ) → 1 ≤ (moments i).clock (Manager m))
     (up : (n : NodeId) (i : ℕ) → (moments i).clock (Node n) ≤ (moments (suc i)).clock (Node n)) where
-  paced_by : (last : ℕ) → ((m : ℕ) (n : NodeId) → NeverOutruns 0 (record { at = moments; life = λ i m. life_at i }) last m n) → IsPacedForLeases 0 2 (record { at = moments; life = λ i m. life_at i }) last
-  paced_by last rate = record {
+  paced_by : (leased last : ℕ) → ((m : ℕ) (n : NodeId) → NeverOutruns 0 (record { at = moments; life = λ i m. life_at i }) last m n) → IsPacedForLeases 0 leased (record { at = moments; life = λ i m. life_at i }) last
+  paced_by leased last rate = record {
     rate = rate;
     once = λ n i j k from to low was is. nodes j n ∙ sym (nodes i n) ∙ was;
     rising = λ n from to l low was is. rises (λ i. (moments i).clock (Node n)) (up n) from to l;
@@ -88,8 +89,8 @@ never_outruns m n (suc (suc (suc from))) (suc (suc (suc to))) l low same was is 
 
 pub worked_return : WorkedReturn
 worked_return = record {
-  runs = (refl, (((refl, refl), inl refl, refl), ((refl, refl), ((refl, inl refl), (((refl, refl), omega arith), (tt, (refl, (tt, ((refl, omega arith), (((refl, refl), inl refl, refl), (((refl, refl), omega arith), ((refl, refl), ((refl, inl refl), (tt, (((refl, refl), refl), ((refl, refl), ((refl, inl refl, omega arith), ((refl, omega arith), tt))))))))))))))))));
-  paced = paced_by at node_live manager_first (λ m. refl) node_reads manager_reads node_up 3 never_outruns;
+  runs = (refl, (((refl, refl), inl refl, refl), ((refl, refl), ((refl, inl refl), (((refl, refl), omega arith), (tt, (refl, (tt, ((refl, omega arith, omega arith), (((refl, refl), inl refl, refl), (((refl, refl), omega arith), ((refl, refl), ((refl, inl refl), (tt, (((refl, refl), refl), ((refl, refl), ((refl, inl refl, omega arith), ((refl, omega arith), tt))))))))))))))))));
+  paced = paced_by at node_live manager_first (λ m. refl) node_reads manager_reads node_up 2 3 never_outruns;
   chain = worked_run.stays;
   founders = founders;
   ends = refl;
@@ -130,13 +131,13 @@ missed_up n (suc (suc i)) = omega arith
 missed_outruns : (m : ℕ) (n : NodeId) → NeverOutruns 0 missed_lives 2 m n
 missed_outruns m n from to l low same was is = let a = missed_one from m in let b = missed_one to m in omega (arith, a, b)
 
-missed_paced : IsPacedForLeases 0 2 missed_lives 2
-missed_paced = paced_by missed_at missed_node missed_first (λ m. refl) missed_reads (λ i m. let o = missed_one i m in omega (arith, o)) missed_up 2 missed_outruns
+missed_paced : (leased : ℕ) → IsPacedForLeases 0 leased missed_lives 2
+missed_paced leased = paced_by missed_at missed_node missed_first (λ m. refl) missed_reads (λ i m. let o = missed_one i m in omega (arith, o)) missed_up leased 2 missed_outruns
 
 pub missed_with_none : MissedWithNone
 missed_with_none = record {
-  runs = (refl, (((refl, refl), inl refl, refl), (((refl, refl), omega arith), ((refl, refl), ((refl, inl refl), (tt, (tt, ((refl, omega arith), (((refl, refl), refl), ((refl, refl), ((refl, inl refl, omega arith), ((refl, omega arith), tt))))))))))));
-  paced = missed_paced;
+  runs = (refl, (((refl, refl), inl refl, refl), (((refl, refl), omega arith), ((refl, refl), ((refl, inl refl), (tt, (tt, ((refl, omega arith, omega arith), (((refl, refl), refl), ((refl, refl), ((refl, inl refl, omega arith), ((refl, omega arith), tt))))))))))));
+  paced = missed_paced 2;
   chain = worked_run.stays;
   founders = founders;
   ends = refl;
@@ -147,12 +148,52 @@ missed_with_none = record {
 
 pub missed_with_latest : MissedWithLatest
 missed_with_latest = record {
-  runs = (refl, (((refl, refl), inl refl, refl), (((refl, refl), omega arith), ((refl, refl), ((refl, inl refl), (tt, (tt, ((refl, omega arith), (((refl, refl), refl), ((refl, refl), ((refl, inl refl, omega arith), ((refl, omega arith), tt))))))))))));
-  paced = missed_paced;
+  runs = (refl, (((refl, refl), inl refl, refl), (((refl, refl), omega arith), ((refl, refl), ((refl, inl refl), (tt, (tt, ((refl, omega arith, omega arith), (((refl, refl), refl), ((refl, refl), ((refl, inl refl, omega arith), ((refl, omega arith), tt))))))))))));
+  paced = missed_paced 2;
   chain = worked_run.stays;
   founders = founders;
   ends = refl;
   unguarded = λ g.
       let h = (g 2 second_node (inl refl) (record { before = 1; first = omega arith; lower = omega arith; was = refl; out = refl; live = refl })).received in
       absurd (omega (arith, h));
+}
+
+-- ---- where the disk loses what was synced
+disk_founders : FoundersAreMembers disk_setting
+disk_founders node few = by_number node.0 few
+  where
+    by_number : (k : ℕ) → k < 1 → member disk_setting 1 (record { 0 = k }) ≡ true
+    by_number zero l = refl
+    by_number (suc k) l = absurd (omega (arith, l))
+
+-- the first node is always a member, and the second one in one view alone
+disk_chain : NeverReturns disk_setting
+disk_chain e f g n low high = by_views (nat_eq e 2) (nat_eq f 2) (nat_eq g 2) refl refl refl
+  where
+    more : (t u : Bool) → (t || false) ≡ true → (t || (u || false)) ≡ true
+    more true u h = refl
+    more false u h = absurd (false≢true h)
+
+    by_views : (t u v : Bool) → nat_eq e 2 ≡ t → nat_eq f 2 ≡ u → nat_eq g 2 ≡ v → member disk_setting e n ≡ true → member disk_setting g n ≡ true → member disk_setting f n ≡ true
+    by_views t true true p q r was is = rw q (rw r at is)
+    by_views t true false p q r was is = rw q (more (nat_eq 0 n.0) (nat_eq 1 n.0) (rw r at is))
+    by_views t false false p q r was is = rw q (rw r at is)
+    by_views false false true p q r was is = rw q (rw p at was)
+    by_views true false true p q r was is =
+        let a = eqb-true e 2 p in
+        let b = eqb-true g 2 r in
+        absurd (eqb-false f 2 q (omega (arith, a, b, low, high)))
+
+pub worked_disk : WorkedDisk
+worked_disk = record {
+  runs = (((refl, refl), omega arith), (refl, (((refl, refl), inl refl, refl), ((refl, refl), ((refl, inl refl), (tt, (tt, ((refl, omega arith, tt), (((refl, refl), omega arith), (((refl, refl), omega arith), (((refl, refl), refl), ((refl, refl), ((refl, inl refl, omega arith), ((refl, omega arith), tt))))))))))))));
+  paced = missed_paced 1;
+  chain = disk_chain;
+  founders = disk_founders;
+  ends = refl;
+  unguarded = λ g.
+      let h = (g 3 second_node (inl refl) (record { before = 2; first = omega arith; lower = omega arith; was = refl; out = refl; live = refl })).received in
+      absurd (omega (arith, h));
+  soon = (((refl, refl), omega arith), (refl, (((refl, refl), inl refl, refl), ((refl, refl), ((refl, inl refl), (tt, (tt, ((refl, omega arith, tt), (((refl, refl), omega arith), ((refl, refl), (((refl, refl), omega arith), tt)))))))))));
+  refused = λ may. absurd cc;
 }

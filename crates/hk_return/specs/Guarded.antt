@@ -6,7 +6,7 @@ use Rattle.hk_clocks.specs.Paced.{Moment}
 use Rattle.hk_earned.specs.Machine.{Setting, In, IsMajority, granted_by, member}
 use Rattle.hk_earned.specs.Earned.{NeverReturns}
 use Rattle.hk_return.specs.Lives.{Lives, IsPacedForLeases}
-use Rattle.hk_return.specs.Machine.{State, Event, every, start, IsRun, last_state}
+use Rattle.hk_return.specs.Machine.{State, Event, every, KeepsSynced, start, IsRun, last_state}
 
 module _ (s : Setting) where
   -- a live node that was a member of a view of lower epoch and is not a member of this one
@@ -40,7 +40,7 @@ module _ (s : Setting) where
 
   -- what holds of each end of a run over moments whose clocks are paced for leases
   abbrev pub AtEachEnd : (Moment → State → Type 0) → Type 0
-  AtEachEnd Holds = 1 ≤ s.managers → NeverReturns s → FoundersAreMembers → (lives : Lives) (events : List Event) → IsRun s lives every (start s) events →
+  AtEachEnd Holds = 1 ≤ s.managers → NeverReturns s → FoundersAreMembers → (lives : Lives) (events : List Event) → IsRun s lives every KeepsSynced (start s) events →
       IsPacedForLeases s.skew s.founders lives (last_state s lives every (start s) events).now → Holds (lives.at (last_state s lives every (start s) events).now) (last_state s lives every (start s) events)
 
 -- EARNED, WITH MANAGERS THAT RETURN: whatever the run, at its end, and so at each moment, each view that any node has installed has Ended.

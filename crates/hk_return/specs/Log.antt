@@ -2,6 +2,7 @@
 use Rattle.std.specs.Prelude.{◌≡◌, ◌+◌, ◌≤◌, ⊤, ℕ, List, [], ◌∷◌, ◌++◌, take, Bool, true, false, Result, Ok, Err}
 use Rattle.std.specs.List.{filter}
 use Rattle.hk_base.specs.declared.stamp.NodeId.{NodeId}
+use Rattle.hk_base.specs.declared.letter.Actor.TheVariants.{Node}
 use Rattle.hk_base.specs.declared.letter.Letter.{Letter}
 use Rattle.hk_base.specs.declared.letter.Body.{Body}
 use Rattle.hk_base.specs.View.{is_member}
@@ -180,3 +181,10 @@ pub record IsReturned (first : ManagerState) (steps : List ManagerEvent) : Type 
 
 abbrev pub UntilsAreNotedAnew : Type 0
 UntilsAreNotedAnew = (first : ManagerState) (steps : List ManagerEvent) → IsReturned first steps
+
+-- GRANTS ARE COVERED: whoever was granted a lease by a letter that ever went out, for that node the manager notes an until anew at its
+-- return, whatever a stop leaves of the log, no earlier than that of a lease that is granted then.
+abbrev pub GrantsAreCovered : Type 0
+GrantsAreCovered = (first : ManagerState) (events : List LogEvent) → IsRun first (start first) events → (letter : Letter) → In (last_process first (start first) events).said letter →
+    (node : NodeId) (end : ℕ) → letter.to ≡ Node node → letter.body ≡ Body.LeaseGive end → (left : ℕ) →
+    first.clock + wait first.lease ≤ until_of (returned first (log_of ((last_process first (start first) events).synced ++ take left (last_process first (start first) events).unsynced))).untils node

@@ -1,5 +1,5 @@
 -- Managers that stop and return, grant leases and let views begin; and nodes that keep their ends and install views.
-use Rattle.std.specs.Prelude.{◌≡◌, ◌+◌, ◌<◌, ◌≤◌, ℕ, suc, List, [], ◌∷◌, ◌++◌, drop, Bool, true, false, nat_lt, ◌==◌, if◌then◌else◌, max, Ok, ⊤}
+use Rattle.std.specs.Prelude.{◌≡◌, ◌+◌, ◌-◌, ◌<◌, ◌≤◌, ℕ, suc, List, [], ◌∷◌, ◌++◌, drop, length, Bool, true, false, nat_lt, ◌==◌, if◌then◌else◌, max, Ok, ⊤}
 use Rattle.hk_base.specs.declared.stamp.NodeId.{NodeId}
 use Rattle.hk_base.specs.declared.letter.Actor.{Actor}
 use Rattle.hk_base.specs.declared.letter.Actor.TheVariants.{Node, Manager}
@@ -74,7 +74,11 @@ abbrev pub noted_again : Setting → List ℕ → ℕ → List (NodeId × ℕ)
 noted_again s [] until = []
 noted_again s (epoch ∷ earlier) until = with_all (noted_again s earlier until) (s.views epoch).members until
 
--- by which of the epochs of its log: it is every one
+-- what a stop may lose: nothing that is synced
+abbrev pub KeepsSynced : Part → ℕ → Type 0
+KeepsSynced p lost = lost ≤ length p.unsynced
+
+-- of which of the epochs of its log a manager notes the members: of every one
 abbrev pub every : List ℕ → List ℕ
 every epochs = epochs
 
@@ -146,30 +150,33 @@ module _ (s : Setting) (lives : Lives) (noting : List ℕ → List ℕ) where
   next st (Return m lost) =
       let p = st.manager m in
       let left : List ℕ = drop lost p.unsynced in
-      becomes st m (record { life = lives.life st.now m; synced = p.synced; unsynced = left; untils = noted_again s (noting (left ++ p.synced)) (until_now st m); gives = []; activates = [] })
+      let synced : List ℕ = drop (lost - length p.unsynced) p.synced in
+      becomes st m (record { life = lives.life st.now m; synced = synced; unsynced = left; untils = noted_again s (noting (left ++ synced)) (until_now st m); gives = []; activates = [] })
 
   -- it runs, in the life that it is in
   abbrev pub IsUp : State → ℕ → Type 0
   IsUp st m = (is_live st (Manager m) ≡ true) × (lives.life st.now m ≡ (st.manager m).life)
 
-  -- As in the machine in which nobody returns. A manager that begins another life does nothing in it before its return.
-  abbrev pub MayHappen : State → Event → Type 0
-  MayHappen st Pass = ⊤
-  MayHappen st (Learn m epoch) = IsUp st m × (held (st.manager m) < epoch)
-  MayHappen st (AskLease n m) = is_live st (Node n) ≡ true
-  MayHappen st (TakeAsk ask) = IsUp st ask.manager × In st.asks ask × (member s (held (st.manager ask.manager)) ask.node ≡ true)
-  MayHappen st (TakeGive give) = (is_live st (Node give.node) ≡ true) × In st.gives give
-  MayHappen st (SendActivate m) = IsUp st m × (past_answer (st.manager m).untils (s.views (held (st.manager m))) (clock st (Manager m)) ≡ Ok tt)
-  MayHappen st (TakeActivate n sent) = (is_live st (Node n) ≡ true) × In st.activates sent × (st.heard_epoch n ≤ sent.epoch)
-  MayHappen st (Install n) = (is_live st (Node n) ≡ true) × IsMajority s.managers (st.heard n)
-  MayHappen st (Sync m) = IsUp st m
-  MayHappen st (Note m n until) = IsUp st m
-  MayHappen st (Return m lost) = (is_live st (Manager m) ≡ true) × ((st.manager m).life < lives.life st.now m)
-
-  abbrev pub IsRun : State → List Event → Type 0
-  IsRun st [] = ⊤
-  IsRun st (event ∷ events) = MayHappen st event × IsRun (next st event) events
-
   abbrev pub last_state : State → List Event → State
   last_state st [] = st
   last_state st (event ∷ events) = last_state (next st event) events
+
+  module _ (Loses : Part → ℕ → Type 0) where
+    -- As in the machine in which nobody returns. A manager that begins another life does nothing in it before its return; and a stop
+    -- loses of its log no more than it may.
+    abbrev pub MayHappen : State → Event → Type 0
+    MayHappen st Pass = ⊤
+    MayHappen st (Learn m epoch) = IsUp st m × (held (st.manager m) < epoch)
+    MayHappen st (AskLease n m) = is_live st (Node n) ≡ true
+    MayHappen st (TakeAsk ask) = IsUp st ask.manager × In st.asks ask × (member s (held (st.manager ask.manager)) ask.node ≡ true)
+    MayHappen st (TakeGive give) = (is_live st (Node give.node) ≡ true) × In st.gives give
+    MayHappen st (SendActivate m) = IsUp st m × (past_answer (st.manager m).untils (s.views (held (st.manager m))) (clock st (Manager m)) ≡ Ok tt)
+    MayHappen st (TakeActivate n sent) = (is_live st (Node n) ≡ true) × In st.activates sent × (st.heard_epoch n ≤ sent.epoch)
+    MayHappen st (Install n) = (is_live st (Node n) ≡ true) × IsMajority s.managers (st.heard n)
+    MayHappen st (Sync m) = IsUp st m
+    MayHappen st (Note m n until) = IsUp st m
+    MayHappen st (Return m lost) = (is_live st (Manager m) ≡ true) × ((st.manager m).life < lives.life st.now m) × Loses (st.manager m) lost
+
+    abbrev pub IsRun : State → List Event → Type 0
+    IsRun st [] = ⊤
+    IsRun st (event ∷ events) = MayHappen st event × IsRun (next st event) events

@@ -2,8 +2,8 @@
 
 ghost use Rattle.hk_return.specs.Guarded.{GuardedWithReturns, GuardedWhereViewsMayBegin};
 ghost use Rattle.hk_return.specs.Group.{ReturningManagersAgree};
-ghost use Rattle.hk_return.specs.Log.{LogsAreReplayed, UntilsAreNotedAnew};
-ghost use Rattle.hk_return.specs.Worked.{MissedWithLatest, MissedWithNone, WorkedReturn};
+ghost use Rattle.hk_return.specs.Log.{GrantsAreCovered, LogsAreReplayed, UntilsAreNotedAnew};
+ghost use Rattle.hk_return.specs.Worked.{MissedWithLatest, MissedWithNone, WorkedDisk, WorkedReturn};
 
 /// With managers that stop and return, and whose clocks begin anew then, each view that any node has installed has ended, and so has each
 /// view for which a majority sent ACTIVATE.
@@ -25,11 +25,19 @@ pub fn a_manager_that_forgets_is_not_safe()
     ensures latest { MissedWithLatest }
 {}
 
+/// Where the disk lost a record that was synced, there is a run in which a view is installed while a lease runs that it leaves out. An
+/// until that is noted also for a view that the manager comes to hold again soon after its return keeps that view from beginning.
+pub fn a_view_may_come_again()
+    ensures { WorkedDisk }
+{}
+
 /// A manager made anew from its log is one that it was, but for its clock and untils, and nothing that it said is taken back. For each
-/// member of each view that it came to hold by its log it notes an until anew.
+/// member of each view that it came to hold by its log it notes an until anew, so for each node to which a letter that went out granted
+/// a lease.
 pub fn logs_are_replayed()
     ensures replay { LogsAreReplayed }
     ensures returned { UntilsAreNotedAnew }
+    ensures covered { GrantsAreCovered }
 {}
 
 /// Managers that stop and return, each made anew from its log, agree as managers that never stop.
