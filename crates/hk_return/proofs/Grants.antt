@@ -122,13 +122,13 @@ until_noted untils n until = let h = granted_same untils n until in omega (arith
 
 pub all_up : (untils : List (NodeId × ℕ)) (nodes : List NodeId) (until : ℕ) (k : NodeId) → until_of untils k ≤ until_of (with_all untils nodes until) k
 all_up untils [] until k = le_refl (until_of untils k)
-all_up untils (n ∷ nodes) until k = le_trans (all_up untils nodes until k) (until_up (with_all untils nodes until) n until k)
+all_up untils (n ∷ nodes) until k = le_trans (until_up untils n until k) (all_up (with_grant untils n until) nodes until k)
 
 pub all_noted : (untils : List (NodeId × ℕ)) (nodes : List NodeId) (until : ℕ) (k : NodeId) → is_member k nodes ≡ true → until ≤ until_of (with_all untils nodes until) k
 all_noted untils [] until k h = absurd (false≢true h)
 all_noted untils (n ∷ nodes) until k h = ⊎_elim
-    (λ (e : nat_eq n.0 k.0 ≡ true). let s : k ≡ n = same_node k n (sym (eqb-true n.0 k.0 e)) in rw s (until_noted (with_all untils nodes until) n until))
-    (λ (m : is_member k nodes ≡ true). le_trans (all_noted untils nodes until k m) (until_up (with_all untils nodes until) n until k)) (or_cases (nat_eq n.0 k.0) (is_member k nodes) h)
+    (λ (e : nat_eq n.0 k.0 ≡ true). let s : k ≡ n = same_node k n (sym (eqb-true n.0 k.0 e)) in le_trans (rw s (until_noted untils n until)) (all_up (with_grant untils n until) nodes until k))
+    (λ (m : is_member k nodes ≡ true). all_noted (with_grant untils n until) nodes until k m) (or_cases (nat_eq n.0 k.0) (is_member k nodes) h)
 
 -- a member of one of the views of these epochs
 pub record IsInOne (s : Setting) (epochs : List ℕ) (n : NodeId) : Type 0 where

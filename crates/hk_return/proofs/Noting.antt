@@ -1,13 +1,16 @@
 -- What a manager that returns is, and which untils it noted.
-use Rattle.std.proofs.Common.{◌≡◌, ◌+◌, ℕ, ◌≤◌, List, [], ◌∷◌, ◌++◌, Bool, true, false, cond, refl, sym, ap, subst, ◌∙◌, arith, le_refl, le_trans}
+use Rattle.std.proofs.Common.{◌≡◌, ◌+◌, ◌||◌, nat_eq, map, inl, inr, ℕ, ◌≤◌, List, [], ◌∷◌, ◌++◌, Bool, true, false, cond, refl, sym, ap, subst, ◌∙◌, arith, le_refl, le_trans}
+use Rattle.std.proofs.lemmas.Bool.{eq-eqb}
 use Rattle.hk_base.specs.declared.stamp.NodeId.{NodeId}
 use Rattle.hk_base.specs.View.{is_member}
-use Rattle.hk_lease.specs.Grants.{until_of}
+use Rattle.hk_lease.specs.Grants.{until_of, with_grant}
+use Rattle.hk_paxos.specs.Run.{In}
 use Rattle.hk_lease.specs.Wait.{wait}
 use Rattle.hk_manager.specs.declared.event.ManagerEvent.{ManagerEvent}
 use Rattle.hk_manager.specs.Manager.{ManagerState}
 use Rattle.hk_manager.specs.Steps.{manager_step}
-use Rattle.hk_return.specs.Log.{is_logged, manager_or, after, logged, but_times, with_members, returned, UntilsAreNotedAnew}
+use Rattle.hk_return.specs.Machine.{with_all}
+use Rattle.hk_return.specs.Log.{is_logged, manager_or, after, logged, but_times, with_members, returned, ask_of, NotedByAsks, UntilsAreNotedAnew}
 use Rattle.hk_return.proofs.Grants.{all_up, all_noted}
 use Rattle.hk_return.proofs.Timeless.{logged_same, logged_stays}
 use Rattle.hk_return.proofs.Replaying.{returned_same}
@@ -90,3 +93,25 @@ untils_are_noted_anew first steps = record {
   clock = clock_stays first steps;
   noted = covers first first steps refl;
 }
+
+-- ---- by asks
+is_there : (nodes : List NodeId) (k : NodeId) → In nodes k → is_member k nodes ≡ true
+is_there [] k h = absurd h
+is_there (n ∷ nodes) k (inl e) = rw (e, eq-eqb n.0 n.0 refl) refl
+is_there (n ∷ nodes) k (inr h) = or_second (nat_eq n.0 k.0) (is_member k nodes) (is_there nodes k h)
+  where
+    or_second : (a b : Bool) → b ≡ true → (a || b) ≡ true
+    or_second true b h = refl
+    or_second false b h = h
+
+one_ask : (m : ManagerState) (n : NodeId) → is_member n m.held.members ≡ true → manager_or m (manager_step m (ask_of m n)) ≡ record m { untils = with_grant m.untils n (until_now m) }
+one_ask m n is = rw (eq-eqb m.id m.id refl, is) refl
+
+all_asks : (m : ManagerState) (nodes : List NodeId) → ((k : NodeId) → In nodes k → is_member k m.held.members ≡ true) → after m (map (ask_of m) nodes) ≡ record m { untils = with_all m.untils nodes (until_now m) }
+all_asks m [] known = refl
+all_asks m (n ∷ nodes) known =
+    ap (λ (x : ManagerState). after x (map (ask_of m) nodes)) (one_ask m n (known n (inl refl)))
+    ∙ all_asks (record m { untils = with_grant m.untils n (until_now m) }) nodes (λ k h. known k (inr h))
+
+pub noted_by_asks : NotedByAsks
+noted_by_asks m = all_asks m m.held.members (is_there m.held.members)

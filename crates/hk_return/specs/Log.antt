@@ -1,8 +1,8 @@
 -- A manager that keeps a log of what Paxos says, and is made anew from it.
-use Rattle.std.specs.Prelude.{◌≡◌, ◌+◌, ◌≤◌, ⊤, ℕ, List, [], ◌∷◌, ◌++◌, take, Bool, true, false, Result, Ok, Err}
+use Rattle.std.specs.Prelude.{◌≡◌, ◌+◌, ◌≤◌, ⊤, ℕ, List, [], ◌∷◌, ◌++◌, take, map, Bool, true, false, Result, Ok, Err}
 use Rattle.std.specs.List.{filter}
 use Rattle.hk_base.specs.declared.stamp.NodeId.{NodeId}
-use Rattle.hk_base.specs.declared.letter.Actor.TheVariants.{Node}
+use Rattle.hk_base.specs.declared.letter.Actor.TheVariants.{Node, Manager}
 use Rattle.hk_base.specs.declared.letter.Letter.{Letter}
 use Rattle.hk_base.specs.declared.letter.Body.{Body}
 use Rattle.hk_base.specs.View.{is_member}
@@ -80,6 +80,13 @@ but_times m = record m { clock = 0; untils = [] }
 -- the until is noted for each member of the view that it holds
 abbrev pub with_members : ManagerState → ℕ → ManagerState
 with_members m until = record m { untils = with_all m.untils m.held.members until }
+
+-- So it becomes where it takes from each of them an ask for a lease, and the answers never go out.
+abbrev pub ask_of : ManagerState → NodeId → ManagerEvent
+ask_of m node = Receive (record { epoch = 0; from = Node node; to = Manager m.id; body = Body.LeaseAsk 0 })
+
+abbrev pub NotedByAsks : Type 0
+NotedByAsks = (m : ManagerState) → after m (map (ask_of m) m.held.members) ≡ with_members m (m.clock + wait m.lease)
 
 -- THE MANAGER THAT RETURNS: it makes the steps of its log anew, from what it was at the very first, and notes the until of a lease that is
 -- granted now for each member of each view that it comes to hold by them. Its clock begins anew, at 1.

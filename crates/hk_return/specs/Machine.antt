@@ -67,7 +67,7 @@ held p = latest (epochs p)
 -- the until is noted for each of these nodes
 abbrev pub with_all : List (NodeId × ℕ) → List NodeId → ℕ → List (NodeId × ℕ)
 with_all untils [] until = untils
-with_all untils (n ∷ nodes) until = with_grant (with_all untils nodes until) n until
+with_all untils (n ∷ nodes) until = with_all (with_grant untils n until) nodes until
 
 -- WHAT A MANAGER NOTES AT ITS RETURN: the until for each member of each view of these epochs, as if it granted a lease to each then
 abbrev pub noted_again : Setting → List ℕ → ℕ → List (NodeId × ℕ)

@@ -2,7 +2,7 @@
 
 ghost use Rattle.hk_return.specs.Guarded.{GuardedWithReturns, GuardedWhereViewsMayBegin};
 ghost use Rattle.hk_return.specs.Group.{ReturningManagersAgree};
-ghost use Rattle.hk_return.specs.Log.{GrantsAreCovered, LogsAreReplayed, UntilsAreNotedAnew};
+ghost use Rattle.hk_return.specs.Log.{GrantsAreCovered, LogsAreReplayed, NotedByAsks, UntilsAreNotedAnew};
 ghost use Rattle.hk_return.specs.Worked.{MissedWithLatest, MissedWithNone, WorkedDisk, WorkedReturn};
 
 /// With managers that stop and return, and whose clocks begin anew then, each view that any node has installed has ended, and so has each
@@ -33,11 +33,12 @@ pub fn a_view_may_come_again()
 
 /// A manager made anew from its log is one that it was, but for its clock and untils, and nothing that it said is taken back. For each
 /// member of each view that it came to hold by its log it notes an until anew, so for each node to which a letter that went out granted
-/// a lease.
+/// a lease. To note them for the members of the view that it holds it takes an ask of each, and keeps the answers to itself.
 pub fn logs_are_replayed()
     ensures replay { LogsAreReplayed }
     ensures returned { UntilsAreNotedAnew }
     ensures covered { GrantsAreCovered }
+    ensures asks { NotedByAsks }
 {}
 
 /// Managers that stop and return, each made anew from its log, agree as managers that never stop.
