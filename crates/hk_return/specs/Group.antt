@@ -9,7 +9,7 @@ use Rattle.hk_manager.specs.Manager.{ManagerState}
 use Rattle.hk_manager.specs.Sound.{manager_new}
 use Rattle.hk_council.specs.Council.{Council, IsNode}
 use Rattle.hk_council.specs.Agreed.{IsAgreed}
-use Rattle.hk_return.specs.Log.{Process, LogEvent, but_times, next as next_process, MayHappen as MayHappenThere, start as start_process}
+use Rattle.hk_return.specs.Log.{after, steps_of, logged, Process, LogEvent, but_times, next as next_process, MayHappen as MayHappenThere, start as start_process}
 use Rattle.hk_return.specs.Log.LogEvent.{Batch, Sync, Say, Note, Return}
 
 -- Letters that went out, of managers and of nodes, stand in the order in which they did, and are never taken away: one that is lost is
@@ -67,14 +67,15 @@ module _ (managers lease : ℕ) (view : View) where
   abbrev pub start : Group
   start = record { process = λ m. start_process (first m); sent = [] }
 
--- The council has the managers that run now, or will be made anew, but for their clocks and untils, on which no view that is agreed
--- depends; and it sent each letter that went out.
-pub record IsCouncilOf (managers : ℕ) (g : Group) (c : Council) : Type 0 where
-  pub manager : (m : ℕ) → m < managers → but_times (c.manager m) ≡ but_times (g.process m).manager
-  pub sent : (letter : Letter) → In g.sent letter → In c.sent letter
+  -- The council has the managers that run now, or will be made anew, but for their clocks and untils, on which no view that is agreed
+  -- depends; it sent each letter that went out; and it learned each view that a manager holds or held by its log.
+  pub record IsCouncilOf (g : Group) (c : Council) : Type 0 where
+    pub manager : (m : ℕ) → m < managers → but_times (c.manager m) ≡ but_times (g.process m).manager
+    pub sent : (letter : Letter) → In g.sent letter → In c.sent letter
+    pub views : (m : ℕ) → m < managers → (before later : List ManagerEvent) → steps_of ((g.process m).synced ++ (g.process m).unsynced) ≡ before ++ later → In c.learned (after (first m) (logged before)).held
 
 -- AGREEMENT, WITH RETURNS: whenever managers stop, and whatever their logs lose of what is not synced, there is a council of managers that
--- never stop, which agrees, and has these managers and each letter that went out.
+-- never stop, which agrees, and has these managers, their views, and each letter that went out.
 abbrev pub ReturningManagersAgree : Type 0
 ReturningManagersAgree = (managers lease : ℕ) (view : View) (events : List GroupEvent) → view.epoch ≡ 1 → IsRun managers lease view (start managers lease view) events →
-    (c : Council) × IsCouncilOf managers (last_group managers lease view (start managers lease view) events) c × IsAgreed managers c
+    (c : Council) × IsCouncilOf managers lease view (last_group managers lease view (start managers lease view) events) c × IsAgreed managers c
