@@ -9,8 +9,8 @@
 //! Two things follow, each over a machine of its own. Leases: in every run in which managers stop and return, a view that a majority lets begin leaves out no live
 //! node whose lease still runs. Of clocks it needs one direction of the rate, within one life of a manager at a time, with the skew anew in each: while both run,
 //! from one moment of a life to a later one, a manager's clock goes by at most eleven tenths of what the node's goes by, and the skew. Between two lives its clock
-//! may do what it will, but what it reads at its return it must read behind the last step of the life before. Agreement: as others see them, managers that return agree as managers that
-//! never stop, whatever their logs lose of what was not synced.
+//! may do what it will; but the reading to which it adds the wait at its return must come behind the last step of the life before. Agreement: as others see them,
+//! managers that return agree as managers that never stop, whatever their logs lose of what was not synced.
 //!
 //! The crate has laws alone. Trusted are the disk, that it gives back what it was told to keep, whole and in order, and behind it at most some first records of what
 //! was written since; that one process at a time has a log; and the clocks.
