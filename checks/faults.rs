@@ -14,6 +14,8 @@ unsafe extern "C" {
     fn __write(file: c_int, bytes: *const c_void, size: usize) -> isize;
     fn recvfrom(socket: c_int, room: *mut c_void, size: usize, flags: c_int, from: *mut c_void, from_size: *mut u32) -> isize;
     fn sendto(socket: c_int, bytes: *const c_void, size: usize, flags: c_int, to: *const c_void, to_size: u32) -> isize;
+    fn setsockopt(socket: c_int, level: c_int, name: c_int, value: *const c_void, size: u32) -> c_int;
+    fn bind(socket: c_int, address: *const c_void, size: u32) -> c_int;
     fn __errno_location() -> *mut c_int;
     fn dlsym(library: *const c_void, name: *const c_char) -> *const c_void;
     fn getenv(name: *const c_char) -> *const c_char;
@@ -25,6 +27,9 @@ unsafe extern "C" {
 const EIO: c_int = 5;
 const EAGAIN: c_int = 11;
 const ENOMEM: c_int = 12;
+const SOL_SOCKET: c_int = 1;
+const SO_REUSEADDR: c_int = 2;
+static YES: c_int = 1;
 /// Looks for a name behind this library.
 const NEXT: *const c_void = -1isize as *const c_void;
 
@@ -59,6 +64,7 @@ static READS: Calls = Calls::new();
 static WRITES: Calls = Calls::new();
 static THREADS: Calls = Calls::new();
 static SHORT: AtomicU64 = AtomicU64::new(0);
+static MEETS: AtomicU64 = AtomicU64::new(0);
 
 /// A request for memory that is refused. The C library itself looks at the number of the error where it makes a thread.
 unsafe fn refused() -> *mut c_void {
@@ -138,6 +144,21 @@ pub unsafe extern "C" fn send(socket: c_int, bytes: *const c_void, size: usize, 
     unsafe { sendto(socket, bytes, moved(size, 1), flags, std::ptr::null(), 0) }
 }
 
+/// A connection to the port `MEETS` begins at that port itself, as the system may choose it: where nobody listens there, it meets itself.
+#[unsafe(no_mangle)]
+pub unsafe extern "C" fn connect(socket: c_int, address: *const c_void, size: u32) -> c_int {
+    unsafe {
+        let port = u16::from_be_bytes([*(address as *const u8).add(2), *(address as *const u8).add(3)]);
+        if u64::from(port) == MEETS.load(Ordering::Relaxed) && bind(socket, address, size) != 0 {
+            // an earlier connection of the port is not forgotten yet
+            setsockopt(socket, SOL_SOCKET, SO_REUSEADDR, (&raw const YES).cast(), 4);
+            bind(socket, address, size);
+        }
+        let next: unsafe extern "C" fn(c_int, *const c_void, u32) -> c_int = std::mem::transmute(dlsym(NEXT, c"connect".as_ptr()));
+        next(socket, address, size)
+    }
+}
+
 type Begin = extern "C" fn(*mut c_void) -> *mut c_void;
 type Create = unsafe extern "C" fn(*mut c_void, *const c_void, Begin, *mut c_void) -> c_int;
 
@@ -164,6 +185,7 @@ extern "C" fn begin() {
         WRITES.set(asked(c"WRITE"));
         THREADS.set(asked(c"THREAD"));
         SHORT.store(asked(c"SHORT"), Ordering::Relaxed);
+        MEETS.store(asked(c"MEETS"), Ordering::Relaxed);
         ALLOCATIONS.set(asked(c"ALLOCATE"));
     }
 }
