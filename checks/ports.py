@@ -1,6 +1,5 @@
 """Ports for servers on 127.0.0.1. Checks that run at once on one machine have different ones, which the system gives to no client."""
 import fcntl
-import itertools
 import socket
 import sys
 import tempfile
@@ -41,14 +40,19 @@ class Ports:
 
     def __init__(self):
         self.turn = threading.Lock()
-        self.block, first = block()
-        self.left = itertools.cycle(range(first, first + BLOCK))
+        self.block, self.first = block()
+        self.next = self.first
 
-    def take(self):
+    def take(self, count=1):
+        """The first of so many ports that follow each other; nobody else is given one of them soon."""
         with self.turn:
-            for port in itertools.islice(self.left, BLOCK):
-                if is_free(port):
-                    return port
+            for _ in range(BLOCK):
+                first = self.next
+                if first + count > self.first + BLOCK:
+                    first = self.first
+                self.next = first + count
+                if all(is_free(first + number) for number in range(count)):
+                    return first
         sys.exit("ports: none is free")
 
 

@@ -188,7 +188,7 @@ class Group:
 
     def __init__(self, program, free, nodes, conns, begin=None):
         self.program, self.nodes, self.conns = program, nodes, conns
-        self.first = next_free(free, nodes)
+        self.first = free.take(nodes)
         self.servers = {}
         try:
             for node in range(nodes) if begin is None else begin:
@@ -220,14 +220,6 @@ class Group:
     def expect_up(self, what):
         for node, server in self.servers.items():
             server.expect_up(f"{what}, node {node}")
-
-
-def next_free(free, count):
-    """The first of so many ports that follow each other and are free."""
-    while True:
-        first = free.take()
-        if all(ports.is_free(first + number) for number in range(count)):
-            return first
 
 
 def owner():

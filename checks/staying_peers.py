@@ -130,7 +130,7 @@ def a_peer_without_threads(room):
                 group.servers[0].limit_threads(1)
                 resets = reset_all(group)
                 conns = come(group.port(0), 20)
-                served, ended = answered(conns, 2)
+                served, ended = answered(conns, 10)
                 close_all(conns)
                 group.expect_up("where threads are refused")
                 told = good.ask(b"get good:0\r\n")
@@ -497,8 +497,11 @@ def count_on(group, node, done, counts, faults):
 
 
 CASES = [
-    a_peer_without_descriptors, a_peer_without_threads, a_peer_without_memory, a_peer_comes_back_behind_the_last_client, a_client_beyond_the_last,
-    a_dial_that_meets_itself, a_peer_started_again, unknown_takes_its_time, a_stopped_peer_costs_no_processor, a_follower_keeps_what_is_there, resets_under_sets,
-    what_waits_is_sent_again,
+    a_peer_without_descriptors, a_peer_without_threads, a_peer_without_memory, a_client_beyond_the_last, a_stopped_peer_costs_no_processor,
+    a_follower_keeps_what_is_there, resets_under_sets,
 ]  # fmt: skip
-WAITING = [a_peer_that_reads_nothing, a_peer_that_does_not_answer]
+# Those that spend most of their time waiting go on beside the others.
+WAITING = [
+    a_peer_that_reads_nothing, a_peer_that_does_not_answer, a_peer_comes_back_behind_the_last_client, a_dial_that_meets_itself, a_peer_started_again,
+    unknown_takes_its_time, what_waits_is_sent_again,
+]  # fmt: skip
