@@ -466,7 +466,7 @@ def resets_under_sets(room):
         ends = time.monotonic() + 20
         while resets < 100 and time.monotonic() < ends:
             resets += reset_all(group)
-            time.sleep(0.05)
+            time.sleep(0.2)
         done.set()
         for thread in threads:
             thread.join()
