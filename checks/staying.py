@@ -17,6 +17,8 @@ GOOD_CLIENTS = 10
 COMINGS = 1_000
 GIBIBYTE = 1 << 30
 ULIMIT_V = 4_000_000 << 10
+# MiB that an idle connection holds at most.
+HELD_EACH = 0.4
 # The share of a processor that a server may use which has nothing to do but to wait for what it lacks.
 IDLE_SHARE = 0.25
 
@@ -343,21 +345,26 @@ def idle_behind_a_great_reply(room):
 
 
 def idle_behind_large_sets(room):
-    """Forty clients that each stored 1 MiB in one key, and then nothing."""
+    """Forty clients that each stored 1 MiB in one key, and then nothing. What they hold shows once they are gone: journals, and what the allocator keeps, stay then."""
     count = 40
     with room.serve(1_000_000) as server:
         clients = [Client(server.port) for _ in range(count)]
         try:
             for client in clients:
-                client.set_till(b"small", b"x")
-            before = server.memory()
-            for client in clients:
                 client.set_till(b"large", MEBIBYTE * b"l")
-            # 256 KiB for each, what stands and 16 MiB of journals, and as much again for what the allocator keeps of it
-            return expect_small(server, before, (count // 4 + 2 * 18) * MEBIBYTE, f"behind {count} sets of 1 MiB")
+            time.sleep(1)
+            idle = server.memory()
         finally:
             for client in clients:
                 client.close()
+        until(10, lambda: server.status_of("Threads") < count)
+        time.sleep(1)
+        server.expect_up("behind large sets")
+        held = (idle - server.memory()) / count / MEBIBYTE
+        told = f"behind {count} sets of 1 MiB each idle connection holds {held:.2f} MiB, and the server {idle / MEBIBYTE:.1f} in all"
+        if held > HELD_EACH:
+            raise Fault(f"{told}, where at most {HELD_EACH} for each are due")
+        return told
 
 
 def expect_small(server, before, bound, what):
@@ -475,7 +482,7 @@ def a_taken_port(room):
 WAITING = [a_skew_near_the_lease]
 CASES = [
     descriptors_exhausted, threads_refused, address_space, memory_exhausted, connections_come_and_go, clients_beyond_the_last, idle_behind_a_great_reply,
-    a_lease_of_one_millisecond, a_lease_no_longer_than_the_skew,
+    idle_behind_large_sets, a_lease_of_one_millisecond, a_lease_no_longer_than_the_skew,
 ]  # fmt: skip
 # Those that need no group.
-OF_ONE_NODE = [idle_behind_large_sets, wrong_words, a_taken_port]
+OF_ONE_NODE = [wrong_words, a_taken_port]
