@@ -145,4 +145,7 @@ impl Gate for Open {
     fn keeps(&mut self) -> bool {
         true
     }
+
+    // Behind the last ring the loop sleeps. To let other threads go first would give a whole slice of a full machine away, in the midst of what is waited for.
+    fn rest(&self) {}
 }

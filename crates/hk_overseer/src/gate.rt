@@ -2,6 +2,8 @@
 
 ghost use Rattle.std.specs.Prelude.{◌≡◌, ⊤, Bool, not};
 
+use std::thread;
+
 /// Asked by a loop before each turn, and before it puts a parcel.
 pub trait Gate {
     /// Whether the last `pass` was answered false.
@@ -18,4 +20,9 @@ pub trait Gate {
     fn keeps(&mut self) -> bool
         ensures same { closed self.new ≡ closed self.old }
         ensures told { answers self.old result self.new };
+
+    /// A turn found nothing to do. Other threads go first, unless the loop sleeps then anyway.
+    fn rest(&self) {
+        thread::yield_now();
+    }
 }

@@ -17,7 +17,6 @@ use hk_node::NodeEvent;
 use hk_overseer::{Gate, send};
 use std::alloc::Global;
 use std::sync::Wait;
-use std::thread;
 
 // Sends the letter if the gate keeps it.
 fn put<G: Gate, R: Wait>(
@@ -126,7 +125,7 @@ fn go_on<W: Workplace, G: Gate, R: Wait>(
         return;
     }
     worker.note(true);
-    thread::yield_now();
+    gate.rest();
 }
 
 // One turn.
