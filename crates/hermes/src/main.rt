@@ -1,8 +1,11 @@
 //! The program: it makes the real objects of the outside, makes the one call, and ends with its status.
 #![tactic(auto)]
 
+mod notices;
+
+use crate::notices::{tell_beginning, tell_end, tell_mistake};
 use hk_accept::LooseSpawner;
-use hk_cli::hermes;
+use hk_cli::{hermes, read_command};
 use hk_outside::{ReaderSource, SteadyClock, TcpDoors, WriterSink};
 use std::process::ExitCode;
 use std::sync::Arc;
@@ -29,9 +32,11 @@ fn words(rt: &HostRuntime) -> io::Result<Vec<String>> {
 fn main(rt: HostRuntime) -> io::Result<ExitCode> {
     let alloc = rt.alloc();
     let words = words(&rt)?;
-    let serves = words
-        .first()
-        .is_some_and(|word| word.as_str() == "serve" || word.as_str() == "peer");
+    let command = read_command(words.as_slice());
+    match &command {
+        Some(command) => tell_beginning(&rt, command),
+        None => tell_mistake(&rt, words.as_slice()),
+    }
     let mut source = ReaderSource::new(rt.reader());
     let mut sink = WriterSink::new(io::writer(&rt));
     let clock = Arc::new(alloc, SteadyClock::new(rt))?;
@@ -47,11 +52,8 @@ fn main(rt: HostRuntime) -> io::Result<ExitCode> {
         &mut doors,
         &mut spawner,
     );
-    if serves {
-        let _ = eprintln!(rt;
-            "hermes: the server has ended, with status {}",
-            status.number()
-        );
+    if let Some(command) = &command {
+        tell_end(&rt, command, status);
     }
     Ok(ExitCode::from(status.number()))
 }

@@ -1,6 +1,6 @@
 //! The top call.
 
-ghost use Rattle.std.specs.Prelude.{◌≡◌, ◌⊎◌, ℕ, ◌≤◌, take, Some, None, IfSome};
+ghost use Rattle.std.specs.Prelude.{◌≡◌, ◌⊎◌, ℕ, ◌≤◌, take, true, Some, None, IfSome};
 ghost use Rattle.std.specs.Io.KnownBytes.{Appends};
 ghost use Rattle.hk_outside.specs.Causes.{Rose, Stayed};
 ghost use Rattle.hk_drill.specs.Drilled.{IsDone, IsExact, IsFront, IsStopped, HasTold};
@@ -90,9 +90,10 @@ fn perform<
     ensures stormed { (opts : StormOpts) → command ≡ Some (Storm opts) → (source.new ≡ source.old) × IsStormed result opts (K.held sink.old) (K.held sink.new) }
     ensures aside { (group : GroupOf) → command ≡ Some (Serve group) → (source.new ≡ source.old) × (sink.new ≡ sink.old) }
     ensures served { (group : GroupOf) → command ≡ Some (Serve group) → result ≡ Status.Done
-        → HasServedBeside (own_jobs group) (D.left doors.old) (D.left doors.new) (P.taken spawner.old) (P.taken spawner.new) group.conns }
+        → HasServedBeside (own_jobs group) (D.left doors.old) (D.left doors.new) (P.taken spawner.old) (P.taken spawner.new) (P.faults spawner.old) (P.faults spawner.new) group.conns }
+    ensures closed { (group : GroupOf) → command ≡ Some (Serve group) → result ≡ Status.Done → D.closed doors.new ≡ true }
     ensures met { (process : ProcessOf) → command ≡ Some (Peer process) → result ≡ Status.Done
-        → HasServedBeside (process_jobs process) (D.left doors.old) (D.left doors.new) (P.taken spawner.old) (P.taken spawner.new) process.conns }
+        → HasServedBeside (process_jobs process) (D.left doors.old) (D.left doors.new) (P.taken spawner.old) (P.taken spawner.new) (P.faults spawner.old) (P.faults spawner.new) process.conns }
     ensures met_aside { (process : ProcessOf) → command ≡ Some (Peer process) → (source.new ≡ source.old) × (sink.new ≡ sink.old) }
     ensures watched { (writes : ℕ) → command ≡ Some (Watch writes) → result ≡ Status.Done → Appends (K.held sink.old) (K.held sink.new) (watched_line writes) }
     ensures watching { (writes : ℕ) → command ≡ Some (Watch writes)
@@ -221,15 +222,16 @@ pub fn hermes<
     // they are not. Nothing is read.
     ensures stormed { (opts : StormOpts) → IsCommand (Storm opts) (texts words.now) → (source.new ≡ source.old) × IsStormed result opts (K.held sink.old) (K.held sink.new) }
 
-    // A server that is done took the stated number of connections, or all that were left, and its spawner took a job for each of them, and one for each worker and each
-    // manager's loop before. It reads and writes nothing else.
+    // A server that is done took the stated number of connections, or all that were left, and for each its spawner took a job, or counts one fault more; before that it
+    // took one for each worker and each manager's loop. Its port is closed then. It reads and writes nothing else.
     ensures served { (group : GroupOf) → IsCommand (Serve group) (texts words.now) → result ≡ Status.Done
-        → HasServedBeside (own_jobs group) (D.left doors.old) (D.left doors.new) (P.taken spawner.old) (P.taken spawner.new) group.conns }
+        → HasServedBeside (own_jobs group) (D.left doors.old) (D.left doors.new) (P.taken spawner.old) (P.taken spawner.new) (P.faults spawner.old) (P.faults spawner.new) group.conns }
+    ensures closed { (group : GroupOf) → IsCommand (Serve group) (texts words.now) → result ≡ Status.Done → D.closed doors.new ≡ true }
     ensures aside { (group : GroupOf) → IsCommand (Serve group) (texts words.now) → (source.new ≡ source.old) × (sink.new ≡ sink.old) }
 
     // So did a process that is done, with one node of a group, whose own jobs are its workers and a loop for each other node. That these can't be reached is no fault.
     ensures met { (process : ProcessOf) → IsCommand (Peer process) (texts words.now) → result ≡ Status.Done
-        → HasServedBeside (process_jobs process) (D.left doors.old) (D.left doors.new) (P.taken spawner.old) (P.taken spawner.new) process.conns }
+        → HasServedBeside (process_jobs process) (D.left doors.old) (D.left doors.new) (P.taken spawner.old) (P.taken spawner.new) (P.faults spawner.old) (P.faults spawner.new) process.conns }
     ensures met_aside { (process : ProcessOf) → IsCommand (Peer process) (texts words.now) → (source.new ≡ source.old) × (sink.new ≡ sink.old) }
 
     // A watch that is done wrote its line, which is a function of the words. Whatever the answer, what was written is a front of that line, and

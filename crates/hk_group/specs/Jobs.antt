@@ -1,5 +1,5 @@
 -- The jobs of a server, which are started one after the other.
-use Rattle.std.specs.Prelude.{ℕ, ◌+◌, ◌*◌, Option, Result}
+use Rattle.std.specs.Prelude.{ℕ, ◌+◌, ◌*◌, ◌≤◌, Option, Result}
 use Rattle.hk_outside.specs.Causes.{HasCause}
 use Rattle.hk_accept.specs.Serving.{Taken, HasServed}
 use Rattle.hk_group.specs.declared.group.Group.{Group}
@@ -13,9 +13,11 @@ pub record HasStarted {T E : Type 0} (taken taken' : Option ℕ) (faults faults'
 abbrev pub own_jobs : Group → ℕ
 own_jobs g = g.nodes * g.workers + g.managers
 
--- The spawner took so many jobs of the server's own. Then the stated number of connections came, or all that were left where those were fewer, and it took a
--- job for each of them.
-pub record HasServedBeside (own : ℕ) (left left' taken taken' : Option ℕ) (conns : ℕ) : Type 0 where
+-- The spawner took so many jobs of the server's own. Then the stated number of connections came, or all that were left where those were fewer, and for each of them
+-- it took a job, or its count of faults rose by one more.
+pub record HasServedBeside (own : ℕ) (left left' taken taken' : Option ℕ) (faults faults' : ℕ) (conns : ℕ) : Type 0 where
   pub between : Option ℕ
+  pub began : ℕ
   pub started : Taken taken between own
-  pub served : HasServed left left' between taken' conns
+  pub later : faults ≤ began
+  pub served : HasServed left left' between taken' began faults' conns

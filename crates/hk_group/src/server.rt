@@ -1,6 +1,6 @@
 //! The server.
 
-ghost use Rattle.std.specs.Prelude.{◌≡◌, ◌+◌, length, OnOk};
+ghost use Rattle.std.specs.Prelude.{◌≡◌, ◌+◌, length, true, OnOk};
 ghost use Rattle.hk_base.specs.View.{IsView};
 ghost use Rattle.hk_outside.specs.Causes.{Rose};
 ghost use Rattle.hk_accept.specs.Serving.{EndsServe, Taken};
@@ -53,7 +53,8 @@ fn serve_conns<
     spawner: &mut S,
 ) -> Status
     ensures ends { EndsServe result }
-    ensures done { result ≡ Status.Done → HasServedBeside (length workers.items + length managers.items) (D.left doors.old) (D.left doors.new) (S.taken spawner.old) (S.taken spawner.new) conns }
+    ensures done { result ≡ Status.Done → HasServedBeside (length workers.items + length managers.items) (D.left doors.old) (D.left doors.new) (S.taken spawner.old) (S.taken spawner.new) (S.faults spawner.old) (S.faults spawner.new) conns }
+    ensures closed { result ≡ Status.Done → D.closed doors.new ≡ true }
     ensures door_fault { result ≡ Status.DoorFault → Rose (D.faults doors.old) (D.faults doors.new) }
     ensures spawn_fault { result ≡ Status.SpawnFault → Rose (S.faults spawner.old) (S.faults spawner.new) }
 {
@@ -86,7 +87,8 @@ fn run<
     requires named { AreNamed P.places founded.items }
     requires nodes { length founded.items ≡ group.now.nodes }
     ensures ends { EndsServe result }
-    ensures done { result ≡ Status.Done → HasServedBeside (own_jobs group.now) (D.left doors.old) (D.left doors.new) (S.taken spawner.old) (S.taken spawner.new) group.now.conns }
+    ensures done { result ≡ Status.Done → HasServedBeside (own_jobs group.now) (D.left doors.old) (D.left doors.new) (S.taken spawner.old) (S.taken spawner.new) (S.faults spawner.old) (S.faults spawner.new) group.now.conns }
+    ensures closed { result ≡ Status.Done → D.closed doors.new ≡ true }
     ensures door_fault { result ≡ Status.DoorFault → Rose (D.faults doors.old) (D.faults doors.new) }
     ensures spawn_fault { result ≡ Status.SpawnFault → Rose (S.faults spawner.old) (S.faults spawner.new) }
 {
@@ -125,9 +127,8 @@ fn run<
 
 /// Serves connections at the nodes of a new group, in turn. It returns when those that came have ended, and then all loops.
 ///
-/// Done: so many connections were taken as the group says, or no more came, and each got a job. Memory: there was none to make the group. DoorFault: the port
-/// could not be opened, or the next connection could not be taken. SpawnFault: a worker, a manager's loop or a connection got no job. Connections that were taken
-/// before are served to their ends.
+/// Done: so many connections were taken as the group says, or no more came, and the port was closed behind them. A connection that got no job was closed, and ends
+/// nothing. Memory: there was none to make the group. DoorFault: the port could not be opened. SpawnFault: a worker or a manager's loop got no job.
 pub fn serve<
     R: Wait + Copy + Send + Sync + Drop + 'static,
     C: Clock + Send + Sync + Drop + 'static,
@@ -137,8 +138,9 @@ pub fn serve<
     requires { IsGroup group.now }
     ensures ends { EndsServe result }
     // A server that is done has started each worker and each manager's loop: its spawner took a job for each of them. It took the stated number of connections, or
-    // all that were left, and its spawner took a job for each of these too.
-    ensures done { result ≡ Status.Done → HasServedBeside (own_jobs group.now) (D.left doors.old) (D.left doors.new) (S.taken spawner.old) (S.taken spawner.new) group.now.conns }
+    // all that were left, and for each of these its spawner took a job too, or counts one fault more.
+    ensures done { result ≡ Status.Done → HasServedBeside (own_jobs group.now) (D.left doors.old) (D.left doors.new) (S.taken spawner.old) (S.taken spawner.new) (S.faults spawner.old) (S.faults spawner.new) group.now.conns }
+    ensures closed { result ≡ Status.Done → D.closed doors.new ≡ true }
     ensures door_fault { result ≡ Status.DoorFault → Rose (D.faults doors.old) (D.faults doors.new) }
     ensures spawn_fault { result ≡ Status.SpawnFault → Rose (S.faults spawner.old) (S.faults spawner.new) }
 {

@@ -21,3 +21,5 @@ mod requests;
 mod storms;
 #[cfg(test)]
 mod turns;
+#[cfg(test)]
+mod usage;

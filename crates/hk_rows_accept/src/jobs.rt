@@ -1,5 +1,6 @@
 //! How servers end whose connections are jobs, and that these run side by side.
 
+use crate::failing::FailingDoors;
 use crate::meeting::{Meeting, Seen};
 use hk_accept::{Desks, serve_each};
 use hk_base::{Answer, Memory};
@@ -96,13 +97,32 @@ fn conns_meet(rt: HostRuntime) {
 }
 
 #[test]
-fn a_connection_with_no_job_is_told(rt: HostRuntime) {
+fn doors_that_fail_are_tried_again(rt: HostRuntime) {
+    let alloc = rt.alloc();
+    let seen = seen(&rt, alloc);
+    let mut doors = FailingDoors {
+        doors: doors(&rt, alloc, &seen, false),
+        failures: 3,
+    };
+    let mut spawner = ThreadSpawner::new(rt, alloc);
+    let desks = stores(&rt, alloc);
+    let status = serve_each(&rt, alloc, &mut doors, &mut spawner, &desks, 2);
+    assert_eq!(rt; status, Status::Done);
+    assert_eq!(rt; doors.doors.faults, 3);
+    assert!(rt; doors.doors.is_closed);
+    assert_eq!(rt; seen.written.load(Ordering::SeqCst), 16);
+    spawner.join_all();
+}
+
+#[test]
+fn connections_with_no_job_end_nothing(rt: HostRuntime) {
     let alloc = rt.alloc();
     let seen = seen(&rt, alloc);
     let mut doors = doors(&rt, alloc, &seen, false);
     let mut spawner: NoSpawner<HostRuntime> = NoSpawner::new();
     let desks = stores(&rt, alloc);
     let status = serve_each(&rt, alloc, &mut doors, &mut spawner, &desks, 2);
-    assert_eq!(rt; status, Status::SpawnFault);
+    assert_eq!(rt; status, Status::Done);
+    assert_eq!(rt; spawner.faults, 2);
     assert_eq!(rt; seen.written.load(Ordering::SeqCst), 0);
 }

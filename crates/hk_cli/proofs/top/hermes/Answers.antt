@@ -65,6 +65,9 @@ returns-clause-stormed g c = λ opts is. c.perform.ensures.stormed opts (read_is
 pub returns-clause-served : goal.returns-clause-served
 returns-clause-served g c = λ group is. c.perform.ensures.served group (read_is _ _ (Serve group) c.read_command.ensures.read is)
 
+pub returns-clause-closed : goal.returns-clause-closed
+returns-clause-closed g c = λ group is. c.perform.ensures.closed group (read_is _ _ (Serve group) c.read_command.ensures.read is)
+
 pub returns-clause-aside : goal.returns-clause-aside
 returns-clause-aside g c = λ group is. c.perform.ensures.aside group (read_is _ _ (Serve group) c.read_command.ensures.read is)
 
