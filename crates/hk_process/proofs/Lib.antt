@@ -1,3 +1,4 @@
 mod Alone
 mod First
 mod Groups
+mod Taking

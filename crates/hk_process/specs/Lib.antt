@@ -1,2 +1,3 @@
 pub mod Process
 pub mod Sending
+pub mod Serving

@@ -7,9 +7,10 @@
 //! Nothing is promised of what is sent: a parcel that can't be sent is lost, as one is that comes to a process which has ended. What was lost is sent again while
 //! someone waits for it.
 //!
-//! When so many connections came as were asked for and the clients among them have ended, the workers end, and then the loops that send, once what they were given
-//! is sent. A peer's connection that is still open then is left. How it ends, and what shows it, stands in the contract of `serve_process`; that clients and loops
-//! have ended then is only tested.
+//! Each client that comes counts, and of peers one connection for each other node. As long as fewer came than were asked for, or a client is served, peers may come
+//! again; a client that comes behind the last one is closed. Then the port is closed and the workers end, and then the loops that send, once what they were given
+//! is sent. A peer's connection that is still open then is left. How it ends, and what shows it, stands in the contract of `serve_process`; who of those that came
+//! counted, and that clients and loops have ended then, is only tested.
 //!
 //! A loop that sends sleeps until something was put for its node. No wait ends by time.
 //!
@@ -17,6 +18,7 @@
 #![tactic(auto)]
 
 mod accept;
+mod guests;
 mod process;
 mod route;
 mod sending;

@@ -18,7 +18,7 @@ pub struct Process {
     pub workers: u8,
     /// The port of 127.0.0.1 that node 0 opens. Each other node has the port that is higher by its number.
     pub port: u16,
-    /// After so many connections, of clients and of peers, the process is done.
+    /// After so many connections the process is done. Each client counts, and of peers one for each other node.
     pub conns: u32,
 }
 

@@ -1,14 +1,15 @@
 //! The server of one node.
 
-ghost use Rattle.std.specs.Prelude.{◌≡◌, ◌+◌, length, IfOk};
+ghost use Rattle.std.specs.Prelude.{◌≡◌, ◌+◌, length, true, IfOk};
 ghost use Rattle.hk_outside.specs.Causes.{Rose};
 ghost use Rattle.hk_accept.specs.Serving.{EndsServe};
-ghost use Rattle.hk_group.specs.Jobs.{HasServedBeside};
 ghost use Rattle.hk_locked.specs.Places.{node_names};
 ghost use Rattle.hk_worker.specs.Founding.{names_of};
 ghost use Rattle.hk_process.specs.Process.{IsProcess, process_jobs};
+ghost use Rattle.hk_process.specs.Serving.{HasTakenBeside};
 
 use crate::accept::take_visits;
+use crate::guests::{Guests, Knock, Knocker};
 use crate::process::Process;
 use crate::route::Route;
 use crate::sending::{SendJob, Sending};
@@ -16,7 +17,7 @@ use crate::visit::House;
 use hk_accept::Desks;
 use hk_base::{Memory, NodeId};
 use hk_group::{Member, Way, first_view, found_node, start_each};
-use hk_link::Outlet;
+use hk_link::{Bell, Outlet};
 use hk_locked::Places;
 use hk_outside::{Clock, Doors, Job, Spawner, Status};
 use hk_worker::{Founded, Tickets};
@@ -51,12 +52,13 @@ fn send_jobs<R: Wait + Copy + Drop, D: Doors>(
 }
 
 // Starts the workers, the loops that send, and then a job for each connection that comes.
-#[tactic(auto, using(hk_group::proofs::Started::served_beside))]
+#[tactic(auto, using(crate::proofs::Taking::taken_beside))]
 fn serve_conns<
     R: Wait + Send + Sync + Drop + 'static,
     W: Job,
     T: Job,
     K: Desks + Send + Sync + Drop + 'static,
+    G: Knock + Send + Drop + 'static,
     D: Doors,
     S: Spawner,
 >(
@@ -64,13 +66,14 @@ fn serve_conns<
     alloc: Global,
     workers: Vec<W>,
     senders: Vec<T>,
-    house: &Arc<House<R, K>>,
+    house: &Arc<House<R, K, G>>,
     conns: u32,
     doors: &mut D,
     spawner: &mut S,
 ) -> Status
     ensures ends { EndsServe result }
-    ensures done { result ≡ Status.Done → HasServedBeside (length workers.items + length senders.items) (D.left doors.old) (D.left doors.new) (S.taken spawner.old) (S.taken spawner.new) conns }
+    ensures done { result ≡ Status.Done → HasTakenBeside (length workers.items + length senders.items) (D.left doors.old) (D.left doors.new) (S.taken spawner.old) (S.taken spawner.new) (S.faults spawner.old) (S.faults spawner.new) conns }
+    ensures closed { result ≡ Status.Done → D.closed doors.new ≡ true }
     ensures door_fault { result ≡ Status.DoorFault → Rose (D.faults doors.old) (D.faults doors.new) }
     ensures spawn_fault { result ≡ Status.SpawnFault → Rose (S.faults spawner.old) (S.faults spawner.new) }
 {
@@ -90,6 +93,7 @@ fn serve_where<
     W: Job,
     T: Job,
     K: Desks + Send + Sync + Drop + 'static,
+    G: Knock + Send + Drop + 'static,
     D: Doors,
     S: Spawner,
 >(
@@ -98,14 +102,15 @@ fn serve_where<
     process: &Process,
     workers: Vec<W>,
     senders: Result<Vec<T>, Memory>,
-    house: Result<Arc<House<R, K>>, Memory>,
+    house: Result<Arc<House<R, K, G>>, Memory>,
     doors: &mut D,
     spawner: &mut S,
 ) -> Status
     requires workers { length workers.items ≡ process.now.workers }
     requires senders { IfOk senders (λ jobs. length jobs.items + 1 ≡ process.now.nodes) }
     ensures ends { EndsServe result }
-    ensures done { result ≡ Status.Done → HasServedBeside (process_jobs process.now) (D.left doors.old) (D.left doors.new) (S.taken spawner.old) (S.taken spawner.new) process.now.conns }
+    ensures done { result ≡ Status.Done → HasTakenBeside (process_jobs process.now) (D.left doors.old) (D.left doors.new) (S.taken spawner.old) (S.taken spawner.new) (S.faults spawner.old) (S.faults spawner.new) process.now.conns }
+    ensures closed { result ≡ Status.Done → D.closed doors.new ≡ true }
     ensures door_fault { result ≡ Status.DoorFault → Rose (D.faults doors.old) (D.faults doors.new) }
     ensures spawn_fault { result ≡ Status.SpawnFault → Rose (S.faults spawner.old) (S.faults spawner.new) }
 {
@@ -128,21 +133,47 @@ fn serve_where<
 }
 
 // What all visits of the node share.
-fn new_house<R: Wait + Drop, K: Drop>(
+fn new_house<R: Wait + Drop, K: Drop, G: Drop>(
     rt: R,
     alloc: Global,
     node: NodeId,
     outlet: Outlet,
     desks: K,
-) -> Result<Arc<House<R, K>>, Memory> {
+    guests: Guests<G>,
+) -> Result<Arc<House<R, K, G>>, Memory> {
     let house = House {
         rt,
         alloc,
         node,
         outlet: Mutex::new(outlet),
         desks,
+        guests,
     };
     Ok(Arc::new(alloc, house)?)
+}
+
+// Who comes to the process. Whoever ends last knocks at its own port.
+fn new_guests<D: Doors>(doors: &D, process: &Process) -> Guests<Knocker<D::Dialer>> {
+    let knocker = Knocker {
+        dialer: doors.dialer(),
+        port: process.port.saturating_add(u16::from(process.id)),
+    };
+    Guests::new(process.conns, process.nodes, knocker)
+}
+
+// The bell of the node's workers.
+fn shared_bell(outlet: &Outlet) -> Option<Arc<Bell>> {
+    match outlet.bell() {
+        Some(bell) => Arc::try_clone(bell).ok(),
+        None => None,
+    }
+}
+
+// The workers have ended: what a peer sends from now on is not taken.
+fn close(bell: Option<Arc<Bell>>) {
+    if let Some(bell) = bell {
+        bell.close();
+    }
 }
 
 // Serves the connections, and ends all other loops then: first the workers, so that what they put is sent still.
@@ -164,7 +195,8 @@ fn serve_member<
     requires workers { length member.workers.items ≡ process.now.workers }
     requires ways { length member.ways.items + 1 ≡ process.now.nodes }
     ensures ends { EndsServe result }
-    ensures done { result ≡ Status.Done → HasServedBeside (process_jobs process.now) (D.left doors.old) (D.left doors.new) (S.taken spawner.old) (S.taken spawner.new) process.now.conns }
+    ensures done { result ≡ Status.Done → HasTakenBeside (process_jobs process.now) (D.left doors.old) (D.left doors.new) (S.taken spawner.old) (S.taken spawner.new) (S.faults spawner.old) (S.faults spawner.new) process.now.conns }
+    ensures closed { result ≡ Status.Done → D.closed doors.new ≡ true }
     ensures door_fault { result ≡ Status.DoorFault → Rose (D.faults doors.old) (D.faults doors.new) }
     ensures spawn_fault { result ≡ Status.SpawnFault → Rose (S.faults spawner.old) (S.faults spawner.new) }
 {
@@ -176,10 +208,13 @@ fn serve_member<
         running,
     } = member;
     let node = NodeId(u16::from(process.id));
+    let bell = shared_bell(&outlet);
+    let guests = new_guests(doors, process);
     let senders = send_jobs(rt, alloc, doors, process, ways, &mut sending);
-    let house = new_house(rt, alloc, node, outlet, desks);
+    let house = new_house(rt, alloc, node, outlet, desks, guests);
     let status = serve_where(&rt, alloc, process, workers, senders, house, doors, spawner);
     running.end(&rt);
+    close(bell);
     sending.end(&rt);
     status
 }
@@ -206,7 +241,8 @@ fn run<
     requires own { founded.node ≡ record { 0 = process.now.id } }
     requires named { node_names P.places founded.node ≡ names_of founded }
     ensures ends { EndsServe result }
-    ensures done { result ≡ Status.Done → HasServedBeside (process_jobs process.now) (D.left doors.old) (D.left doors.new) (S.taken spawner.old) (S.taken spawner.new) process.now.conns }
+    ensures done { result ≡ Status.Done → HasTakenBeside (process_jobs process.now) (D.left doors.old) (D.left doors.new) (S.taken spawner.old) (S.taken spawner.new) (S.faults spawner.old) (S.faults spawner.new) process.now.conns }
+    ensures closed { result ≡ Status.Done → D.closed doors.new ≡ true }
     ensures door_fault { result ≡ Status.DoorFault → Rose (D.faults doors.old) (D.faults doors.new) }
     ensures spawn_fault { result ≡ Status.SpawnFault → Rose (S.faults spawner.old) (S.faults spawner.new) }
 {
@@ -220,9 +256,9 @@ fn run<
 /// Serves connections at one node of a new group, whose other nodes run in processes of their own. It returns when the clients that came have ended, and then the
 /// node's workers and the loops that send to others.
 ///
-/// Done: so many connections were taken as the process is to serve, or no more came, and each got a job. Memory: there was none to make the node. DoorFault: the
-/// port could not be opened, or the next connection could not be taken. SpawnFault: a worker, a loop that sends or a connection got no job. Clients that were taken
-/// before are served to their ends. That other nodes can't be reached ends nothing.
+/// Done: so many connections were taken as the process is to serve, or no more came, and the port was closed behind them. A connection that got no job was closed,
+/// and ends nothing. Memory: there was none to make the node. DoorFault: the port could not be opened. SpawnFault: a worker or a loop that sends got no job. That
+/// other nodes can't be reached ends nothing.
 #[tactic(auto, using(crate::proofs::Groups::is_below))]
 pub fn serve_process<
     R: Wait + Copy + Send + Sync + Drop + 'static,
@@ -232,9 +268,10 @@ pub fn serve_process<
 >(rt: R, alloc: Global, clock: Arc<C>, process: &Process, doors: &mut D, spawner: &mut S) -> Status
     requires { IsProcess process.now }
     ensures ends { EndsServe result }
-    // A process that is done has started each worker and each loop that sends: its spawner took a job for each of them. It took the stated number of connections, or
-    // all that were left, and its spawner took a job for each of these too.
-    ensures done { result ≡ Status.Done → HasServedBeside (process_jobs process.now) (D.left doors.old) (D.left doors.new) (S.taken spawner.old) (S.taken spawner.new) process.now.conns }
+    // A process that is done has started each worker and each loop that sends: its spawner took a job for each of them. It took at least the stated number of
+    // connections, or all that were left, and for each of these its spawner took a job too, or counts one fault more.
+    ensures done { result ≡ Status.Done → HasTakenBeside (process_jobs process.now) (D.left doors.old) (D.left doors.new) (S.taken spawner.old) (S.taken spawner.new) (S.faults spawner.old) (S.faults spawner.new) process.now.conns }
+    ensures closed { result ≡ Status.Done → D.closed doors.new ≡ true }
     ensures door_fault { result ≡ Status.DoorFault → Rose (D.faults doors.old) (D.faults doors.new) }
     ensures spawn_fault { result ≡ Status.SpawnFault → Rose (S.faults spawner.old) (S.faults spawner.new) }
 {

@@ -3,6 +3,7 @@
 ghost use Rattle.std.specs.Io.KnownBytes.{Consumes};
 ghost use Rattle.hk_outside.specs.First.{first_bytes};
 
+use crate::guests::{Guests, Knock};
 use crossbeam_utils::sync::WaitGroup;
 use hk_accept::{Desks, Reception};
 use hk_base::{Memory, NodeId};
@@ -21,20 +22,21 @@ const PATIENCE: u32 = 64;
 
 /// The node that is visited, and what all its visits share.
 #[derive(Drop)]
-pub(crate) struct House<R: Wait + Drop, K: Drop> {
+pub(crate) struct House<R: Wait + Drop, K: Drop, G: Drop> {
     pub(crate) rt: R,
     pub(crate) alloc: Global,
     pub(crate) node: NodeId,
     /// Leads to the node. It is split for each peer.
     pub(crate) outlet: Mutex<Outlet>,
     pub(crate) desks: K,
+    pub(crate) guests: Guests<G>,
 }
 
 /// A connection to be served.
 #[derive(Drop)]
-pub(crate) struct Visit<R: Wait + Drop, N: Drop, K: Drop> {
+pub(crate) struct Visit<R: Wait + Drop, N: Drop, K: Drop, G: Drop> {
     conn: N,
-    house: Arc<House<R, K>>,
+    house: Arc<House<R, K, G>>,
     number: u32,
     // Left when the visit is over, or known to be a peer's.
     clients: WaitGroup,
@@ -42,9 +44,16 @@ pub(crate) struct Visit<R: Wait + Drop, N: Drop, K: Drop> {
 
 /// Takes in all who come. All visits are of the group of clients until they are over, or known to be a peer's.
 #[derive(Drop)]
-pub(crate) struct Visitors<'a, R: Wait + Drop, K: Drop> {
-    pub(crate) house: &'a Arc<House<R, K>>,
+pub(crate) struct Visitors<'a, R: Wait + Drop, K: Drop, G: Drop> {
+    pub(crate) house: &'a Arc<House<R, K, G>>,
     pub(crate) clients: &'a WaitGroup,
+}
+
+impl<'a, R: Wait + Drop, K: Drop, G: Knock + Drop> Visitors<'a, R, K, G> {
+    /// Whether no client is served, and none may come.
+    pub(crate) fn is_over(&self) -> bool {
+        self.house.guests.is_over(&self.house.rt)
+    }
 }
 
 impl<
@@ -52,10 +61,11 @@ impl<
     R: Wait + Send + Sync + Drop + 'static,
     N: Connection + Send + Drop + 'static,
     K: Desks + Send + Sync + Drop + 'static,
-> Reception<N> for Visitors<'a, R, K> {
-    type Visit = Visit<R, N, K>;
+    G: Knock + Send + Drop + 'static,
+> Reception<N> for Visitors<'a, R, K, G> {
+    type Visit = Visit<R, N, K, G>;
 
-    fn visit(&self, conn: N, number: u32) -> Result<Visit<R, N, K>, Memory> {
+    fn visit(&self, conn: N, number: u32) -> Result<Visit<R, N, K, G>, Memory> {
         let house = Arc::try_clone(self.house)?;
         let clients = self.clients.clone()?;
         Ok(Visit {
@@ -83,7 +93,7 @@ fn first_byte<N: Source>(conn: &mut N) -> Option<u8>
 }
 
 // Puts what a peer sends, to its end. One for whose outlet there is no memory is closed: it may come again.
-fn take_in<R: Wait + Drop, N: Source, K: Drop>(house: &House<R, K>, conn: &mut N) {
+fn take_in<R: Wait + Drop, N: Source, K: Drop, G: Drop>(house: &House<R, K, G>, conn: &mut N) {
     let split = house.outlet.lock(&house.rt).split();
     if let Ok(mut outlet) = split {
         serve_peer(&house.rt, house.alloc, conn, house.node, &mut outlet);
@@ -94,7 +104,9 @@ impl<
     R: Wait + Send + Sync + Drop + 'static,
     N: Connection + Send + Drop + 'static,
     K: Desks + Send + Sync + Drop + 'static,
-> Job for Visit<R, N, K> {
+    G: Knock + Send + Drop + 'static,
+> Job for Visit<R, N, K, G> {
+    // A connection that ends before its first byte counts as a client that came and ended.
     fn run(self) {
         let Visit {
             mut conn,
@@ -102,19 +114,23 @@ impl<
             number,
             clients,
         } = self;
-        let Some(first) = first_byte(&mut conn) else {
+        let first = first_byte(&mut conn);
+        if first == Some(FRAME) {
+            drop(clients);
+            house.guests.meet_peer(&house.rt);
+            take_in(&house, &mut Primed::new(FRAME, conn));
             return;
-        };
-        let mut primed = Primed::new(first, conn);
-        if first == FRAME {
-            drop(clients);
-            take_in(&house, &mut primed);
-        } else {
-            if let Ok(mut desk) = house.desks.desk(number) {
-                serve_connection(house.alloc, &mut primed, &mut desk, PATIENCE);
-            }
-            drop(primed);
-            drop(clients);
         }
+        if house.guests.admit(&house.rt) {
+            if let Some(first) = first {
+                let mut primed = Primed::new(first, conn);
+                if let Ok(mut desk) = house.desks.desk(number) {
+                    serve_connection(house.alloc, &mut primed, &mut desk, PATIENCE);
+                }
+                drop(primed);
+            }
+            house.guests.part(&house.rt);
+        }
+        drop(clients);
     }
 }
