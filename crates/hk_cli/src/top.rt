@@ -12,6 +12,7 @@ ghost use Rattle.hk_group.specs.declared.group.Group.{Group as GroupOf};
 ghost use Rattle.hk_group.specs.Jobs.{HasServedBeside, own_jobs};
 ghost use Rattle.hk_process.specs.declared.process.Process.{Process as ProcessOf};
 ghost use Rattle.hk_process.specs.Process.{process_jobs};
+ghost use Rattle.hk_process.specs.Serving.{HasTakenBeside};
 ghost use Rattle.hk_watching.specs.Watching.{watched_line};
 ghost use Rattle.hk_joint_storm.specs.Concluded.{IsJointStorm};
 ghost use Rattle.hk_storm.specs.declared.opts.StormOpts.{StormOpts};
@@ -93,7 +94,8 @@ fn perform<
         → HasServedBeside (own_jobs group) (D.left doors.old) (D.left doors.new) (P.taken spawner.old) (P.taken spawner.new) (P.faults spawner.old) (P.faults spawner.new) group.conns }
     ensures closed { (group : GroupOf) → command ≡ Some (Serve group) → result ≡ Status.Done → D.closed doors.new ≡ true }
     ensures met { (process : ProcessOf) → command ≡ Some (Peer process) → result ≡ Status.Done
-        → HasServedBeside (process_jobs process) (D.left doors.old) (D.left doors.new) (P.taken spawner.old) (P.taken spawner.new) (P.faults spawner.old) (P.faults spawner.new) process.conns }
+        → HasTakenBeside (process_jobs process) (D.left doors.old) (D.left doors.new) (P.taken spawner.old) (P.taken spawner.new) (P.faults spawner.old) (P.faults spawner.new) process.conns }
+    ensures met_closed { (process : ProcessOf) → command ≡ Some (Peer process) → result ≡ Status.Done → D.closed doors.new ≡ true }
     ensures met_aside { (process : ProcessOf) → command ≡ Some (Peer process) → (source.new ≡ source.old) × (sink.new ≡ sink.old) }
     ensures watched { (writes : ℕ) → command ≡ Some (Watch writes) → result ≡ Status.Done → Appends (K.held sink.old) (K.held sink.new) (watched_line writes) }
     ensures watching { (writes : ℕ) → command ≡ Some (Watch writes)
@@ -229,9 +231,11 @@ pub fn hermes<
     ensures closed { (group : GroupOf) → IsCommand (Serve group) (texts words.now) → result ≡ Status.Done → D.closed doors.new ≡ true }
     ensures aside { (group : GroupOf) → IsCommand (Serve group) (texts words.now) → (source.new ≡ source.old) × (sink.new ≡ sink.old) }
 
-    // So did a process that is done, with one node of a group, whose own jobs are its workers and a loop for each other node. That these can't be reached is no fault.
+    // A process that is done, with one node of a group, took at least the stated number of connections, since peers come again: for each its spawner took a job, or counts
+    // one fault more, and before that one for each worker and each loop that sends. That other nodes can't be reached is no fault.
     ensures met { (process : ProcessOf) → IsCommand (Peer process) (texts words.now) → result ≡ Status.Done
-        → HasServedBeside (process_jobs process) (D.left doors.old) (D.left doors.new) (P.taken spawner.old) (P.taken spawner.new) (P.faults spawner.old) (P.faults spawner.new) process.conns }
+        → HasTakenBeside (process_jobs process) (D.left doors.old) (D.left doors.new) (P.taken spawner.old) (P.taken spawner.new) (P.faults spawner.old) (P.faults spawner.new) process.conns }
+    ensures met_closed { (process : ProcessOf) → IsCommand (Peer process) (texts words.now) → result ≡ Status.Done → D.closed doors.new ≡ true }
     ensures met_aside { (process : ProcessOf) → IsCommand (Peer process) (texts words.now) → (source.new ≡ source.old) × (sink.new ≡ sink.old) }
 
     // A watch that is done wrote its line, which is a function of the words. Whatever the answer, what was written is a front of that line, and

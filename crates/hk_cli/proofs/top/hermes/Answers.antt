@@ -83,5 +83,8 @@ returns-clause-joint_stormed g c = λ workers reads is. c.perform.ensures.joint_
 pub returns-clause-met : goal.returns-clause-met
 returns-clause-met g c = λ process is. c.perform.ensures.met process (read_is _ _ (Peer process) c.read_command.ensures.read is)
 
+pub returns-clause-met_closed : goal.returns-clause-met_closed
+returns-clause-met_closed g c = λ process is. c.perform.ensures.met_closed process (read_is _ _ (Peer process) c.read_command.ensures.read is)
+
 pub returns-clause-met_aside : goal.returns-clause-met_aside
 returns-clause-met_aside g c = λ process is. c.perform.ensures.met_aside process (read_is _ _ (Peer process) c.read_command.ensures.read is)
