@@ -6,6 +6,7 @@ ghost use Rattle.hk_worker.specs.Reading.{AsksByClock};
 
 use crate::completion::Unheard;
 use crate::load::{Load, MAX_ENTRIES, data_in};
+use crate::reserve::Reserve;
 use hk_base::{Key, Memory, Op};
 use hk_link::Bell;
 use hk_locked::Places;
@@ -148,15 +149,20 @@ pub struct GroupDesk<C: Clock + Drop, R: Wait + Drop, P: Places> {
     pub(crate) rt: R,
     pub(crate) desk: ClockDesk<C, R, Unheard, P>,
     pub(crate) ringing: Ringing<C>,
+    pub(crate) reserve: Reserve,
 }
 
 impl<C: Clock + Drop, R: Wait + Drop, P: Places> Desk for GroupDesk<C, R, P> {
     ghost asks = { λ desk. None };
 
+    #[tactic(auto, using(hk_worker::proofs::Freely::looked_itself))]
     fn ask(&mut self, key: &Key, op: &Op) -> Result<DeskReply, Memory>
         ensures suits { Suits op.now result }
         ensures told { AsksByClock (C.reading self.old.desk.clock.value) key.now op.now self.old.desk.desk.post self.new.desk.desk.post result }
     {
+        if !self.reserve.is_left(data_in(op)) {
+            return Err(Memory);
+        }
         self.ringing
             .keep_lease(&self.rt, self.desk.desk.post.shards(), key);
         let reply = self.desk.ask(key, op);

@@ -6,6 +6,7 @@ use crate::completion::Unheard;
 use crate::desk::{GroupDesk, LeaseTerms, Ringing};
 use crate::lines::split_all;
 use crate::load::Load;
+use crate::reserve::Reserve;
 use hk_accept::Desks;
 use hk_base::{Actor, Memory};
 use hk_link::Outlet;
@@ -116,6 +117,7 @@ impl<
             rt: station.rt,
             desk: ClockDesk::new(NodeDesk::new(station.rt, post), clock),
             ringing,
+            reserve: Reserve::new(station.alloc),
         })
     }
 }

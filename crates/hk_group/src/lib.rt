@@ -23,6 +23,7 @@ mod load;
 mod managing;
 mod member;
 mod program;
+mod reserve;
 mod server;
 mod working;
 
