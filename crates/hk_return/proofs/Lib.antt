@@ -9,3 +9,4 @@ pub mod Noting
 pub mod Making
 pub mod Grouping
 pub mod Covering
+pub mod WorkingLog

@@ -4,3 +4,4 @@ pub mod Guarded
 pub mod Worked
 pub mod Log
 pub mod Group
+pub mod WorkedLog

@@ -4,6 +4,7 @@ ghost use Rattle.hk_return.specs.Guarded.{GuardedWithReturns, GuardedWhereViewsM
 ghost use Rattle.hk_return.specs.Group.{ReturningManagersAgree};
 ghost use Rattle.hk_return.specs.Log.{GrantsAreCovered, LogsAreReplayed, NotedByAsks, UntilsAreNotedAnew};
 ghost use Rattle.hk_return.specs.Worked.{MissedWithLatest, MissedWithNone, WorkedDisk, WorkedReturn};
+ghost use Rattle.hk_return.specs.WorkedLog.{WorkedLog};
 
 /// With managers that stop and return, and whose clocks begin anew then, each view that any node has installed has ended, and so has each
 /// view for which a majority sent ACTIVATE.
@@ -44,4 +45,10 @@ pub fn logs_are_replayed()
 /// Managers that stop and return, each made anew from its log, agree as managers that never stop.
 pub fn returning_managers_agree()
     ensures { ReturningManagersAgree }
+{}
+
+/// There is a run in which a manager stops in the midst of an instance of Paxos, returns by its log, ends the instance, and lets the view
+/// begin that leaves a founder out, at the first reading at which it may.
+pub fn a_log_is_lost_in_part()
+    ensures { WorkedLog }
 {}
