@@ -16,7 +16,7 @@ from dataclasses import dataclass
 import ports
 import preloaded
 import servers
-from servers import BUSY, MEBIBYTE, SECONDS, STORED, UNKNOWN, Fault, Group, expect, expect_at_most, is_served, until
+from servers import BUSY, MEBIBYTE, NO_MEMORY, SECONDS, STORED, UNKNOWN, Fault, Group, expect, expect_at_most, is_served, until
 from staying import IDLE_SHARE, answered, close_all, come, expect_reads, fill, free_some, try_good
 
 PIDFD_GETFD = 438
@@ -152,11 +152,29 @@ def a_peer_without_memory(room):
         before = server.limit(resource.RLIMIT_AS, server.status_of("VmSize") + 150 * MEBIBYTE)
         stored, refused = fill(group.servers[0], writer, value, 4_000, 3)
         group.expect_up("where one has no memory")
-        expect_reads(server, [reader], stored, value)
+        closed = reads_or_closed(server, stored, value)
         server.limit(resource.RLIMIT_AS, before)
+        expect_reads(server, [reader], stored, value)
         behind = free_some(group.servers[0], writer, stored, value)
         group.expect_up("once there was memory")
-        return f"{len(stored)} sets of 100 KB, then {refused} not stored; {min(len(stored), 200)} keys were read at the process without memory; once it had some a set was stored at ask {behind}"
+        return f"{len(stored)} sets of 100 KB, then {refused} not stored; of 50 reads at the process without memory {closed} had their connection closed, none was wrong; once it had some {min(len(stored), 200)} keys were read and a set was stored at ask {behind}"
+
+
+def reads_or_closed(server, stored, value):
+    """Reads of 100 KB, each on a connection of its own, where there may be no memory for the reply. Gives how many ended with no reply; none tells anything else."""
+    closed = 0
+    for key in random.Random(2).sample(stored, min(len(stored), 50)):
+        try:
+            with socket.create_connection((servers.HOST, server.port), timeout=SECONDS) as conn:
+                conn.sendall(b"get %s\r\nquit\r\n" % key)
+                told = b"".join(iter(lambda: conn.recv(1 << 20), b""))
+        except OSError:
+            told = b""
+        if told not in (b"", NO_MEMORY) and not (told.startswith(b"VALUE %s 0 " % key) and told.endswith(b"\r\n" + value + b"\r\nEND\r\n")):
+            raise Fault(f"a get of {key!r} with a full memory is told {told!r:.80}")
+        closed += not told
+    server.expect_up("behind gets with a full memory")
+    return closed
 
 
 # ---- who comes, comes back and does not

@@ -13,6 +13,9 @@ use std::alloc::Global;
 pub(crate) trait Forward {
     /// Sends them together. What can't be sent is lost.
     fn forward(&mut self, batch: &[Parcel]);
+
+    /// Whether there is a connection on which the last were sent.
+    fn is_connected(&self) -> bool;
 }
 
 /// Leads to whoever serves a port. It dials where it has no connection, and drops one on which writing failed.
@@ -46,5 +49,9 @@ impl<D: Dial + Drop> Forward for Route<D> {
             Err(SendFault::Memory) => self.conn = Some(dialled),
             Err(SendFault::WriteFault) => {}
         }
+    }
+
+    fn is_connected(&self) -> bool {
+        self.conn.is_some()
     }
 }

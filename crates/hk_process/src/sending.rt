@@ -93,11 +93,12 @@ fn take_batch<R: Wait>(rt: &R, inlet: &mut Inlet, batch: &mut Vec<Parcel>) {
     }
 }
 
-// Sends all that waits.
+// Sends all that waits. Once the ending was told it stops where some could not be sent: each further try may last as long, and nobody waits for it.
 fn send_waiting<R: Wait, F: Forward>(
     rt: &R,
     forward: &mut F,
     inlet: &mut Inlet,
+    ending: &Ending,
     batch: &mut Vec<Parcel>,
 ) {
     for _ in rt.forever() {
@@ -107,6 +108,9 @@ fn send_waiting<R: Wait, F: Forward>(
         }
         forward.forward(batch.as_slice());
         batch.clear();
+        if ending.is_told() && !forward.is_connected() {
+            return;
+        }
     }
 }
 
@@ -122,7 +126,7 @@ fn go_on<R: Wait, F: Forward>(
     for _ in rt.forever() {
         let heard = bell.rings();
         let is_last = ending.is_told();
-        send_waiting(rt, forward, inlet, batch);
+        send_waiting(rt, forward, inlet, ending, batch);
         if is_last {
             return;
         }
