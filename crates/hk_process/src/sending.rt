@@ -93,25 +93,27 @@ fn take_batch<R: Wait>(rt: &R, inlet: &mut Inlet, batch: &mut Vec<Parcel>) {
     }
 }
 
-// Sends all that waits. Once the ending was told it stops where some could not be sent: each further try may last as long, and nobody waits for it.
+// Sends all that waits, and gives whether more is to be sent then. Once the ending was told it stops where some could not be sent: each further try may last as
+// long, and nobody waits for it.
 fn send_waiting<R: Wait, F: Forward>(
     rt: &R,
     forward: &mut F,
     inlet: &mut Inlet,
     ending: &Ending,
     batch: &mut Vec<Parcel>,
-) {
+) -> bool {
     for _ in rt.forever() {
         take_batch(rt, inlet, batch);
         if batch.is_empty() {
-            return;
+            return true;
         }
         forward.forward(batch.as_slice());
         batch.clear();
         if ending.is_told() && !forward.is_connected() {
-            return;
+            return false;
         }
     }
+    unreachable!()
 }
 
 // Sends what is put until the ending was told and nothing waits any more. It sleeps in between.
@@ -126,8 +128,8 @@ fn go_on<R: Wait, F: Forward>(
     for _ in rt.forever() {
         let heard = bell.rings();
         let is_last = ending.is_told();
-        send_waiting(rt, forward, inlet, ending, batch);
-        if is_last {
+        let goes_on = send_waiting(rt, forward, inlet, ending, batch);
+        if is_last || !goes_on {
             return;
         }
         bell.wait(rt, heard);
