@@ -1,6 +1,7 @@
 pub mod KeyBytes
 pub mod Key
-pub mod KeyFront
+pub mod KeyForm
+pub mod DataPlace
 pub mod KeyFaults
 pub mod Stamp
 pub mod Register

@@ -1,10 +1,10 @@
 //! The keys of the store.
 
-ghost use Rattle.std.specs.Prelude.{◌≡◌, position, drop, IfOk};
+ghost use Rattle.std.specs.Prelude.{◌≡◌, position, IfOk};
 ghost use Rattle.hk_base.specs.KeyBytes.{is_bad_byte};
-ghost use Rattle.hk_base.specs.KeyFront.{front_of};
 
 use crate::memory::Memory;
+use crate::padded::padded;
 use std::alloc::Global;
 use std::marker::Model;
 use std::sync::ArcSlice;
@@ -39,37 +39,31 @@ fn first_bad_byte(bytes: &[u8]) -> Option<usize>
     bytes.iter().position(|byte| *byte < 0x21 || *byte == 0x7f)
 }
 
-// The first eight bytes as one number, the first of them the most significant; a zero stands for each that is not there.
-#[tactic(auto, unfolding(crate::specs::KeyFront::front_of))]
-fn front_of(bytes: &[u8]) -> u64
-    ensures { result ≡ front_of bytes.now }
-{
-    let mut front = 0;
-    for place in 0..8 {
-        let byte = bytes.get(place).copied().unwrap_or(0);
-        front = front * 256 + byte as u64;
-    }
-    front
-}
+// How many bytes a key has room for.
+const SHORT_LEN: usize = 22;
 
-// The bytes behind the eighth.
-fn behind_front(bytes: &[u8]) -> &[u8]
-    ensures { result.now ≡ drop 8 bytes.now }
-{
-    match bytes.get(8..) {
-        Some(rest) => rest,
-        None => &[],
-    }
+// How many of them stand in a key that has more.
+const FRONT_LEN: usize = 15;
+
+// Where the bytes of a key stand: in the key itself, with zeros behind the last, or elsewhere, with the first of them in the
+// key too. Both forms begin with those at the same place, so most keys are told apart with no test of the form.
+#[derive(Drop)]
+enum Form {
+    Short {
+        bytes: [u8; SHORT_LEN],
+        len: u8,
+    },
+    Long {
+        front: [u8; FRONT_LEN],
+        bytes: ArcSlice<u8>,
+    },
 }
 
 /// A key: 1 to 250 bytes, none below `0x21` and none `0x7f`, as memcached's `protocol.txt` has it.
 /// Contracts see its bytes. Keys are ordered as their bytes are, from the first on.
 #[derive(Drop)]
 pub struct Key {
-    // Its first eight bytes, and the next eight: most keys are ordered by them alone, with no look at memory elsewhere.
-    front: u64,
-    second: u64,
-    bytes: ArcSlice<u8>,
+    form: Form,
 }
 
 impl Model for Key {
@@ -77,19 +71,37 @@ impl Model for Key {
 
     ghost Value = { List ℕ };
 
-    ghost use Rattle.std.specs.Arc.{arc_slice_items};
-    ghost use Rattle.hk_base.specs.KeyFront.{IsFronted};
+    ghost use Rattle.hk_base.specs.KeyForm.{shown, IsKept};
 
-    ghost view = { λ k. arc_slice_items k.bytes };
+    ghost view = { λ k. shown k.form };
 
-    ghost invariant = { λ k. IsFronted k.front k.second (arc_slice_items k.bytes) };
+    ghost invariant = { λ k. IsKept k.form };
+}
+
+ghost use Rattle.hk_base.specs.KeyForm.{shown, in_key, IsFront, HasRoom};
+
+// The bytes in the form that their number asks for.
+fn form_of(alloc: Global, bytes: &[u8]) -> Result<Form, Memory>
+    ensures shown { IfOk result (λ form. shown form ≡ bytes.now) }
+    ensures front { IfOk result (λ form. IsFront (in_key form) (shown form)) }
+    ensures room { IfOk result (λ form. HasRoom form) }
+{
+    if bytes.len() <= SHORT_LEN {
+        return Ok(Form::Short {
+            bytes: padded(bytes),
+            len: bytes.len() as u8,
+        });
+    }
+    let front = padded(&bytes[..FRONT_LEN]);
+    let bytes = ArcSlice::from_slice(alloc, bytes)?;
+    Ok(Form::Long { front, bytes })
 }
 
 impl Key {
     ghost use Rattle.hk_base.specs.Key.{IsKey};
     ghost use Rattle.hk_base.specs.KeyFaults.{IsKeyRead};
 
-    /// Makes a key of the bytes. They are tested in the order of the faults, and copied once.
+    /// Makes a key of the bytes. They are tested in the order of the faults.
     pub fn read(alloc: Global, bytes: &[u8]) -> Result<Key, KeyFault>
         ensures exact { IsKeyRead result bytes.now }
     {
@@ -102,14 +114,8 @@ impl Key {
         if let Some(at) = first_bad_byte(bytes) {
             return Err(KeyFault::BadByte { at });
         }
-        let front = front_of(bytes);
-        let second = front_of(behind_front(bytes));
-        match ArcSlice::from_slice(alloc, bytes) {
-            Ok(bytes) => Ok(Key {
-                front,
-                second,
-                bytes,
-            }),
+        match form_of(alloc, bytes) {
+            Ok(form) => Ok(Key { form }),
             Err(_) => Err(KeyFault::Memory),
         }
     }
@@ -119,19 +125,27 @@ impl Key {
         ensures same { result.now ≡ self.now }
         ensures key { IsKey self.now }
     {
-        self.bytes.as_slice()
+        match &self.form {
+            Form::Short { bytes, len } => &bytes[..*len as usize],
+            Form::Long { bytes, .. } => bytes.as_slice(),
+        }
     }
 
-    /// The same key, which shares the bytes.
+    /// The same key. A short one is copied, and a long one shares its bytes.
     pub fn share(&self) -> Result<Key, Memory>
         ensures { IfOk result (λ key. key ≡ self.now) }
     {
-        let bytes = self.bytes.clone()?;
-        Ok(Key {
-            front: self.front,
-            second: self.second,
-            bytes,
-        })
+        let form = match &self.form {
+            Form::Short { bytes, len } => Form::Short {
+                bytes: *bytes,
+                len: *len,
+            },
+            Form::Long { front, bytes } => Form::Long {
+                front: *front,
+                bytes: bytes.clone()?,
+            },
+        };
+        Ok(Key { form })
     }
 }
 

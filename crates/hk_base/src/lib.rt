@@ -4,15 +4,18 @@
 //! A *register* is what one key is to its clients: a content or nothing, and a tag. What an operation answers and
 //! leaves is a definition, `act` in `specs/Register.antt`; all that the other crates promise comes down to it.
 //!
-//! Keys and data share their bytes: to `share` one counts an owner and copies no byte.
+//! Data and long keys share their bytes: to `share` one counts an owner and copies no byte. A key of at most 22 bytes has them
+//! in itself.
 #![tactic(auto)]
 
+mod block;
 mod call;
 mod data;
 mod key;
 mod length;
 mod letter;
 mod memory;
+mod padded;
 mod sequence;
 mod stamp;
 mod time;

@@ -31,7 +31,7 @@ pub struct Pending {
 
 /// What a node has of one key. A key without a row counts as [`Row::first`].
 // A store has a row for each key, and few of them wait: so the small fields stand together, and a pending update in a
-// place of its own. A row takes 64 bytes.
+// place of its own. A row takes 72 bytes.
 #[derive(Drop)]
 pub struct Row {
     pub state: State,

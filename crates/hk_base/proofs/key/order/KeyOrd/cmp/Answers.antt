@@ -1,32 +1,34 @@
-use Rattle.std.proofs.Common.{◌∙◌}
-use Rattle.hk_base.proofs.Fronts.{first_decides, second_decides, rest_decides, fronts_are_all}
+use Rattle.std.proofs.Common.{◌∙◌, ap, rules}
+use Rattle.hk_base.specs.KeyForm.{in_key}
+use Rattle.hk_base.proofs.Words.{first_decides, second_decides, third_decides, rest_decides, kept_word, short_length}
 use Rattle.hk_base.proofs.key.order.KeyOrd.cmp.Goals as goal
 
-pub returns-then-self-other : goal.returns-then-self-other
-returns-then-self-other c =
-    rw (← c.self.view_is, ← c.other.view_is) (c.cmp.ensures ∙ first_decides _ _ _ _ _ _ c.self.invariant c.other.invariant c.if-self-other.true)
-
-pub returns-then-self-other-2 : goal.returns-then-self-other-2
-returns-then-self-other-2 c =
+pub returns-then-mine-theirs : goal.returns-then-mine-theirs
+returns-then-mine-theirs c =
     rw (← c.self.view_is, ← c.other.view_is)
-    (c.cmp-then-self-other-2.ensures ∙ second_decides _ _ _ _ _ _ c.self.invariant c.other.invariant c.if-self-other.false c.if-self-other-2.true)
+    (c.cmp.ensures ∙ first_decides _ _ c.self.invariant c.other.invariant _ _ c.first-mine.ensures c.first-theirs.ensures c.if-mine-theirs.true)
 
-pub returns-then-self-eq0 : goal.returns-then-self-eq0
-returns-then-self-eq0 c =
+pub returns-then-mine-theirs-2 : goal.returns-then-mine-theirs-2
+returns-then-mine-theirs-2 c =
     rw (← c.self.view_is, ← c.other.view_is)
-    (fronts_are_all _ _ _ _ _ _ c.self.invariant c.other.invariant c.if-self-other.false c.if-self-other-2.false c.if-self-eq0.true)
+    (c.cmp-then-mine-theirs-2.ensures ∙ second_decides _ _ c.self.invariant c.other.invariant _ _ c.first-mine.ensures c.first-theirs.ensures c.if-mine-theirs.false _ _ c.second-mine.ensures c.second-theirs.ensures c.if-mine-theirs-2.true)
 
-pub returns : goal.returns
-returns c =
+pub returns-in-Short-Short : goal.returns-in-Short-Short
+returns-in-Short-Short c =
+    rw (← c.self.view_is, ← c.other.view_is)
+    (c.cmp-in-Short-Short.ensures ∙ third_decides _ _ c.self.invariant c.other.invariant _ _ c.first-mine.ensures c.first-theirs.ensures c.if-mine-theirs.false _ _ c.second-mine.ensures c.second-theirs.ensures c.if-mine-theirs-2.false _ _
+    (c.word.ensures ∙ kept_word 14 _ _ (ap in_key c.in-Short-Short.is-0) c.self.invariant (search rules))
+    (c.word-in-Short-Short.ensures ∙ kept_word 14 _ _ (ap in_key c.in-Short-Short.is-1) c.other.invariant (search rules))
+    (short_length _ _ _ c.in-Short-Short.is-0 c.self.invariant)
+    (short_length _ _ _ c.in-Short-Short.is-1 c.other.invariant))
+
+pub returns-in_default : goal.returns-in_default
+returns-in_default c =
     rw (
-      c.cmp-2.ensures,
-      c.behind_front-rest.ensures,
-      c.behind_front.ensures,
-      c.behind_front-3.ensures,
-      c.behind_front-2.ensures,
+      c.cmp_behind_front.ensures,
       c.bytes.ensures.same,
-      c.bytes-2.ensures.same,
+      c.bytes-in_default.ensures.same,
       ← c.self.view_is,
       ← c.other.view_is,
     )
-    (rest_decides _ _ _ _ _ _ c.self.invariant c.other.invariant c.if-self-other.false c.if-self-other-2.false)
+    (rest_decides _ _ c.self.invariant c.other.invariant _ _ c.first-mine.ensures c.first-theirs.ensures c.if-mine-theirs.false _ _ c.second-mine.ensures c.second-theirs.ensures c.if-mine-theirs-2.false)
