@@ -12,6 +12,7 @@
 
 mod acks;
 mod boxed;
+mod boxed_row;
 mod copy;
 mod laws;
 mod out;
@@ -20,6 +21,7 @@ mod same;
 
 pub use acks::{Ack, Acks, MAX_ACKS};
 pub use boxed::BoxedPending;
+pub use boxed_row::BoxedRow;
 pub use laws::{
     answers_were_waited_for, calls_wait_or_are_answered, rows_stay_sound, same_rows_are_unchanged,
     stamps_never_fall, worked_rows,
