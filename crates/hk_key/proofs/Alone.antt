@@ -1,8 +1,8 @@
 -- A view of one member: an update is complete with no notes.
-use Rattle.std.proofs.Common.{◌≡◌, ℕ, Bool, true, false, ◌||◌, ◌&&◌, ◌==◌, List, [], ◌∷◌, refl, sym, ap, ◌∙◌, subst}
+use Rattle.std.proofs.Common.{◌≡◌, Bool, true, false, ◌||◌, ◌&&◌, ◌==◌, List, [], ◌∷◌, refl, ap, ◌∙◌}
 use Rattle.std.specs.List.{list_all}
 use Rattle.hk_base.specs.declared.stamp.NodeId.{NodeId}
-use Rattle.hk_key.specs.Notes.{is_noted, all_noted}
+use Rattle.hk_key.specs.Notes.{all_noted}
 
 or_not : (b : Bool) → b ≡ (b || false)
 or_not true = refl

@@ -9,7 +9,6 @@ use Rattle.std.specs.declared.cmp.Ordering.TheVariants.{Less, Equal, Greater}
 use Rattle.hk_base.specs.declared.stamp.Stamp.{Stamp}
 use Rattle.hk_base.specs.declared.stamp.NodeId.{NodeId}
 use Rattle.hk_base.specs.declared.stamp.Kind.{Kind}
-use Rattle.hk_base.specs.declared.stamp.Kind.TheVariants as Kind
 use Rattle.hk_base.specs.declared.call.State.{State}
 use Rattle.hk_base.specs.declared.call.State.TheVariants.{Valid, Invalid, Write, Replay, Trans}
 use Rattle.hk_base.specs.declared.call.Content.{Content}
@@ -23,7 +22,6 @@ use Rattle.hk_key.specs.declared.row.Row.{Row}
 use Rattle.hk_key.specs.declared.out.Aim.{Aim}
 use Rattle.hk_key.specs.declared.out.Aim.TheVariants.{One, Others, NotAcked}
 use Rattle.hk_key.specs.declared.out.What.{What}
-use Rattle.hk_key.specs.declared.out.What.TheVariants as What
 use Rattle.hk_key.specs.declared.out.Out.{Out}
 use Rattle.hk_key.specs.Notes.{all_noted, all_exact, note_in}
 
