@@ -9,7 +9,6 @@ use Rattle.std.proofs.lemmas.Option.{none-some}
 use Rattle.hk_base.specs.declared.stamp.Stamp.{Stamp}
 use Rattle.hk_base.specs.declared.stamp.NodeId.{NodeId}
 use Rattle.hk_base.specs.declared.stamp.Kind.{Kind}
-use Rattle.hk_base.specs.declared.stamp.Kind.TheVariants as Kind
 use Rattle.hk_base.specs.declared.call.Content.{Content}
 use Rattle.hk_base.specs.declared.call.Reply.{Reply}
 use Rattle.hk_base.specs.declared.call.State.{State}

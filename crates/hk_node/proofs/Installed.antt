@@ -15,7 +15,6 @@ use Rattle.hk_key.proofs.Unchanged.{same_after_view}
 use Rattle.hk_node.specs.declared.report.PriorRow.{PriorRow}
 use Rattle.hk_node.specs.declared.report.Report.{Report}
 use Rattle.hk_node.specs.declared.report.Undo.{Undo}
-use Rattle.hk_node.specs.declared.report.Undo.TheVariants as Undo
 use Rattle.hk_node.specs.declared.out.NodeOut.{NodeOut}
 use Rattle.hk_node.specs.Rows.{Rows, find_row}
 use Rattle.hk_node.specs.Node.{NodeState, epoch_of}

@@ -32,3 +32,4 @@ pub mod Waits
 pub mod InOrder
 pub mod Exact
 pub mod Walk
+pub mod Places

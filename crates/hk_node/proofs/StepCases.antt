@@ -11,7 +11,6 @@ use Rattle.hk_base.specs.declared.call.CallNo.{CallNo}
 use Rattle.hk_base.specs.declared.call.Answer.{Answer}
 use Rattle.hk_base.specs.declared.call.Op.{Op}
 use Rattle.hk_base.specs.declared.call.State.{State}
-use Rattle.hk_base.specs.declared.call.State.TheVariants as State
 use Rattle.hk_base.specs.declared.view.View.{View}
 use Rattle.hk_base.specs.declared.letter.Actor.{Actor}
 use Rattle.hk_base.specs.declared.letter.Actor.TheVariants.{Node, Manager}

@@ -4,12 +4,10 @@ use Rattle.std.specs.Prelude.{ℕ, ◌+◌, List, [], ◌∷◌, Bool, true, fal
 use Rattle.hk_base.specs.declared.stamp.Stamp.{Stamp}
 use Rattle.hk_base.specs.declared.stamp.NodeId.{NodeId}
 use Rattle.hk_base.specs.declared.stamp.Kind.{Kind}
-use Rattle.hk_base.specs.declared.stamp.Kind.TheVariants as Kind
 use Rattle.hk_base.specs.declared.call.CallNo.{CallNo}
 use Rattle.hk_base.specs.declared.call.State.{State}
 use Rattle.hk_base.specs.declared.call.State.TheVariants.{Valid, Invalid, Write, Replay, Trans}
 use Rattle.hk_base.specs.declared.call.Op.{Op}
-use Rattle.hk_base.specs.declared.call.Op.TheVariants as Op
 use Rattle.hk_base.specs.declared.call.Answer.{Answer}
 use Rattle.hk_base.specs.declared.call.Answer.TheVariants.{Busy, Exhausted}
 use Rattle.hk_base.specs.declared.call.Why.TheVariants as Why

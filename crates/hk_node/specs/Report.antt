@@ -43,6 +43,10 @@ pub record AreChanged (prior : List PriorRow) (old new : Rows) : Type 0 where
 abbrev pub changed_by : List ℕ → Row → Rows → List PriorRow
 changed_by key row rows = if is_same_row (row_at key rows) row then [] else prior_at rows key ∷ []
 
+-- the same of a row that stands at the key
+abbrev pub prior_of_row : List ℕ → Row → Row → List PriorRow
+prior_of_row key old row = if is_same_row old row then [] else record { key = key; row = Some old } ∷ []
+
 -- A step made this row of the one at the key: where the two are told to be the same they are, and one that differs is touched.
 pub record IsMade (rows : Rows) (key : List ℕ) (row : Row) : Type 0 where
   pub same : is_same_row (row_at key rows) row ≡ true → row ≡ row_at key rows

@@ -5,7 +5,6 @@ use Rattle.hk_base.specs.declared.stamp.NodeId.{NodeId}
 use Rattle.hk_base.specs.declared.view.View.{View}
 use Rattle.hk_base.specs.declared.letter.Actor.TheVariants.{Node}
 use Rattle.hk_base.specs.declared.letter.Body.{Body}
-use Rattle.hk_base.specs.declared.letter.Body.TheVariants as Body
 use Rattle.hk_base.specs.declared.letter.Letter.{Letter}
 use Rattle.hk_key.specs.declared.acks.Ack.{Ack}
 use Rattle.hk_key.specs.declared.row.Pending.{Pending}
@@ -13,7 +12,6 @@ use Rattle.hk_key.specs.declared.row.Row.{Row}
 use Rattle.hk_key.specs.declared.out.Aim.{Aim}
 use Rattle.hk_key.specs.declared.out.Aim.TheVariants.{One, Others, NotAcked}
 use Rattle.hk_key.specs.declared.out.What.{What}
-use Rattle.hk_key.specs.declared.out.What.TheVariants as What
 use Rattle.hk_key.specs.declared.out.Sending.{Sending}
 use Rattle.hk_key.specs.Notes.{is_noted}
 use Rattle.hk_node.specs.Node.{NodeState, epoch_of, members_of, others}

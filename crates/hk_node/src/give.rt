@@ -1,12 +1,13 @@
 //! Rows that are put in their places.
 
-ghost use Rattle.std.specs.Prelude.{◌≡◌, ◌∷◌, [], Some, None, IsSome, IfOk, OnOk, OnErr, map};
+ghost use Rattle.std.specs.Prelude.{◌≡◌, ◌∷◌, [], true, Some, None, IsSome, IfOk, OnOk, OnErr, map};
 ghost use Rattle.std.specs.List.{AllByRecursion};
 ghost use Rattle.std.specs.List.Sorted.{IsStrictlySortedBy};
 ghost use Rattle.std.specs.Map.{keys_of};
 ghost use Rattle.hk_copy.specs.Batches.{key_cmp};
+ghost use Rattle.hk_key.specs.Same.{is_same_row};
 ghost use Rattle.hk_node.specs.Rows.{find_row, put_row, with_row};
-ghost use Rattle.hk_node.specs.Report.{IsMade, row_rolled_back, rows_rolled_back, changed_by};
+ghost use Rattle.hk_node.specs.Report.{IsMade, row_rolled_back, rows_rolled_back, changed_by, prior_of_row};
 
 use crate::report::{PriorRow, PriorRows};
 use hk_base::{Key, Memory};
@@ -25,28 +26,6 @@ pub(crate) fn swap_row(rows: &mut BTreeMap<Key, Row>, key: &Key, row: Row) -> Ro
         Some(place) => mem::replace(place, row),
         None => unreachable!(),
     }
-}
-
-// Puts a row in place of the one that is there.
-fn replace_row(
-    rows: &mut BTreeMap<Key, Row>,
-    alloc: Global,
-    key: &Key,
-    row: Row,
-) -> Result<PriorRows, Memory>
-    requires { IsSome (find_row key.now rows.old.entries) }
-    ensures put { OnOk result (rows.new.entries ≡ put_row key.now row rows.old.entries) }
-    ensures prior { IfOk result (λ prior. prior ≡ record { key = key.now; row = find_row key.now rows.old.entries } ∷ []) }
-    ensures err { OnErr result (rows.new.entries ≡ rows.old.entries) }
-{
-    let name = key.share()?;
-    let mut prior = Vec::with_capacity(alloc, 1)?;
-    let row = swap_row(rows, key, row);
-    prior.push_reserved(PriorRow {
-        key: name,
-        row: Some(row),
-    });
-    Ok(PriorRows::from_vec(prior))
 }
 
 // Puts a row at a key that has none.
@@ -72,8 +51,9 @@ fn add_row(
     Ok(prior)
 }
 
-/// Puts a row that a step made at its key, where the same does not stand there. What it took the place of is given.
-pub(crate) fn put_row(
+/// Puts the row that a step made of a key that has none, where it is not the first row still. What it took the place of is
+/// given.
+pub(crate) fn put_first(
     rows: &mut BTreeMap<Key, Row>,
     alloc: Global,
     key: &Key,
@@ -81,24 +61,41 @@ pub(crate) fn put_row(
 ) -> Result<PriorRows, Memory>
     requires ordered { IsStrictlySortedBy key_cmp (keys_of rows.old.entries) }
     requires made { IsMade rows.old.entries key.now row }
+    requires none { find_row key.now rows.old.entries ≡ None }
     ensures put { OnOk result (rows.new.entries ≡ with_row key.now row rows.old.entries) }
     ensures prior { IfOk result (λ prior. prior ≡ changed_by key.now row rows.old.entries) }
     ensures err { OnErr result (rows.new.entries ≡ rows.old.entries) }
 {
-    match rows.get(key) {
-        Some(now) => {
-            if now.is_same(&row) {
-                return Ok(PriorRows::new(alloc));
-            }
-            replace_row(rows, alloc, key, row)
-        }
-        None => {
-            if Row::first().is_same(&row) {
-                return Ok(PriorRows::new(alloc));
-            }
-            add_row(rows, alloc, key, row)
-        }
+    if Row::first().is_same(&row) {
+        return Ok(PriorRows::new(alloc));
     }
+    add_row(rows, alloc, key, row)
+}
+
+/// Puts a row that a step made in place of the one that stands there, where that is not the same. What it took the place
+/// of is given.
+pub(crate) fn change_row(
+    place: &mut Row,
+    alloc: Global,
+    key: &Key,
+    row: Row,
+) -> Result<PriorRows, Memory>
+    requires same { is_same_row place.old row ≡ true → row ≡ place.old }
+    ensures row { OnOk result (place.new ≡ row) }
+    ensures prior { IfOk result (λ prior. prior ≡ prior_of_row key.now place.old row) }
+    ensures err { OnErr result (place.new ≡ place.old) }
+{
+    if place.is_same(&row) {
+        return Ok(PriorRows::new(alloc));
+    }
+    let name = key.share()?;
+    let mut prior = Vec::with_capacity(alloc, 1)?;
+    let row = mem::replace(place, row);
+    prior.push_reserved(PriorRow {
+        key: name,
+        row: Some(row),
+    });
+    Ok(PriorRows::from_vec(prior))
 }
 
 // Gives one row back.

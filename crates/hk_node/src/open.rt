@@ -53,6 +53,23 @@ pub(crate) fn list_row(keys: &mut BTreeSet<Key>, key: &Key, row: &Row) -> Result
     add(keys, key)
 }
 
+/// Lists the key of a row that is to be put in place of one in this state, where the step opens the row: the key of one that was
+/// open is listed already.
+pub(crate) fn list_opened(
+    keys: &mut BTreeSet<Key>,
+    key: &Key,
+    old: State,
+    row: &Row,
+) -> Result<(), Memory>
+    ensures listed { OnOk result (is_valid old ≡ true → is_valid row.now.state ≡ false → is_listed key.now keys.new.keys ≡ true) }
+    ensures grown { IsGrown keys.old.keys keys.new.keys }
+{
+    if is_valid(old) {
+        return list_row(keys, key, row);
+    }
+    Ok(())
+}
+
 /// Lists the keys of all these rows that are open.
 pub(crate) fn list_rows(keys: &mut BTreeSet<Key>, rows: &BTreeMap<Key, Row>) -> Result<(), Memory>
     ensures listed { OnOk result (HasOpen keys.new.keys rows.now.entries) }

@@ -13,6 +13,7 @@ ghost use Rattle.hk_node.specs.Steps.{resent, replayed};
 ghost use Rattle.hk_node.specs.Outs.{IsOutOf};
 
 use super::Node;
+use super::finish::put_stepped;
 use crate::decide::{Decision, decide};
 use crate::letters::post_sent;
 use crate::out::NodeOut;
@@ -37,8 +38,8 @@ impl Node {
         if self.ready { self.granted } else { 0 }
     }
 
-    // An update begins at a Valid row. Of the row that was there nothing stays.
-    fn begin(
+    // An update begins at a key that has no row.
+    fn begin_first(
         &mut self,
         alloc: Global,
         key: &Key,
@@ -51,6 +52,7 @@ impl Node {
         requires within { IsWithin stamp }
         requires later { (row_at key.now self.old.rows).stamp.version < stamp.version }
         requires leaves { Leaves kind content }
+        requires none { find_row key.now self.old.rows ≡ None }
         ensures node { OnOk result (self.new ≡ (row_step self.old key.now (begin self.old.id (members_of self.old) reply stamp kind content)).node) }
         ensures out { IfOk result (λ out. IsOutOf out self.old (row_step self.old key.now (begin self.old.id (members_of self.old) reply stamp kind content))) }
         ensures err { OnErr result (self.new ≡ self.old) }
@@ -63,14 +65,28 @@ impl Node {
         self.finish(alloc, key, row, out)
     }
 
-    // What becomes of the call at its row.
-    fn decide(&self, alloc: Global, key: &Key, op: &Op) -> Result<Decision, Memory>
-        ensures step { IfOk result (λ decision. (call : CallNo) → decided decision self.now call key.now ≡ at_lease false self.now call key.now op.now) }
-        ensures fit { IfOk result (IsFit (row_at key.now self.now.rows)) }
+    // Serves a call of a key that has no row, or begins it.
+    fn first_call(
+        &mut self,
+        alloc: Global,
+        call: CallNo,
+        key: &Key,
+        op: &Op,
+    ) -> Result<NodeOut, Memory>
+        requires ready { self.old.ready ≡ true }
+        requires none { find_row key.now self.old.rows ≡ None }
+        ensures node { OnOk result (self.new ≡ (at_lease false self.old call key.now op.now).node) }
+        ensures out { IfOk result (λ out. IsOutOf out self.old (at_lease false self.old call key.now op.now)) }
+        ensures err { OnErr result (self.new ≡ self.old) }
     {
-        match self.rows.get(key) {
-            Some(row) => decide(alloc, self.id, op, row),
-            None => decide(alloc, self.id, op, &Row::first()),
+        match decide(alloc, self.id, op, &Row::first())? {
+            Decision::Now(answer) => self.answers(alloc, key, call, answer),
+            Decision::Begin {
+                stamp,
+                kind,
+                content,
+                answer,
+            } => self.begin_first(alloc, key, Reply { call, answer }, stamp, kind, content),
         }
     }
 
@@ -92,14 +108,35 @@ impl Node {
         if end < now + self.skew {
             return self.answers(alloc, key, call, Answer::Busy(Why::Lease { end, now }));
         }
-        match self.decide(alloc, key, op)? {
+        let Some(view) = &self.view else {
+            unreachable!()
+        };
+        let Some(place) = self.rows.get_mut(key) else {
+            return self.first_call(alloc, call, key, op);
+        };
+        match decide(alloc, self.id, op, place)? {
             Decision::Now(answer) => self.answers(alloc, key, call, answer),
             Decision::Begin {
                 stamp,
                 kind,
                 content,
                 answer,
-            } => self.begin(alloc, key, Reply { call, answer }, stamp, kind, content),
+            } => {
+                let reply = Reply { call, answer };
+                let mut row = Row::first();
+                let out = row.begin(alloc, self.id, view, reply, stamp, kind, content)?;
+                let told = put_stepped(
+                    place,
+                    &mut self.index,
+                    alloc,
+                    self.id,
+                    view,
+                    key,
+                    row,
+                    out,
+                )?;
+                Ok(told)
+            }
         }
     }
 
@@ -121,22 +158,6 @@ impl Node {
         Ok(self.tells(alloc, letters, Replies::new(alloc), Undo::Nothing))
     }
 
-    // Replays a row.
-    fn replay_row(&mut self, alloc: Global, key: &Key, row: Row) -> Result<NodeOut, Memory>
-        requires ready { self.old.ready ≡ true }
-        requires there { find_row key.now self.old.rows ≡ Some row }
-        ensures node { OnOk result (self.new ≡ (replayed self.old key.now).node) }
-        ensures out { IfOk result (λ out. IsOutOf out self.old (replayed self.old key.now)) }
-        ensures err { OnErr result (self.new ≡ self.old) }
-    {
-        let Some(view) = &self.view else {
-            unreachable!()
-        };
-        let mut row = row;
-        let out = row.replay(alloc, self.id, view)?;
-        self.finish(alloc, key, row, out)
-    }
-
     /// Sends the update of an Invalid row again, as its coordinator did. Only a ready node does.
     pub(super) fn replay(&mut self, alloc: Global, key: &Key) -> Result<NodeOut, Memory>
         ensures node { OnOk result (self.new ≡ (replayed self.old key.now).node) }
@@ -146,15 +167,18 @@ impl Node {
         if !self.ready {
             return Ok(self.idle(alloc));
         }
-        match self.rows.get(key) {
-            Some(row) => {
-                if !is_invalid(row.state) {
-                    return Ok(self.idle(alloc));
-                }
-                let row = row.copy(alloc)?;
-                self.replay_row(alloc, key, row)
-            }
-            None => Ok(self.idle(alloc)),
+        let Some(view) = &self.view else {
+            unreachable!()
+        };
+        let Some(place) = self.rows.get_mut(key) else {
+            return Ok(self.idle(alloc));
+        };
+        if !is_invalid(place.state) {
+            return Ok(self.idle(alloc));
         }
+        let mut row = place.copy(alloc)?;
+        let out = row.replay(alloc, self.id, view)?;
+        let told = put_stepped(place, &mut self.index, alloc, self.id, view, key, row, out)?;
+        Ok(told)
     }
 }

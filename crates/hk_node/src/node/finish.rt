@@ -1,21 +1,62 @@
 //! The end of a step.
 
-ghost use Rattle.std.specs.Prelude.{◌≡◌, ◌≢◌, [], None, IfOk, OnOk, OnErr};
+ghost use Rattle.std.specs.Prelude.{◌≡◌, ◌≢◌, [], true, false, None, IfOk, OnOk, OnErr};
+ghost use Rattle.hk_key.specs.Same.{is_same_row};
+ghost use Rattle.hk_node.specs.Copies.{is_valid};
+ghost use Rattle.hk_node.specs.Rows.{find_row};
+ghost use Rattle.hk_node.specs.Index.{is_listed, IsGrown};
 ghost use Rattle.hk_node.specs.Sound.{IsNode};
 ghost use Rattle.hk_node.specs.Stepped.{idle, row_step};
 ghost use Rattle.hk_node.specs.Calls.{answers};
 ghost use Rattle.hk_node.specs.Report.{IsMade, rows_report};
-ghost use Rattle.hk_node.specs.Outs.{IsOutOf};
+ghost use Rattle.hk_node.specs.Outs.{IsOutOf, IsOutOfRow};
 
 use super::{Node, epoch_in};
-use crate::give::put_row;
+use crate::give::{change_row, put_first};
 use crate::letters::{post_sent, replies};
-use crate::open::list_row;
+use crate::open::{list_opened, list_row};
 use crate::out::NodeOut;
 use crate::report::{PriorRows, Report, Undo};
-use hk_base::{Answer, CallNo, Key, Letters, Memory, Replies, Reply};
+use hk_base::{Answer, CallNo, Key, Letters, Memory, NodeId, Replies, Reply, View};
 use hk_key::{Out, Row};
 use std::alloc::Global;
+use std::collections::BTreeSet;
+
+/// Puts the row that a step made in place of the one that stands at the key, and tells what the step did.
+pub(super) fn put_stepped(
+    place: &mut Row,
+    index: &mut BTreeSet<Key>,
+    alloc: Global,
+    id: NodeId,
+    view: &View,
+    key: &Key,
+    row: Row,
+    out: Out,
+) -> Result<NodeOut, Memory>
+    requires same { is_same_row place.old row ≡ true → row ≡ place.old }
+    ensures row { OnOk result (place.new ≡ row) }
+    ensures told { IfOk result (IsOutOfRow id view.now key.now place.old (record { row = row; out = out })) }
+    ensures listed { OnOk result (is_valid place.old.state ≡ true → is_valid row.state ≡ false → is_listed key.now index.new.keys ≡ true) }
+    ensures grown { IsGrown index.old.keys index.new.keys }
+    ensures err { OnErr result (place.new ≡ place.old) }
+{
+    let mut letters = Letters::new(alloc);
+    post_sent(&mut letters, id, view, key, &row, &out.send)?;
+    let replies = replies(alloc, key, out.reply)?;
+    list_opened(index, key, place.state, &row)?;
+    let rows = change_row(place, alloc, key, row)?;
+    Ok(NodeOut {
+        letters,
+        replies,
+        installed: None,
+        report: Report {
+            epoch: view.epoch,
+            readied: false,
+            rows,
+        },
+        undo: Undo::Nothing,
+    })
+}
 
 impl Node {
     /// Letters are sent and calls are answered, and something beside rows is replaced, or nothing.
@@ -80,7 +121,7 @@ impl Node {
         Ok(self.tells(alloc, Letters::new(alloc), told, Undo::Nothing))
     }
 
-    /// One row made a step: its letters and its reply are made, and last it is put in its place.
+    /// The first row of a key made a step: its letters and its reply are made, and last it is put in its place.
     pub(super) fn finish(
         &mut self,
         alloc: Global,
@@ -91,6 +132,7 @@ impl Node {
         requires seen { self.old.view ≢ None }
         requires node { IsNode (row_step self.old key.now (record { row = row; out = out })).node }
         requires made { IsMade self.old.rows key.now row }
+        requires none { find_row key.now self.old.rows ≡ None }
         ensures node { OnOk result (self.new ≡ (row_step self.old key.now (record { row = row; out = out })).node) }
         ensures out { IfOk result (λ told. IsOutOf told self.old (row_step self.old key.now (record { row = row; out = out }))) }
         ensures err { OnErr result (self.new ≡ self.old) }
@@ -103,7 +145,7 @@ impl Node {
         post_sent(&mut letters, self.id, view, key, &row, &out.send)?;
         let replies = replies(alloc, key, out.reply)?;
         list_row(&mut self.index, key, &row)?;
-        let rows = put_row(&mut self.rows, alloc, key, row)?;
+        let rows = put_first(&mut self.rows, alloc, key, row)?;
         Ok(NodeOut {
             letters,
             replies,

@@ -10,6 +10,7 @@ ghost use Rattle.hk_node.specs.Sound.{IsNode};
 ghost use Rattle.hk_node.specs.Outs.{IsOutOf};
 
 use super::Node;
+use super::finish::put_stepped;
 use crate::out::NodeOut;
 use hk_base::{Actor, Body, Content, Key, Kind, Letter, Memory, NodeId, Stamp, share_content};
 use hk_key::{Out, Row};
@@ -43,15 +44,28 @@ impl Node {
         self.is_addressed(letter.to) && letter.epoch == self.epoch() && self.is_other(from)
     }
 
-    // A copy of the key's row, or the first row.
-    fn row_copy(&self, alloc: Global, key: &Key) -> Result<Row, Memory>
-        ensures same { IfOk result (λ row. row ≡ row_at key.now self.now.rows) }
-        ensures node { IsNode self.now }
+    // Takes an INV of a key that has no row.
+    fn first_inv(
+        &mut self,
+        alloc: Global,
+        from: NodeId,
+        key: &Key,
+        stamp: Stamp,
+        kind: Kind,
+        content: Option<Content>,
+    ) -> Result<NodeOut, Memory>
+        requires within { IsWithin stamp }
+        requires leaves { Leaves kind content }
+        requires other { is_other self.old from ≡ true }
+        requires none { find_row key.now self.old.rows ≡ None }
+        requires node { IsNode self.old }
+        ensures node { OnOk result (self.new ≡ (received (Inv key.now stamp kind content) self.old from).node) }
+        ensures out { IfOk result (λ out. IsOutOf out self.old (received (Inv key.now stamp kind content) self.old from)) }
+        ensures err { OnErr result (self.new ≡ self.old) }
     {
-        match self.rows.get(key) {
-            Some(row) => row.copy(alloc),
-            None => Ok(Row::first()),
-        }
+        let mut row = Row::first();
+        let out = row.on_inv(from, stamp, kind, content);
+        self.finish(alloc, key, row, out)
     }
 
     /// Takes an INV.
@@ -71,35 +85,17 @@ impl Node {
         ensures out { IfOk result (λ out. IsOutOf out self.old (received (Inv key.now stamp kind content.now) self.old from)) }
         ensures err { OnErr result (self.new ≡ self.old) }
     {
-        let mut row = self.row_copy(alloc, key)?;
         let content = share_content(content)?;
-        let out = row.on_inv(from, stamp, kind, content);
-        self.finish(alloc, key, row, out)
-    }
-
-    fn ack_row(
-        &mut self,
-        alloc: Global,
-        from: NodeId,
-        key: &Key,
-        row: Row,
-        stamp: Stamp,
-        top: Stamp,
-    ) -> Result<NodeOut, Memory>
-        requires within { IsWithin stamp }
-        requires top { IsWithin top }
-        requires other { is_other self.old from ≡ true }
-        requires there { find_row key.now self.old.rows ≡ Some row }
-        ensures node { OnOk result (self.new ≡ (received (Ack key.now stamp top) self.old from).node) }
-        ensures out { IfOk result (λ out. IsOutOf out self.old (received (Ack key.now stamp top) self.old from)) }
-        ensures err { OnErr result (self.new ≡ self.old) }
-    {
         let Some(view) = &self.view else {
             unreachable!()
         };
-        let mut row = row;
-        let out = row.on_ack(self.id, view, from, stamp, top);
-        self.finish(alloc, key, row, out)
+        let Some(place) = self.rows.get_mut(key) else {
+            return self.first_inv(alloc, from, key, stamp, kind, content);
+        };
+        let mut row = place.copy(alloc)?;
+        let out = row.on_inv(from, stamp, kind, content);
+        let told = put_stepped(place, &mut self.index, alloc, self.id, view, key, row, out)?;
+        Ok(told)
     }
 
     /// Takes an ACK.
@@ -118,13 +114,16 @@ impl Node {
         ensures out { IfOk result (λ out. IsOutOf out self.old (received (Ack key.now stamp top) self.old from)) }
         ensures err { OnErr result (self.new ≡ self.old) }
     {
-        match self.rows.get(key) {
-            Some(row) => {
-                let row = row.copy(alloc)?;
-                self.ack_row(alloc, from, key, row, stamp, top)
-            }
-            None => Ok(self.idle(alloc)),
-        }
+        let Some(view) = &self.view else {
+            unreachable!()
+        };
+        let Some(place) = self.rows.get_mut(key) else {
+            return Ok(self.idle(alloc));
+        };
+        let mut row = place.copy(alloc)?;
+        let out = row.on_ack(self.id, view, from, stamp, top);
+        let told = put_stepped(place, &mut self.index, alloc, self.id, view, key, row, out)?;
+        Ok(told)
     }
 
     /// Takes a VAL.
@@ -141,17 +140,19 @@ impl Node {
         ensures out { IfOk result (λ out. IsOutOf out self.old (received (Val key.now stamp) self.old from)) }
         ensures err { OnErr result (self.new ≡ self.old) }
     {
-        match self.rows.get(key) {
-            Some(row) => {
-                let mut row = row.copy(alloc)?;
-                row.on_val(stamp);
-                let out = Out {
-                    send: None,
-                    reply: None,
-                };
-                self.finish(alloc, key, row, out)
-            }
-            None => Ok(self.idle(alloc)),
-        }
+        let Some(view) = &self.view else {
+            unreachable!()
+        };
+        let Some(place) = self.rows.get_mut(key) else {
+            return Ok(self.idle(alloc));
+        };
+        let mut row = place.copy(alloc)?;
+        row.on_val(stamp);
+        let out = Out {
+            send: None,
+            reply: None,
+        };
+        let told = put_stepped(place, &mut self.index, alloc, self.id, view, key, row, out)?;
+        Ok(told)
     }
 }

@@ -15,7 +15,7 @@ returns-clause-out c = finished c.args.self.now _ c.in-Some.view c.args.key.now 
 
 pub invariant_of-self-2 : goal.invariant_of-self-2
 invariant_of-self-2 c = record {
-  node = kept_rows _ c.args.self.now c.args.key.now c.args.row c.put_row.new.rows.entries c.self.view_is c.requires.node c.in_ok-rows.ensures.put;
-  has = λ w. has_with c.self.inside.index.keys c.list_row.new.keys.keys c.self.inside.rows.entries c.put_row.new.rows.entries c.args.key.now c.args.row c.in_ok-rows.ensures.put
+  node = kept_rows _ c.args.self.now c.args.key.now c.args.row c.put_first.new.rows.entries c.self.view_is c.requires.node c.in_ok-rows.ensures.put;
+  has = λ w. has_with c.self.inside.index.keys c.list_row.new.keys.keys c.self.inside.rows.entries c.put_first.new.rows.entries c.args.key.now c.args.row c.in_ok-rows.ensures.put
       c.list_row.ensures.grown c.in_ok-list_row.ensures.listed (c.self.invariant.has w);
 }

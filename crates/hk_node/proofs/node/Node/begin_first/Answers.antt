@@ -1,6 +1,6 @@
 use Rattle.std.proofs.Common.{rules}
 use Rattle.hk_node.proofs.Finishing.{begin_kept, begin_put}
-use Rattle.hk_node.proofs.node.Node.begin.Goals as goal
+use Rattle.hk_node.proofs.node.Node.begin_first.Goals as goal
 
 pub finish-requires-clause-node : goal.finish-requires-clause-node
 finish-requires-clause-node c = begin_kept _ c.args.self.now c.in-Some.view c.args.key.now c.args.reply c.args.stamp c.args.kind c.args.content c.begin.new.self

@@ -2,7 +2,7 @@ use Rattle.std.proofs.Common.{◌≡◌, sym, rules, true}
 use Rattle.hk_key.specs.Same.{is_same_row}
 use Rattle.hk_node.specs.Rows.{row_at}
 use Rattle.hk_node.proofs.Order.{with_stays}
-use Rattle.hk_node.proofs.give.put_row.Goals as goal
+use Rattle.hk_node.proofs.give.put_first.Goals as goal
 
 pub returns-then-is_same-clause-put : goal.returns-then-is_same-clause-put
 returns-then-is_same-clause-put c =
