@@ -1,5 +1,5 @@
 -- A row that a step made, put where the one before stands.
-use Rattle.std.proofs.Common.{◌≡◌, List, [], ◌∷◌, ℕ, Bool, true, false, cond, Option, Some, unwrap_or, Result, Ok, Err, OnErr, refl, sym, ap, ◌∙◌, subst}
+use Rattle.std.proofs.Common.{◌≡◌, ◌≢◌, List, [], ◌∷◌, ℕ, Bool, true, false, cond, Option, Some, unwrap_or, Result, Ok, Err, OnErr, refl, sym, ap, ◌∙◌, subst, ⊎_elim, arith}
 use Rattle.std.specs.Option.{IsSome, is_some}
 use Rattle.std.specs.BTreeMap.{is_at}
 use Rattle.std.specs.Map.{set_value}
@@ -13,15 +13,15 @@ use Rattle.hk_node.specs.declared.report.PriorRow.{PriorRow}
 use Rattle.hk_node.specs.Copies.{is_valid}
 use Rattle.hk_node.specs.Rows.{Rows, find_row, row_at, put_row, with_row}
 use Rattle.hk_node.specs.Node.{NodeState, epoch_in}
-use Rattle.hk_node.specs.Index.{is_listed, HasOpen, IsGrown, IsIndexed}
+use Rattle.hk_node.specs.Index.{is_listed, HasOpen, IsGrown, IsRelisted, IsIndexed}
 use Rattle.hk_node.specs.Stepped.{row_step}
 use Rattle.hk_node.specs.Report.{IsMade, rows_report, changed_by, prior_of_row}
 use Rattle.hk_node.specs.Outs.{IsOutOf, IsOutOfRow}
 use Rattle.hk_node.specs.Sound.{IsNode}
-use Rattle.hk_node.proofs.Order.{Key, Rising, put_there, with_made}
+use Rattle.hk_node.proofs.Order.{Key, Rising, put_there, with_made, cases_key, find-put_same, find-put_other}
 use Rattle.hk_node.proofs.Placed.{set_is_put}
 use Rattle.hk_node.proofs.Outs.{finished}
-use Rattle.hk_node.proofs.Walk.{has_with, has_grown, kept_rows}
+use Rattle.hk_node.proofs.Walk.{has_grown, kept_rows}
 use Rattle.hk_node.proofs.Finishing.{found_now}
 
 found_is_there : (key : Key) (old : Row) (rs : Rows) → find_row key rs ≡ Some old → IsSome (find_row key rs)
@@ -34,9 +34,9 @@ row_found key old rs found = ap (λ (o : Option Row). unwrap_or o first_row) fou
 pub set_itself : (key : Key) (old : Row) (rs : Rows) → Rising rs → find_row key rs ≡ Some old → set_value (is_at (key_cmp key)) rs old ≡ rs
 set_itself key old rs rising found = set_is_put key old rs rising (found_is_there key old rs found) ∙ put_there key old rs rising found
 
--- where a row that a step made is written, it stands there
-pub set_made : (key : Key) (old row : Row) (rs : Rows) → Rising rs → find_row key rs ≡ Some old → IsMade rs key row → set_value (is_at (key_cmp key)) rs row ≡ with_row key row rs
-set_made key old row rs rising found made = set_is_put key row rs rising (found_is_there key old rs found) ∙ by_test (is_same_row (row_at key rs) row) refl ∙ sym (with_made key row rs rising made)
+-- a row that a step made of one that stands there, where it is put
+put_is_with : (key : Key) (old row : Row) (rs : Rows) → Rising rs → find_row key rs ≡ Some old → IsMade rs key row → put_row key row rs ≡ with_row key row rs
+put_is_with key old row rs rising found made = by_test (is_same_row (row_at key rs) row) refl ∙ sym (with_made key row rs rising made)
   where
     by_test : (b : Bool) → is_same_row (row_at key rs) row ≡ b → put_row key row rs ≡ cond b rs (put_row key row rs)
     by_test true e = put_there key row rs rising (found ∙ ap Some (sym (made.same e ∙ row_found key old rs found)))
@@ -46,14 +46,25 @@ set_made key old row rs rising found made = set_is_put key row rs rising (found_
 pub made_same : (key : Key) (old row : Row) (rs : Rows) → find_row key rs ≡ Some old → IsMade rs key row → is_same_row old row ≡ true → row ≡ old
 made_same key old row rs found made e = made.same (ap (λ (r : Row). is_same_row r row) (row_found key old rs found) ∙ e) ∙ row_found key old rs found
 
--- an index has the open rows again where it has the key that the step opened
-pub has_stepped : (keys new : List Key) (rows after : Rows) (key : Key) (old row : Row) → after ≡ with_row key row rows → find_row key rows ≡ Some old → IsGrown keys new →
-    (is_valid old.state ≡ true → is_valid row.state ≡ false → is_listed key new ≡ true) → HasOpen keys rows → HasOpen new after
-has_stepped keys new rows after key old row put found grown listed has = has_with keys new rows after key row put grown (by_state (is_valid old.state) refl) has
+-- an index has the open rows again where the step relisted the key
+pub has_stepped : (keys new : List Key) (rows after : Rows) (key : Key) (old row : Row) → after ≡ put_row key row rows → find_row key rows ≡ Some old →
+    IsRelisted key old row keys new → HasOpen keys rows → HasOpen new after
+has_stepped keys new rows after key old row put found lists has = subst (HasOpen new) (sym put) each
   where
+    of_some : (x y : Row) → Some x ≡ Some y → x ≡ y
+    of_some x y e = grind arith
+
     by_state : (b : Bool) → is_valid old.state ≡ b → is_valid row.state ≡ false → is_listed key new ≡ true
-    by_state true was opens = listed was opens
-    by_state false was opens = grown key (has key old found was)
+    by_state true was opens = lists.opened was opens
+    by_state false was opens = lists.still opens (has key old found was)
+
+    each : HasOpen new (put_row key row rows)
+    each k r there is_open = ⊎_elim
+        (λ (at : k ≡ key).
+        let same : row ≡ r = of_some row r (sym (find-put_same key row rows) ∙ ap (λ (q : Key). find_row q (put_row key row rows)) (sym at) ∙ there) in
+        subst (λ (q : Key). is_listed q new ≡ true) (sym at) (by_state (is_valid old.state) refl (ap (λ (x : Row). is_valid x.state) same ∙ is_open)))
+        (λ (ne : k ≢ key). lists.others k ne (has k r (sym (find-put_other k key row rows ne) ∙ there) is_open))
+        (cases_key k key)
 
 -- what is told of a step of the row is told of the node's step
 pub told_of_node : (node inside : NodeState) (view : View) (key : Key) (old : Row) (done : Done) (out : NodeOut) → inside ≡ node → inside.view ≡ Some view → IsNode inside →
@@ -79,7 +90,7 @@ on_err (Err e) P p = p
 
 -- ---- the fields of a node, behind a write at the key
 module _ (inside node : NodeState) (keys new : List Key) (whole : Bool) (key : Key) (old written : Row) (after : Rows) (same : inside ≡ node) (kept : IsIndexed inside keys whole)
-    (found : Some old ≡ find_row key inside.rows) (holds : after ≡ set_value (is_at (key_cmp key)) inside.rows written) (grown : IsGrown keys new) where
+    (found : Some old ≡ find_row key inside.rows) (holds : after ≡ set_value (is_at (key_cmp key)) inside.rows written) where
   module _ (is : written ≡ old) where
     rows_still : after ≡ inside.rows
     rows_still = holds ∙ ap (λ (r : Row). set_value (is_at (key_cmp key)) inside.rows r) is ∙ set_itself key old inside.rows kept.node.ordered (sym found)
@@ -87,23 +98,25 @@ module _ (inside node : NodeState) (keys new : List Key) (whole : Bool) (key : K
     pub node_still : record inside { rows = after } ≡ node
     node_still = ap (λ (l : Rows). record inside { rows = l }) rows_still ∙ same
 
-    pub indexed_still : IsIndexed (record inside { rows = after }) new whole
-    indexed_still = record {
+    pub indexed_still : IsGrown keys new → IsIndexed (record inside { rows = after }) new whole
+    indexed_still grown = record {
       node = subst (λ (l : Rows). IsNode (record inside { rows = l })) (sym rows_still) kept.node;
       has = λ w. has_grown keys new after grown (subst (HasOpen keys) (sym rows_still) (kept.has w));
     }
 
   module _ (row : Row) (is : written ≡ row) (made : IsMade node.rows key row) where
+    rows_put : after ≡ put_row key row inside.rows
+    rows_put = holds ∙ ap (λ (r : Row). set_value (is_at (key_cmp key)) inside.rows r) is
+        ∙ set_is_put key row inside.rows kept.node.ordered (found_is_there key old inside.rows (sym found))
+
     rows_stepped : after ≡ with_row key row inside.rows
-    rows_stepped = holds ∙ ap (λ (r : Row). set_value (is_at (key_cmp key)) inside.rows r) is
-        ∙ set_made key old row inside.rows kept.node.ordered (sym found) (subst (λ (n : NodeState). IsMade n.rows key row) (sym same) made)
+    rows_stepped = rows_put ∙ put_is_with key old row inside.rows kept.node.ordered (sym found) (subst (λ (n : NodeState). IsMade n.rows key row) (sym same) made)
 
     pub node_stepped : record inside { rows = after } ≡ record node { rows = with_row key row node.rows }
     node_stepped = ap (λ (l : Rows). record inside { rows = l }) rows_stepped ∙ ap (λ (n : NodeState). record n { rows = with_row key row n.rows }) same
 
-    pub indexed_stepped : IsNode (record node { rows = with_row key row node.rows }) → (is_valid old.state ≡ true → is_valid row.state ≡ false → is_listed key new ≡ true) →
-        IsIndexed (record inside { rows = after }) new whole
-    indexed_stepped ok listed = record {
+    pub indexed_stepped : IsNode (record node { rows = with_row key row node.rows }) → IsRelisted key old row keys new → IsIndexed (record inside { rows = after }) new whole
+    indexed_stepped ok lists = record {
       node = kept_rows inside node key row after same ok rows_stepped;
-      has = λ w. has_stepped keys new inside.rows after key old row rows_stepped (sym found) grown listed (kept.has w);
+      has = λ w. has_stepped keys new inside.rows after key old row rows_put (sym found) lists (kept.has w);
     }

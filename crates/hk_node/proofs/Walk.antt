@@ -7,7 +7,9 @@ use Rattle.std.specs.declared.cmp.Ordering.TheVariants.{Less, Equal, Greater}
 use Rattle.std.specs.List.{AllByRecursion, flat_map, filter, find}
 use Rattle.std.specs.List.Sorted.{IsStrictlySortedBy}
 use Rattle.std.specs.Map.{keys_of}
+use Rattle.std.specs.BTreeMap.{is_at}
 use Rattle.std.specs.BTreeSet.{insert_key}
+use Rattle.std.specs.Set.{remove_key}
 use Rattle.std.proofs.lemmas.Bool.{false≢true}
 use Rattle.std.proofs.lemmas.Option.{none-some}
 use Rattle.std.proofs.lemmas.List.Concat.{flat_map-cons}
@@ -220,6 +222,20 @@ insert_grows key (k ∷ keys) q e = by_order (key_cmp key k) e (insert_grows key
     by_order Less e more = or_later (same_key q key) (is_listed q (k ∷ keys)) e
     by_order Equal e more = e
     by_order Greater e more = by_test (same_key q k) e more
+
+-- where a key is dropped the others stay
+pub remove_keeps : (key : Key) (keys : List Key) (other : Key) → other ≢ key → is_listed other keys ≡ true → is_listed other (remove_key (is_at (key_cmp key)) keys) ≡ true
+remove_keeps key [] other ne e = e
+remove_keeps key (k ∷ keys) other ne e = by_test (same_key key k) refl (remove_keeps key keys other ne)
+  where
+    or_more : (a b c : Bool) → (a || b) ≡ true → (b ≡ true → c ≡ true) → (a || c) ≡ true
+    or_more true b c at more = refl
+    or_more false b c at more = more at
+
+    by_test : (b : Bool) → same_key key k ≡ b → (is_listed other keys ≡ true → is_listed other (remove_key (is_at (key_cmp key)) keys) ≡ true) →
+        is_listed other (cond b keys (k ∷ remove_key (is_at (key_cmp key)) keys)) ≡ true
+    by_test true at more = ap (λ (c : Bool). c || is_listed other keys) (sym (same_not other k (λ s. ne (s ∙ sym (same_true key k at))))) ∙ e
+    by_test false at more = or_more (same_key other k) (is_listed other keys) (is_listed other (remove_key (is_at (key_cmp key)) keys)) e more
 
 -- keys of rows that are not open may be dropped
 filter_keeps : (p : Key → Bool) (key : Key) (keys : List Key) → p key ≡ true → is_listed key keys ≡ true → is_listed key (filter p keys) ≡ true

@@ -1,5 +1,5 @@
 -- The index by which a node finds its open rows.
-use Rattle.std.specs.Prelude.{◌≡◌, ℕ, List, [], Bool, true, false, Option, Some, None, not}
+use Rattle.std.specs.Prelude.{◌≡◌, ◌≢◌, ℕ, List, [], Bool, true, false, Option, Some, None, not}
 use Rattle.std.specs.List.{list_any}
 use Rattle.std.specs.BTreeMap.{is_at}
 use Rattle.hk_copy.specs.Batches.{key_cmp}
@@ -20,6 +20,13 @@ HasOpen keys rows = (key : List ℕ) (row : Row) → find_row key rows ≡ Some 
 -- each of the old keys is among the new ones
 abbrev pub IsGrown : List (List ℕ) → List (List ℕ) → Type 0
 IsGrown old new = (key : List ℕ) → is_listed key old ≡ true → is_listed key new ≡ true
+
+-- What a step that puts a row in the place of an old one makes of the listed keys: the key of the new row is listed where that is
+-- open, if it was listed where the old one was, and the other keys stay.
+pub record IsRelisted (key : List ℕ) (old row : Row) (was now : List (List ℕ)) : Type 0 where
+  pub others : (other : List ℕ) → other ≢ key → is_listed other was ≡ true → is_listed other now ≡ true
+  pub opened : is_valid old.state ≡ true → is_valid row.state ≡ false → is_listed key now ≡ true
+  pub still : is_valid row.state ≡ false → is_listed key was ≡ true → is_listed key now ≡ true
 
 -- whether the row of the key is open
 abbrev pub is_open_at : Rows → List ℕ → Bool

@@ -1,6 +1,6 @@
 //! The index of the open rows of a node: the keys of those that are not Valid, and maybe of some that became Valid since.
 
-ghost use Rattle.std.specs.Prelude.{◌≡◌, ◌∷◌, [], true, false, Some, OnOk, OnErr};
+ghost use Rattle.std.specs.Prelude.{◌≡◌, ◌≢◌, ◌∷◌, [], ℕ, List, true, false, Some, OnOk, OnErr};
 ghost use Rattle.std.specs.Option.{option_copied};
 ghost use Rattle.std.specs.List.{filter, find};
 ghost use Rattle.std.specs.List.Sorted.{IsStrictlySortedBy};
@@ -68,6 +68,16 @@ pub(crate) fn list_opened(
         return list_row(keys, key, row);
     }
     Ok(())
+}
+
+/// Drops the key of a row that a step closed, which was in the one state and is in the other.
+pub(crate) fn drop_closed_row(keys: &mut BTreeSet<Key>, key: &Key, old: State, new: State)
+    ensures others { (other : List ℕ) → other ≢ key.now → is_listed other keys.old.keys ≡ true → is_listed other keys.new.keys ≡ true }
+    ensures open { is_valid new ≡ false → keys.new.keys ≡ keys.old.keys }
+{
+    if is_valid(new) && !is_valid(old) {
+        keys.remove(key);
+    }
 }
 
 /// Lists the keys of all these rows that are open.

@@ -1,10 +1,9 @@
 //! The end of a step.
 
-ghost use Rattle.std.specs.Prelude.{◌≡◌, ◌≢◌, [], true, false, None, IfOk, OnOk, OnErr};
+ghost use Rattle.std.specs.Prelude.{◌≡◌, ◌≢◌, [], true, None, IfOk, OnOk, OnErr};
 ghost use Rattle.hk_key.specs.Same.{is_same_row};
-ghost use Rattle.hk_node.specs.Copies.{is_valid};
 ghost use Rattle.hk_node.specs.Rows.{find_row};
-ghost use Rattle.hk_node.specs.Index.{is_listed, IsGrown};
+ghost use Rattle.hk_node.specs.Index.{IsGrown, IsRelisted};
 ghost use Rattle.hk_node.specs.Sound.{IsNode};
 ghost use Rattle.hk_node.specs.Stepped.{idle, row_step};
 ghost use Rattle.hk_node.specs.Calls.{answers};
@@ -14,7 +13,7 @@ ghost use Rattle.hk_node.specs.Outs.{IsOutOf, IsOutOfRow};
 use super::{Node, epoch_in};
 use crate::give::{change_row, put_first};
 use crate::letters::{post_sent, replies};
-use crate::open::{list_opened, list_row};
+use crate::open::{drop_closed_row, list_opened, list_row};
 use crate::out::NodeOut;
 use crate::report::{PriorRows, Report, Undo};
 use hk_base::{Answer, CallNo, Key, Letters, Memory, NodeId, Replies, Reply, View};
@@ -36,15 +35,18 @@ pub(super) fn put_stepped(
     requires same { is_same_row place.old row ≡ true → row ≡ place.old }
     ensures row { OnOk result (place.new ≡ row) }
     ensures told { IfOk result (IsOutOfRow id view.now key.now place.old (record { row = row; out = out })) }
-    ensures listed { OnOk result (is_valid place.old.state ≡ true → is_valid row.state ≡ false → is_listed key.now index.new.keys ≡ true) }
-    ensures grown { IsGrown index.old.keys index.new.keys }
+    ensures listed { OnOk result (IsRelisted key.now place.old row index.old.keys index.new.keys) }
     ensures err { OnErr result (place.new ≡ place.old) }
+    ensures grown { OnErr result (IsGrown index.old.keys index.new.keys) }
 {
     let mut letters = Letters::new(alloc);
     post_sent(&mut letters, id, view, key, &row, &out.send)?;
     let replies = replies(alloc, key, out.reply)?;
-    list_opened(index, key, place.state, &row)?;
+    let old = place.state;
+    let new = row.state;
+    list_opened(index, key, old, &row)?;
     let rows = change_row(place, alloc, key, row)?;
+    drop_closed_row(index, key, old, new);
     Ok(NodeOut {
         letters,
         replies,

@@ -17,19 +17,19 @@ pub decide-requires : goal.decide-requires
 decide-requires c = found_within _ c.args.self.now c.args.key.now c.in-Some-get_mut.place.now c.self.invariant.node c.self.view_is (found_now _ c.args.self.now c.args.key.now _ c.self.view_is c.in-Some-get_mut.ensures.value)
 
 pub invariant_of-self-in_err-answer : goal.invariant_of-self-in_err-answer
-invariant_of-self-in_err-answer c = indexed_still _ c.args.self.now c.self.inside.index.keys _ c.self.inside.whole c.args.key.now c.in-Some-get_mut.place.now c.in-Some-get_mut.place.now _ c.self.view_is c.self.invariant c.in-Some-get_mut.ensures.value (c.get_mut.follows.holds c.in-Some-get_mut.place.now).0 (λ k h. h) refl
+invariant_of-self-in_err-answer c = indexed_still _ c.args.self.now c.self.inside.index.keys c.self.inside.index.keys c.self.inside.whole c.args.key.now c.in-Some-get_mut.place.now c.in-Some-get_mut.place.now _ c.self.view_is c.self.invariant c.in-Some-get_mut.ensures.value (c.get_mut.follows.holds c.in-Some-get_mut.place.now).0 refl (λ k h. h)
 
 pub returns-in_err-answer-clause-err : goal.returns-in_err-answer-clause-err
-returns-in_err-answer-clause-err c = on_err c.from_residual.result _ (node_still _ c.args.self.now c.self.inside.index.keys _ c.self.inside.whole c.args.key.now c.in-Some-get_mut.place.now c.in-Some-get_mut.place.now _ c.self.view_is c.self.invariant c.in-Some-get_mut.ensures.value (c.get_mut.follows.holds c.in-Some-get_mut.place.now).0 (λ k h. h) refl)
+returns-in_err-answer-clause-err c = on_err c.from_residual.result _ (node_still _ c.args.self.now c.self.inside.index.keys c.self.inside.index.keys c.self.inside.whole c.args.key.now c.in-Some-get_mut.place.now c.in-Some-get_mut.place.now _ c.self.view_is c.self.invariant c.in-Some-get_mut.ensures.value (c.get_mut.follows.holds c.in-Some-get_mut.place.now).0 refl)
 
 pub invariant_of-self-in-Now : goal.invariant_of-self-in-Now
-invariant_of-self-in-Now c = indexed_still _ c.args.self.now c.self.inside.index.keys _ c.self.inside.whole c.args.key.now c.in-Some-get_mut.place.now c.in-Some-get_mut.place.now _ c.self.view_is c.self.invariant c.in-Some-get_mut.ensures.value (c.get_mut.follows.holds c.in-Some-get_mut.place.now).0 (λ k h. h) refl
+invariant_of-self-in-Now c = indexed_still _ c.args.self.now c.self.inside.index.keys c.self.inside.index.keys c.self.inside.whole c.args.key.now c.in-Some-get_mut.place.now c.in-Some-get_mut.place.now _ c.self.view_is c.self.invariant c.in-Some-get_mut.ensures.value (c.get_mut.follows.holds c.in-Some-get_mut.place.now).0 refl (λ k h. h)
 
 pub invariant_of-self-in_err-out-in-Begin : goal.invariant_of-self-in_err-out-in-Begin
-invariant_of-self-in_err-out-in-Begin c = indexed_still _ c.args.self.now c.self.inside.index.keys _ c.self.inside.whole c.args.key.now c.in-Some-get_mut.place.now c.in-Some-get_mut.place.now _ c.self.view_is c.self.invariant c.in-Some-get_mut.ensures.value (c.get_mut.follows.holds c.in-Some-get_mut.place.now).0 (λ k h. h) refl
+invariant_of-self-in_err-out-in-Begin c = indexed_still _ c.args.self.now c.self.inside.index.keys c.self.inside.index.keys c.self.inside.whole c.args.key.now c.in-Some-get_mut.place.now c.in-Some-get_mut.place.now _ c.self.view_is c.self.invariant c.in-Some-get_mut.ensures.value (c.get_mut.follows.holds c.in-Some-get_mut.place.now).0 refl (λ k h. h)
 
 pub returns-in_err-out-in-Begin-clause-err : goal.returns-in_err-out-in-Begin-clause-err
-returns-in_err-out-in-Begin-clause-err c = on_err c.from_residual-in_err-out-in-Begin.result _ (node_still _ c.args.self.now c.self.inside.index.keys _ c.self.inside.whole c.args.key.now c.in-Some-get_mut.place.now c.in-Some-get_mut.place.now _ c.self.view_is c.self.invariant c.in-Some-get_mut.ensures.value (c.get_mut.follows.holds c.in-Some-get_mut.place.now).0 (λ k h. h) refl)
+returns-in_err-out-in-Begin-clause-err c = on_err c.from_residual-in_err-out-in-Begin.result _ (node_still _ c.args.self.now c.self.inside.index.keys c.self.inside.index.keys c.self.inside.whole c.args.key.now c.in-Some-get_mut.place.now c.in-Some-get_mut.place.now _ c.self.view_is c.self.invariant c.in-Some-get_mut.ensures.value (c.get_mut.follows.holds c.in-Some-get_mut.place.now).0 refl)
 
 pub put_stepped-requires : goal.put_stepped-requires
 put_stepped-requires c = record {
@@ -38,16 +38,16 @@ put_stepped-requires c = record {
 }
 
 pub invariant_of-self-in_err-told-in-Begin : goal.invariant_of-self-in_err-told-in-Begin
-invariant_of-self-in_err-told-in-Begin c = indexed_still _ c.args.self.now c.self.inside.index.keys c.put_stepped.new.index.keys c.self.inside.whole c.args.key.now c.in-Some-get_mut.place.now c.put_stepped.new.place _ c.self.view_is c.self.invariant c.in-Some-get_mut.ensures.value (c.get_mut.follows.holds c.put_stepped.new.place).0 c.put_stepped.ensures.grown c.in_err-told-in-Begin.ensures.err
+invariant_of-self-in_err-told-in-Begin c = indexed_still _ c.args.self.now c.self.inside.index.keys c.put_stepped.new.index.keys c.self.inside.whole c.args.key.now c.in-Some-get_mut.place.now c.put_stepped.new.place _ c.self.view_is c.self.invariant c.in-Some-get_mut.ensures.value (c.get_mut.follows.holds c.put_stepped.new.place).0 c.in_err-told-in-Begin.ensures.err c.in_err-told-in-Begin.ensures.grown
 
 pub returns-in_err-told-in-Begin-clause-err : goal.returns-in_err-told-in-Begin-clause-err
 returns-in_err-told-in-Begin-clause-err c = on_err c.from_residual-in_err-told-in-Begin.result _
-    (node_still _ c.args.self.now c.self.inside.index.keys c.put_stepped.new.index.keys c.self.inside.whole c.args.key.now c.in-Some-get_mut.place.now c.put_stepped.new.place _ c.self.view_is c.self.invariant c.in-Some-get_mut.ensures.value (c.get_mut.follows.holds c.put_stepped.new.place).0 c.put_stepped.ensures.grown c.in_err-told-in-Begin.ensures.err)
+    (node_still _ c.args.self.now c.self.inside.index.keys c.put_stepped.new.index.keys c.self.inside.whole c.args.key.now c.in-Some-get_mut.place.now c.put_stepped.new.place _ c.self.view_is c.self.invariant c.in-Some-get_mut.ensures.value (c.get_mut.follows.holds c.put_stepped.new.place).0 c.in_err-told-in-Begin.ensures.err)
 
 pub invariant_of-self-in-Begin : goal.invariant_of-self-in-Begin
 invariant_of-self-in-Begin c =
     let over : nat_lt (lease_end c.args.self.now) (c.args.self.now.clock + c.args.self.now.skew) ≡ false = search rules in
-    indexed_stepped _ c.args.self.now c.self.inside.index.keys c.put_stepped.new.index.keys c.self.inside.whole c.args.key.now c.in-Some-get_mut.place.now c.put_stepped.new.place _ c.self.view_is c.self.invariant c.in-Some-get_mut.ensures.value (c.get_mut.follows.holds c.put_stepped.new.place).0 c.put_stepped.ensures.grown
+    indexed_stepped _ c.args.self.now c.self.inside.index.keys c.put_stepped.new.index.keys c.self.inside.whole c.args.key.now c.in-Some-get_mut.place.now c.put_stepped.new.place _ c.self.view_is c.self.invariant c.in-Some-get_mut.ensures.value (c.get_mut.follows.holds c.put_stepped.new.place).0
     c.begin.new.self c.in_ok-told-in-Begin.ensures.row (begin_put c.self.inside.id c.args.self.now c.in-Some.view c.args.key.now (record { call = c.args.call; answer = c.in-Begin.answer }) c.in-Begin.stamp c.in-Begin.kind c.in-Begin.content c.begin.new.self
     (subst (λ (r : Row). r.stamp.version < c.in-Begin.stamp.version) (sym (row_of_found c.args.key.now _ c.args.self.now.rows (found_now _ c.args.self.now c.args.key.now _ c.self.view_is c.in-Some-get_mut.ensures.value))) (subst (IsFit c.in-Some-get_mut.place.now) c.in-Begin.is c.in_ok-answer.ensures.fit).1) c.in_ok-out-in-Begin.ensures.row)
     (begin_kept _ c.args.self.now c.in-Some.view c.args.key.now (record { call = c.args.call; answer = c.in-Begin.answer }) c.in-Begin.stamp c.in-Begin.kind c.in-Begin.content c.begin.new.self c.self.invariant.node c.self.view_is (search rules) (leased_is_ready c.args.self.now (subst IsNode c.self.view_is c.self.invariant.node) over)
@@ -56,7 +56,7 @@ invariant_of-self-in-Begin c =
 pub returns-in-Now-clause-node : goal.returns-in-Now-clause-node
 returns-in-Now-clause-node c =
     let over : nat_lt (lease_end c.args.self.now) (c.args.self.now.clock + c.args.self.now.skew) ≡ false = search rules in
-    subst (λ (n : NodeState). OnOk c.answers-in-Now.result (n ≡ (called c.args.self.now c.args.call c.args.key.now c.args.op.now).node)) (sym (node_still _ c.args.self.now c.self.inside.index.keys _ c.self.inside.whole c.args.key.now c.in-Some-get_mut.place.now c.in-Some-get_mut.place.now _ c.self.view_is c.self.invariant c.in-Some-get_mut.ensures.value (c.get_mut.follows.holds c.in-Some-get_mut.place.now).0 (λ k h. h) refl))
+    subst (λ (n : NodeState). OnOk c.answers-in-Now.result (n ≡ (called c.args.self.now c.args.call c.args.key.now c.args.op.now).node)) (sym (node_still _ c.args.self.now c.self.inside.index.keys c.self.inside.index.keys c.self.inside.whole c.args.key.now c.in-Some-get_mut.place.now c.in-Some-get_mut.place.now _ c.self.view_is c.self.invariant c.in-Some-get_mut.ensures.value (c.get_mut.follows.holds c.in-Some-get_mut.place.now).0 refl))
     (answered_now c.answers-in-Now.result c.args.self.now c.args.call c.args.key.now c.args.op.now c.in-Now.answer over
     (sym (ap (λ d. decided d c.args.self.now c.args.call c.args.key.now) c.in-Now.is) ∙ decides_found (Ok c.in_ok-answer.field-0) _ c.args.self.now c.args.key.now c.args.op.now c.in-Some-get_mut.place.now c.self.view_is (found_now _ c.args.self.now c.args.key.now _ c.self.view_is c.in-Some-get_mut.ensures.value) c.in_ok-answer.ensures.step c.args.call))
 
@@ -65,15 +65,15 @@ returns-in-Now-clause-out c =
     let over : nat_lt (lease_end c.args.self.now) (c.args.self.now.clock + c.args.self.now.skew) ≡ false = search rules in
     answered_out c.answers-in-Now.result c.args.self.now c.args.call c.args.key.now c.args.op.now c.in-Now.answer over
     (sym (ap (λ d. decided d c.args.self.now c.args.call c.args.key.now) c.in-Now.is) ∙ decides_found (Ok c.in_ok-answer.field-0) _ c.args.self.now c.args.key.now c.args.op.now c.in-Some-get_mut.place.now c.self.view_is (found_now _ c.args.self.now c.args.key.now _ c.self.view_is c.in-Some-get_mut.ensures.value) c.in_ok-answer.ensures.step c.args.call)
-    (subst (λ (n : NodeState). IfOk c.answers-in-Now.result (λ out. IsOutOf out n (answers n c.args.key.now c.args.call c.in-Now.answer))) (node_still _ c.args.self.now c.self.inside.index.keys _ c.self.inside.whole c.args.key.now c.in-Some-get_mut.place.now c.in-Some-get_mut.place.now _ c.self.view_is c.self.invariant c.in-Some-get_mut.ensures.value (c.get_mut.follows.holds c.in-Some-get_mut.place.now).0 (λ k h. h) refl) c.answers-in-Now.ensures)
+    (subst (λ (n : NodeState). IfOk c.answers-in-Now.result (λ out. IsOutOf out n (answers n c.args.key.now c.args.call c.in-Now.answer))) (node_still _ c.args.self.now c.self.inside.index.keys c.self.inside.index.keys c.self.inside.whole c.args.key.now c.in-Some-get_mut.place.now c.in-Some-get_mut.place.now _ c.self.view_is c.self.invariant c.in-Some-get_mut.ensures.value (c.get_mut.follows.holds c.in-Some-get_mut.place.now).0 refl) c.answers-in-Now.ensures)
 
 pub returns-in-Now-clause-err : goal.returns-in-Now-clause-err
-returns-in-Now-clause-err c = on_err c.answers-in-Now.result _ (node_still _ c.args.self.now c.self.inside.index.keys _ c.self.inside.whole c.args.key.now c.in-Some-get_mut.place.now c.in-Some-get_mut.place.now _ c.self.view_is c.self.invariant c.in-Some-get_mut.ensures.value (c.get_mut.follows.holds c.in-Some-get_mut.place.now).0 (λ k h. h) refl)
+returns-in-Now-clause-err c = on_err c.answers-in-Now.result _ (node_still _ c.args.self.now c.self.inside.index.keys c.self.inside.index.keys c.self.inside.whole c.args.key.now c.in-Some-get_mut.place.now c.in-Some-get_mut.place.now _ c.self.view_is c.self.invariant c.in-Some-get_mut.ensures.value (c.get_mut.follows.holds c.in-Some-get_mut.place.now).0 refl)
 
 pub returns-in_ok-told-in-Begin-clause-node : goal.returns-in_ok-told-in-Begin-clause-node
 returns-in_ok-told-in-Begin-clause-node c =
     let over : nat_lt (lease_end c.args.self.now) (c.args.self.now.clock + c.args.self.now.skew) ≡ false = search rules in
-    node_stepped _ c.args.self.now c.self.inside.index.keys c.put_stepped.new.index.keys c.self.inside.whole c.args.key.now c.in-Some-get_mut.place.now c.put_stepped.new.place _ c.self.view_is c.self.invariant c.in-Some-get_mut.ensures.value (c.get_mut.follows.holds c.put_stepped.new.place).0 c.put_stepped.ensures.grown
+    node_stepped _ c.args.self.now c.self.inside.index.keys c.put_stepped.new.index.keys c.self.inside.whole c.args.key.now c.in-Some-get_mut.place.now c.put_stepped.new.place _ c.self.view_is c.self.invariant c.in-Some-get_mut.ensures.value (c.get_mut.follows.holds c.put_stepped.new.place).0
     c.begin.new.self c.in_ok-told-in-Begin.ensures.row (begin_put c.self.inside.id c.args.self.now c.in-Some.view c.args.key.now (record { call = c.args.call; answer = c.in-Begin.answer }) c.in-Begin.stamp c.in-Begin.kind c.in-Begin.content c.begin.new.self
     (subst (λ (r : Row). r.stamp.version < c.in-Begin.stamp.version) (sym (row_of_found c.args.key.now _ c.args.self.now.rows (found_now _ c.args.self.now c.args.key.now _ c.self.view_is c.in-Some-get_mut.ensures.value))) (subst (IsFit c.in-Some-get_mut.place.now) c.in-Begin.is c.in_ok-answer.ensures.fit).1) c.in_ok-out-in-Begin.ensures.row)
     ∙ ap (λ (t : Stepped). t.node) (begin_made _ c.args.self.now c.in-Some.view c.args.key.now (record { call = c.args.call; answer = c.in-Begin.answer }) c.in-Begin.stamp c.in-Begin.kind c.in-Begin.content c.begin.new.self c.in_ok-out-in-Begin.out c.self.view_is (search rules) c.in_ok-out-in-Begin.ensures.row c.in_ok-out-in-Begin.ensures.out

@@ -12,10 +12,10 @@ use Rattle.hk_node.proofs.Places.{made_same, told_of_node, found_copy, on_err, n
 use Rattle.hk_node.proofs.node.Node.take_inv.Goals as goal
 
 pub invariant_of-self-in_err-row : goal.invariant_of-self-in_err-row
-invariant_of-self-in_err-row c = indexed_still _ c.args.self.now c.self.inside.index.keys _ c.self.inside.whole c.args.key.now c.in-Some-get_mut.place.now c.in-Some-get_mut.place.now _ c.self.view_is c.self.invariant c.in-Some-get_mut.ensures.value (c.get_mut.follows.holds c.in-Some-get_mut.place.now).0 (λ k h. h) refl
+invariant_of-self-in_err-row c = indexed_still _ c.args.self.now c.self.inside.index.keys c.self.inside.index.keys c.self.inside.whole c.args.key.now c.in-Some-get_mut.place.now c.in-Some-get_mut.place.now _ c.self.view_is c.self.invariant c.in-Some-get_mut.ensures.value (c.get_mut.follows.holds c.in-Some-get_mut.place.now).0 refl (λ k h. h)
 
 pub returns-in_err-row-clause-err : goal.returns-in_err-row-clause-err
-returns-in_err-row-clause-err c = on_err c.from_residual-in_err-row.result _ (node_still _ c.args.self.now c.self.inside.index.keys _ c.self.inside.whole c.args.key.now c.in-Some-get_mut.place.now c.in-Some-get_mut.place.now _ c.self.view_is c.self.invariant c.in-Some-get_mut.ensures.value (c.get_mut.follows.holds c.in-Some-get_mut.place.now).0 (λ k h. h) refl)
+returns-in_err-row-clause-err c = on_err c.from_residual-in_err-row.result _ (node_still _ c.args.self.now c.self.inside.index.keys c.self.inside.index.keys c.self.inside.whole c.args.key.now c.in-Some-get_mut.place.now c.in-Some-get_mut.place.now _ c.self.view_is c.self.invariant c.in-Some-get_mut.ensures.value (c.get_mut.follows.holds c.in-Some-get_mut.place.now).0 refl)
 
 pub on_inv-out-requires-clause-row : goal.on_inv-out-requires-clause-row
 on_inv-out-requires-clause-row c = inv_within _ c.args.self.now c.self.view_is c.self.invariant.node c.args.key.now c.in_ok-row.row
@@ -30,13 +30,13 @@ put_stepped-requires c = record {
 }
 
 pub invariant_of-self-in_err-told : goal.invariant_of-self-in_err-told
-invariant_of-self-in_err-told c = indexed_still _ c.args.self.now c.self.inside.index.keys c.put_stepped.new.index.keys c.self.inside.whole c.args.key.now c.in-Some-get_mut.place.now c.put_stepped.new.place _ c.self.view_is c.self.invariant c.in-Some-get_mut.ensures.value (c.get_mut.follows.holds c.put_stepped.new.place).0 c.put_stepped.ensures.grown c.in_err-told.ensures.err
+invariant_of-self-in_err-told c = indexed_still _ c.args.self.now c.self.inside.index.keys c.put_stepped.new.index.keys c.self.inside.whole c.args.key.now c.in-Some-get_mut.place.now c.put_stepped.new.place _ c.self.view_is c.self.invariant c.in-Some-get_mut.ensures.value (c.get_mut.follows.holds c.put_stepped.new.place).0 c.in_err-told.ensures.err c.in_err-told.ensures.grown
 
 pub returns-in_err-told-clause-err : goal.returns-in_err-told-clause-err
-returns-in_err-told-clause-err c = on_err c.from_residual-in_err-told.result _ (node_still _ c.args.self.now c.self.inside.index.keys c.put_stepped.new.index.keys c.self.inside.whole c.args.key.now c.in-Some-get_mut.place.now c.put_stepped.new.place _ c.self.view_is c.self.invariant c.in-Some-get_mut.ensures.value (c.get_mut.follows.holds c.put_stepped.new.place).0 c.put_stepped.ensures.grown c.in_err-told.ensures.err)
+returns-in_err-told-clause-err c = on_err c.from_residual-in_err-told.result _ (node_still _ c.args.self.now c.self.inside.index.keys c.put_stepped.new.index.keys c.self.inside.whole c.args.key.now c.in-Some-get_mut.place.now c.put_stepped.new.place _ c.self.view_is c.self.invariant c.in-Some-get_mut.ensures.value (c.get_mut.follows.holds c.put_stepped.new.place).0 c.in_err-told.ensures.err)
 
 pub invariant_of-self-2 : goal.invariant_of-self-2
-invariant_of-self-2 c = indexed_stepped _ c.args.self.now c.self.inside.index.keys c.put_stepped.new.index.keys c.self.inside.whole c.args.key.now c.in-Some-get_mut.place.now c.put_stepped.new.place _ c.self.view_is c.self.invariant c.in-Some-get_mut.ensures.value (c.get_mut.follows.holds c.put_stepped.new.place).0 c.put_stepped.ensures.grown
+invariant_of-self-2 c = indexed_stepped _ c.args.self.now c.self.inside.index.keys c.put_stepped.new.index.keys c.self.inside.whole c.args.key.now c.in-Some-get_mut.place.now c.put_stepped.new.place _ c.self.view_is c.self.invariant c.in-Some-get_mut.ensures.value (c.get_mut.follows.holds c.put_stepped.new.place).0
     c.on_inv-out.new.self c.in_ok-told.ensures.row (inv_put _ c.args.self.now c.self.view_is c.self.invariant.node c.args.key.now c.in_ok-row.row
     (sym (row_of_found c.args.key.now _ c.args.self.now.rows (found_copy _ c.args.self.now c.args.key.now _ _ c.self.view_is c.in-Some-get_mut.ensures.value c.in_ok-row.ensures)))
     c.args.from c.args.stamp c.args.kind c.args.content.now c.requires.within c.requires.leaves c.requires.other c.on_inv-out.new.self (c.on_inv-out.ensures.row ∙ ap (λ (o : Option Content). (on_inv c.in_ok-row.row c.args.from c.args.stamp c.args.kind o).row) c.in_ok-content.ensures)) (inv_kept _ c.args.self.now c.self.view_is c.self.invariant.node c.args.key.now c.in_ok-row.row
@@ -44,7 +44,7 @@ invariant_of-self-2 c = indexed_stepped _ c.args.self.now c.self.inside.index.ke
     c.args.from c.args.stamp c.args.kind c.args.content.now c.requires.within c.requires.leaves c.requires.other c.on_inv-out.new.self (c.on_inv-out.ensures.row ∙ ap (λ (o : Option Content). (on_inv c.in_ok-row.row c.args.from c.args.stamp c.args.kind o).row) c.in_ok-content.ensures)) c.in_ok-told.ensures.listed
 
 pub returns-clause-node : goal.returns-clause-node
-returns-clause-node c = node_stepped _ c.args.self.now c.self.inside.index.keys c.put_stepped.new.index.keys c.self.inside.whole c.args.key.now c.in-Some-get_mut.place.now c.put_stepped.new.place _ c.self.view_is c.self.invariant c.in-Some-get_mut.ensures.value (c.get_mut.follows.holds c.put_stepped.new.place).0 c.put_stepped.ensures.grown
+returns-clause-node c = node_stepped _ c.args.self.now c.self.inside.index.keys c.put_stepped.new.index.keys c.self.inside.whole c.args.key.now c.in-Some-get_mut.place.now c.put_stepped.new.place _ c.self.view_is c.self.invariant c.in-Some-get_mut.ensures.value (c.get_mut.follows.holds c.put_stepped.new.place).0
     c.on_inv-out.new.self c.in_ok-told.ensures.row (inv_put _ c.args.self.now c.self.view_is c.self.invariant.node c.args.key.now c.in_ok-row.row
     (sym (row_of_found c.args.key.now _ c.args.self.now.rows (found_copy _ c.args.self.now c.args.key.now _ _ c.self.view_is c.in-Some-get_mut.ensures.value c.in_ok-row.ensures)))
     c.args.from c.args.stamp c.args.kind c.args.content.now c.requires.within c.requires.leaves c.requires.other c.on_inv-out.new.self (c.on_inv-out.ensures.row ∙ ap (λ (o : Option Content). (on_inv c.in_ok-row.row c.args.from c.args.stamp c.args.kind o).row) c.in_ok-content.ensures)) ∙ ap (λ (t : Stepped). t.node) (inv_made _ c.args.self.now c.self.view_is c.self.invariant.node c.args.key.now c.in_ok-row.row
