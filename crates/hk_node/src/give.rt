@@ -11,26 +11,25 @@ ghost use Rattle.hk_node.specs.Report.{IsMade, row_rolled_back, rows_rolled_back
 
 use crate::report::{PriorRow, PriorRows};
 use hk_base::{Key, Memory};
-use hk_key::Row;
+use hk_key::{BoxedRow, Row};
 use std::alloc::Global;
 use std::collections::BTreeMap;
-use std::mem;
 
 /// Puts a row in place of the one that is there, which is given.
-pub(crate) fn swap_row(rows: &mut BTreeMap<Key, Row>, key: &Key, row: Row) -> Row
+pub(crate) fn swap_row(rows: &mut BTreeMap<Key, BoxedRow>, key: &Key, row: Row) -> Row
     requires { IsSome (find_row key.now rows.old.entries) }
     ensures put { rows.new.entries ≡ put_row key.now row rows.old.entries }
     ensures prior { Some result ≡ find_row key.now rows.old.entries }
 {
     match rows.get_mut(key) {
-        Some(place) => mem::replace(place, row),
+        Some(place) => place.replace(row),
         None => unreachable!(),
     }
 }
 
 // Puts a row at a key that has none.
 fn add_row(
-    rows: &mut BTreeMap<Key, Row>,
+    rows: &mut BTreeMap<Key, BoxedRow>,
     alloc: Global,
     key: &Key,
     row: Row,
@@ -47,6 +46,7 @@ fn add_row(
         row: None,
     })?;
     let name = key.share()?;
+    let row = BoxedRow::new(alloc, row)?;
     rows.insert(name, row)?;
     Ok(prior)
 }
@@ -54,7 +54,7 @@ fn add_row(
 /// Puts the row that a step made of a key that has none, where it is not the first row still. What it took the place of is
 /// given.
 pub(crate) fn put_first(
-    rows: &mut BTreeMap<Key, Row>,
+    rows: &mut BTreeMap<Key, BoxedRow>,
     alloc: Global,
     key: &Key,
     row: Row,
@@ -75,7 +75,7 @@ pub(crate) fn put_first(
 /// Puts a row that a step made in place of the one that stands there, where that is not the same. What it took the place
 /// of is given.
 pub(crate) fn change_row(
-    place: &mut Row,
+    place: &mut BoxedRow,
     alloc: Global,
     key: &Key,
     row: Row,
@@ -85,12 +85,12 @@ pub(crate) fn change_row(
     ensures prior { IfOk result (λ prior. prior ≡ prior_of_row key.now place.old row) }
     ensures err { OnErr result (place.new ≡ place.old) }
 {
-    if place.is_same(&row) {
+    if place.get().is_same(&row) {
         return Ok(PriorRows::new(alloc));
     }
     let name = key.share()?;
     let mut prior = Vec::with_capacity(alloc, 1)?;
-    let row = mem::replace(place, row);
+    let row = place.replace(row);
     prior.push_reserved(PriorRow {
         key: name,
         row: Some(row),
@@ -99,7 +99,7 @@ pub(crate) fn change_row(
 }
 
 // Gives one row back.
-fn give_row_back(rows: &mut BTreeMap<Key, Row>, prior: PriorRow)
+fn give_row_back(rows: &mut BTreeMap<Key, BoxedRow>, prior: PriorRow)
     requires { IsSome (find_row prior.key rows.old.entries) }
     ensures { rows.new.entries ≡ row_rolled_back prior.key prior.row rows.old.entries }
 {
@@ -115,7 +115,7 @@ fn give_row_back(rows: &mut BTreeMap<Key, Row>, prior: PriorRow)
 }
 
 /// Gives prior rows back, from the last to the first.
-pub(crate) fn give_rows_back(rows: &mut BTreeMap<Key, Row>, prior: Vec<PriorRow>)
+pub(crate) fn give_rows_back(rows: &mut BTreeMap<Key, BoxedRow>, prior: Vec<PriorRow>)
     requires rising { IsStrictlySortedBy key_cmp (map (λ f. f.key) prior.items) }
     requires there { AllByRecursion (λ f. IsSome (find_row f.key rows.old.entries)) prior.items }
     ensures { rows.new.entries ≡ rows_rolled_back prior.items rows.old.entries }

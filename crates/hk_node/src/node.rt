@@ -26,7 +26,7 @@ use crate::heard::of_each;
 use crate::out::NodeOut;
 use crate::report::{Report, Undo};
 use hk_base::{CallNo, Key, Letter, Memory, NodeId, Op, Sequence, View};
-use hk_key::Row;
+use hk_key::{BoxedRow, Row};
 use std::alloc::Global;
 use std::collections::{BTreeMap, BTreeSet};
 use std::marker::Model;
@@ -46,7 +46,7 @@ pub struct Node {
     ends: Sequence<u64>,
     /// Of each manager, the greatest epoch of which it sent ACTIVATE.
     activated: Sequence<u64>,
-    rows: BTreeMap<Key, Row>,
+    rows: BTreeMap<Key, BoxedRow>,
     /// The keys of the rows that are not Valid, and maybe of some that became Valid since.
     index: BTreeSet<Key>,
     /// Whether each row that is not Valid is in `index`: in a node that was copied, or whose step was undone, it may not be.
@@ -182,7 +182,10 @@ impl Node {
     pub fn row(&self, key: &Key) -> Option<&Row>
         ensures { option_copied result ≡ find_row key.now self.now.rows }
     {
-        self.rows.get(key)
+        match self.rows.get(key) {
+            Some(row) => Some(row.get()),
+            None => None,
+        }
     }
 
     /// The epoch of the view that is installed, 0 where there is none.

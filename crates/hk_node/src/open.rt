@@ -11,7 +11,7 @@ ghost use Rattle.hk_node.specs.Open.{is_behind, next_open};
 ghost use Rattle.hk_node.specs.Index.{is_listed, is_open_at, HasOpen, IsGrown};
 
 use hk_base::{Key, Memory, State};
-use hk_key::Row;
+use hk_key::{BoxedRow, Row};
 use std::collections::{BTreeMap, BTreeSet};
 use std::ops::Bound;
 
@@ -23,11 +23,11 @@ pub(crate) fn is_valid(state: State) -> bool
 }
 
 // Whether the key has a row that is open.
-fn is_open_at(rows: &BTreeMap<Key, Row>, key: &Key) -> bool
+fn is_open_at(rows: &BTreeMap<Key, BoxedRow>, key: &Key) -> bool
     ensures { result ≡ is_open_at rows.now.entries key.now }
 {
     match rows.get(key) {
-        Some(row) => !is_valid(row.state),
+        Some(row) => !is_valid(row.get().state),
         None => false,
     }
 }
@@ -81,18 +81,21 @@ pub(crate) fn drop_closed_row(keys: &mut BTreeSet<Key>, key: &Key, old: State, n
 }
 
 /// Lists the keys of all these rows that are open.
-pub(crate) fn list_rows(keys: &mut BTreeSet<Key>, rows: &BTreeMap<Key, Row>) -> Result<(), Memory>
+pub(crate) fn list_rows(
+    keys: &mut BTreeSet<Key>,
+    rows: &BTreeMap<Key, BoxedRow>,
+) -> Result<(), Memory>
     ensures listed { OnOk result (HasOpen keys.new.keys rows.now.entries) }
     ensures grown { IsGrown keys.old.keys keys.new.keys }
 {
     for (key, row) in rows.iter() {
-        list_row(keys, key, row)?;
+        list_row(keys, key, row.get())?;
     }
     Ok(())
 }
 
 // Drops the keys of rows that are open no longer.
-fn drop_closed(keys: &mut BTreeSet<Key>, rows: &BTreeMap<Key, Row>)
+fn drop_closed(keys: &mut BTreeSet<Key>, rows: &BTreeMap<Key, BoxedRow>)
     ensures { keys.new.keys ≡ filter (is_open_at rows.now.entries) keys.old.keys }
 {
     keys.retain(|key| is_open_at(rows, key));
@@ -102,7 +105,7 @@ fn drop_closed(keys: &mut BTreeSet<Key>, rows: &BTreeMap<Key, Row>)
 pub(crate) fn mend(
     keys: &mut BTreeSet<Key>,
     whole: bool,
-    rows: &BTreeMap<Key, Row>,
+    rows: &BTreeMap<Key, BoxedRow>,
 ) -> Result<(), Memory>
     requires { whole ≡ true → HasOpen keys.old.keys rows.now.entries }
     ensures ok { OnOk result (HasOpen keys.new.keys rows.now.entries) }
@@ -118,7 +121,7 @@ pub(crate) fn mend(
 }
 
 // The first listed key whose row is open.
-fn first_open<'a>(keys: &'a BTreeSet<Key>, rows: &BTreeMap<Key, Row>) -> Option<&'a Key>
+fn first_open<'a>(keys: &'a BTreeSet<Key>, rows: &BTreeMap<Key, BoxedRow>) -> Option<&'a Key>
     ensures first { option_copied result ≡ find (is_open_at rows.now.entries) keys.now.keys }
     ensures ordered { IsStrictlySortedBy key_cmp keys.now.keys }
 {
@@ -133,7 +136,7 @@ fn first_open<'a>(keys: &'a BTreeSet<Key>, rows: &BTreeMap<Key, Row>) -> Option<
 // The first one behind a key.
 fn open_behind<'a>(
     keys: &'a BTreeSet<Key>,
-    rows: &BTreeMap<Key, Row>,
+    rows: &BTreeMap<Key, BoxedRow>,
     after: &Key,
 ) -> Option<&'a Key>
     ensures first { option_copied result ≡ find (is_open_at rows.now.entries) (filter (is_behind (Some after.now)) keys.now.keys) }
@@ -150,7 +153,7 @@ fn open_behind<'a>(
 /// The least key behind this one, or of all, whose row is open, by an index that is whole.
 pub(crate) fn next_listed<'a>(
     keys: &'a BTreeSet<Key>,
-    rows: &BTreeMap<Key, Row>,
+    rows: &BTreeMap<Key, BoxedRow>,
     after: Option<&Key>,
 ) -> Option<&'a Key>
     requires ordered { IsStrictlySortedBy key_cmp (keys_of rows.now.entries) }

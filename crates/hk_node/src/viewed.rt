@@ -13,7 +13,7 @@ ghost use Rattle.hk_node.specs.Viewed.{IsFitRow, view_letters, view_told, view_n
 use crate::letters::post_sent;
 use crate::report::{PriorRow, PriorRows};
 use hk_base::{Key, Letters, Memory, NodeId, Replies, View};
-use hk_key::Row;
+use hk_key::{BoxedRow, Row};
 use std::alloc::Global;
 use std::collections::{BTreeMap, BTreeSet};
 
@@ -90,7 +90,7 @@ fn view_at(
     alloc: Global,
     id: NodeId,
     view: &View,
-    rows: &BTreeMap<Key, Row>,
+    rows: &BTreeMap<Key, BoxedRow>,
     key: &Key,
 ) -> Result<(), Memory>
     requires { AllByRecursion IsFitRow rows.now.entries }
@@ -100,14 +100,14 @@ fn view_at(
     ensures prior { OnOk result (viewed.new.prior ≡ viewed.old.prior ++ at_key (view_old id view.now) rows.now.entries key.now) }
 {
     match rows.get(key) {
-        Some(row) => view_row(viewed, alloc, id, view, key, row),
+        Some(row) => view_row(viewed, alloc, id, view, key, row.get()),
         None => Ok(()),
     }
 }
 
 // The steps of the rows of these keys.
 fn view_keys(
-    rows: &BTreeMap<Key, Row>,
+    rows: &BTreeMap<Key, BoxedRow>,
     keys: &BTreeSet<Key>,
     alloc: Global,
     id: NodeId,
@@ -134,7 +134,7 @@ fn view_keys(
 
 /// The steps of all rows, with no change to them: a row whose key is not among these makes none.
 pub(crate) fn view_rows(
-    rows: &BTreeMap<Key, Row>,
+    rows: &BTreeMap<Key, BoxedRow>,
     keys: &BTreeSet<Key>,
     alloc: Global,
     id: NodeId,

@@ -114,7 +114,7 @@ impl Node {
         let Some(place) = self.rows.get_mut(key) else {
             return self.first_call(alloc, call, key, op);
         };
-        match decide(alloc, self.id, op, place)? {
+        match decide(alloc, self.id, op, place.get())? {
             Decision::Now(answer) => self.answers(alloc, key, call, answer),
             Decision::Begin {
                 stamp,
@@ -152,6 +152,7 @@ impl Node {
         let Some(row) = self.rows.get(key) else {
             return Ok(self.idle(alloc));
         };
+        let row = row.get();
         let mut letters = Letters::new(alloc);
         let out = row.resend();
         post_sent(&mut letters, self.id, view, key, row, &out.send)?;
@@ -173,10 +174,10 @@ impl Node {
         let Some(place) = self.rows.get_mut(key) else {
             return Ok(self.idle(alloc));
         };
-        if !is_invalid(place.state) {
+        if !is_invalid(place.get().state) {
             return Ok(self.idle(alloc));
         }
-        let mut row = place.copy(alloc)?;
+        let mut row = place.get().copy(alloc)?;
         let out = row.replay(alloc, self.id, view)?;
         let told = put_stepped(place, &mut self.index, alloc, self.id, view, key, row, out)?;
         Ok(told)

@@ -6,13 +6,13 @@ ghost use Rattle.hk_node.specs.Rows.{put_row};
 use super::Node;
 use crate::heard::share;
 use hk_base::{Key, Memory, copy_view, share_key};
-use hk_key::Row;
+use hk_key::{BoxedRow, Row};
 use std::alloc::Global;
 use std::collections::{BTreeMap, BTreeSet};
 
 // Adds a copy of a row.
 fn add_copy(
-    rows: &mut BTreeMap<Key, Row>,
+    rows: &mut BTreeMap<Key, BoxedRow>,
     alloc: Global,
     key: &Key,
     row: &Row,
@@ -21,16 +21,20 @@ fn add_copy(
 {
     let name = key.share()?;
     let row = row.copy(alloc)?;
+    let row = BoxedRow::new(alloc, row)?;
     rows.insert(name, row)?;
     Ok(())
 }
 
-fn copy_rows(alloc: Global, rows: &BTreeMap<Key, Row>) -> Result<BTreeMap<Key, Row>, Memory>
+fn copy_rows(
+    alloc: Global,
+    rows: &BTreeMap<Key, BoxedRow>,
+) -> Result<BTreeMap<Key, BoxedRow>, Memory>
     ensures { IfOk result (λ same. same.entries ≡ rows.now.entries) }
 {
     let mut same = BTreeMap::new(alloc);
     for (key, row) in rows.iter() {
-        add_copy(&mut same, alloc, key, row)?;
+        add_copy(&mut same, alloc, key, row.get())?;
     }
     Ok(same)
 }

@@ -17,13 +17,13 @@ use crate::open::{drop_closed_row, list_opened, list_row};
 use crate::out::NodeOut;
 use crate::report::{PriorRows, Report, Undo};
 use hk_base::{Answer, CallNo, Key, Letters, Memory, NodeId, Replies, Reply, View};
-use hk_key::{Out, Row};
+use hk_key::{BoxedRow, Out, Row};
 use std::alloc::Global;
 use std::collections::BTreeSet;
 
 /// Puts the row that a step made in place of the one that stands at the key, and tells what the step did.
 pub(super) fn put_stepped(
-    place: &mut Row,
+    place: &mut BoxedRow,
     index: &mut BTreeSet<Key>,
     alloc: Global,
     id: NodeId,
@@ -42,7 +42,7 @@ pub(super) fn put_stepped(
     let mut letters = Letters::new(alloc);
     post_sent(&mut letters, id, view, key, &row, &out.send)?;
     let replies = replies(alloc, key, out.reply)?;
-    let old = place.state;
+    let old = place.get().state;
     let new = row.state;
     list_opened(index, key, old, &row)?;
     let rows = change_row(place, alloc, key, row)?;

@@ -19,7 +19,7 @@ use crate::open::list_rows;
 use crate::out::NodeOut;
 use crate::report::{PriorRow, PriorRows, Report, Undo};
 use hk_base::{CopyItem, CopyItems, Key, Letters, Memory, NodeId, Replies, share_key};
-use hk_key::Row;
+use hk_key::{BoxedRow, Row};
 use std::alloc::Global;
 use std::collections::BTreeMap;
 use std::mem;
@@ -66,8 +66,8 @@ fn changed(alloc: Global, row: &Row, item: &CopyItem) -> Result<Option<Row>, Mem
 // What the item makes of the row of its key: one that items before it made, or the one that was there.
 fn change(
     alloc: Global,
-    changes: &BTreeMap<Key, Row>,
-    rows: &BTreeMap<Key, Row>,
+    changes: &BTreeMap<Key, BoxedRow>,
+    rows: &BTreeMap<Key, BoxedRow>,
     item: &CopyItem,
 ) -> Result<Option<Row>, Memory>
     requires quiet { IsQuiet (row_now item.now.key changes.now.entries rows.now.entries) }
@@ -75,19 +75,25 @@ fn change(
     ensures { IfOk result (λ new. new ≡ change_of (row_now item.now.key changes.now.entries rows.now.entries) item.now) }
 {
     if let Some(row) = changes.get(&item.key) {
-        return changed(alloc, row, item);
+        return changed(alloc, row.get(), item);
     }
     match rows.get(&item.key) {
-        Some(row) => changed(alloc, row, item),
+        Some(row) => changed(alloc, row.get(), item),
         None => changed(alloc, &Row::first(), item),
     }
 }
 
-fn put_change(changes: &mut BTreeMap<Key, Row>, key: &Key, row: Option<Row>) -> Result<(), Memory>
+fn put_change(
+    changes: &mut BTreeMap<Key, BoxedRow>,
+    alloc: Global,
+    key: &Key,
+    row: Option<Row>,
+) -> Result<(), Memory>
     ensures { OnOk result (changes.new.entries ≡ put_change row key.now changes.old.entries) }
 {
     if let Some(row) = row {
         let key = key.share()?;
+        let row = BoxedRow::new(alloc, row)?;
         changes.insert(key, row)?;
     }
     Ok(())
@@ -96,9 +102,9 @@ fn put_change(changes: &mut BTreeMap<Key, Row>, key: &Key, row: Option<Row>) -> 
 // The rows that the items change, by key.
 fn merge(
     alloc: Global,
-    rows: &BTreeMap<Key, Row>,
+    rows: &BTreeMap<Key, BoxedRow>,
     items: &CopyItems,
-) -> Result<BTreeMap<Key, Row>, Memory>
+) -> Result<BTreeMap<Key, BoxedRow>, Memory>
     requires rising { IsStrictlySortedBy key_cmp (keys_of rows.now.entries) }
     requires quiet { AllByRecursion (λ r. IsQuiet r.1) rows.now.entries }
     requires within { All (λ item. IsWithin item.stamp) items.now }
@@ -107,17 +113,17 @@ fn merge(
     let mut changes = BTreeMap::new(alloc);
     for item in items.as_slice() {
         let row = change(alloc, &changes, rows, item)?;
-        put_change(&mut changes, &item.key, row)?;
+        put_change(&mut changes, alloc, &item.key, row)?;
     }
     Ok(changes)
 }
 
 // Puts a row in its place. What it took the place of comes behind the prior rows.
 fn put_next(
-    rows: &mut BTreeMap<Key, Row>,
+    rows: &mut BTreeMap<Key, BoxedRow>,
     prior: &mut Vec<PriorRow>,
     key: Key,
-    row: Row,
+    row: BoxedRow,
 ) -> Result<(), Memory>
     ensures put { OnOk result (rows.new.entries ≡ put_row key row rows.old.entries) }
     ensures prior { OnOk result (prior.new.items ≡ prior.old.items ++ record { key = key; row = find_row key rows.old.entries } ∷ []) }
@@ -126,7 +132,7 @@ fn put_next(
 {
     prior.reserve(1)?;
     if rows.contains_key(&key) {
-        let old = swap_row(rows, &key, row);
+        let old = swap_row(rows, &key, row.into_inner());
         prior.push_reserved(PriorRow {
             key,
             row: Some(old),
@@ -141,9 +147,9 @@ fn put_next(
 
 // Puts rows in their places, in the order of their keys, and tells what they took the place of.
 fn put_all(
-    rows: &mut BTreeMap<Key, Row>,
+    rows: &mut BTreeMap<Key, BoxedRow>,
     alloc: Global,
-    changes: BTreeMap<Key, Row>,
+    changes: BTreeMap<Key, BoxedRow>,
 ) -> Result<Vec<PriorRow>, Memory>
     requires ordered { IsStrictlySortedBy key_cmp (keys_of rows.old.entries) }
     requires rising { IsStrictlySortedBy key_cmp (keys_of changes.entries) }

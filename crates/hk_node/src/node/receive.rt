@@ -92,7 +92,7 @@ impl Node {
         let Some(place) = self.rows.get_mut(key) else {
             return self.first_inv(alloc, from, key, stamp, kind, content);
         };
-        let mut row = place.copy(alloc)?;
+        let mut row = place.get().copy(alloc)?;
         let out = row.on_inv(from, stamp, kind, content);
         let told = put_stepped(place, &mut self.index, alloc, self.id, view, key, row, out)?;
         Ok(told)
@@ -120,7 +120,7 @@ impl Node {
         let Some(place) = self.rows.get_mut(key) else {
             return Ok(self.idle(alloc));
         };
-        let mut row = place.copy(alloc)?;
+        let mut row = place.get().copy(alloc)?;
         let out = row.on_ack(self.id, view, from, stamp, top);
         let told = put_stepped(place, &mut self.index, alloc, self.id, view, key, row, out)?;
         Ok(told)
@@ -146,7 +146,7 @@ impl Node {
         let Some(place) = self.rows.get_mut(key) else {
             return Ok(self.idle(alloc));
         };
-        let mut row = place.copy(alloc)?;
+        let mut row = place.get().copy(alloc)?;
         row.on_val(stamp);
         let out = Out {
             send: None,

@@ -10,12 +10,12 @@ use super::Node;
 use crate::open::{is_valid, next_listed};
 use hk_base::{CopyItem, Key, Memory, share_content};
 use hk_copy::Rows;
-use hk_key::Row;
+use hk_key::{BoxedRow, Row};
 use std::collections::BTreeMap;
 use std::ops::Bound;
 
 // The least key of all.
-fn first_key(rows: &BTreeMap<Key, Row>) -> Option<&Key>
+fn first_key(rows: &BTreeMap<Key, BoxedRow>) -> Option<&Key>
     ensures { option_copied result ≡ next_key (rows_after None (copies_of rows.now.entries)) }
 {
     match rows.first_key_value() {
@@ -25,7 +25,7 @@ fn first_key(rows: &BTreeMap<Key, Row>) -> Option<&Key>
 }
 
 // The least key that is greater than this one.
-fn key_behind<'a>(rows: &'a BTreeMap<Key, Row>, key: &Key) -> Option<&'a Key>
+fn key_behind<'a>(rows: &'a BTreeMap<Key, BoxedRow>, key: &Key) -> Option<&'a Key>
     ensures { option_copied result ≡ next_key (rows_after (Some key.now) (copies_of rows.now.entries)) }
 {
     match rows.range((Bound::Excluded(key), Bound::Unbounded)).next() {
@@ -34,7 +34,7 @@ fn key_behind<'a>(rows: &'a BTreeMap<Key, Row>, key: &Key) -> Option<&'a Key>
     }
 }
 
-fn next_key<'a>(rows: &'a BTreeMap<Key, Row>, after: Option<&Key>) -> Option<&'a Key>
+fn next_key<'a>(rows: &'a BTreeMap<Key, BoxedRow>, after: Option<&Key>) -> Option<&'a Key>
     ensures { option_copied result ≡ next_key (rows_after (option_copied after.entry) (copies_of rows.now.entries)) }
 {
     match after {
@@ -53,11 +53,11 @@ fn is_open_behind(after: Option<&Key>, key: &Key, row: &Row) -> bool
 }
 
 // The least key behind this one, or of all, whose row is not Valid.
-fn next_open<'a>(rows: &'a BTreeMap<Key, Row>, after: Option<&Key>) -> Option<&'a Key>
+fn next_open<'a>(rows: &'a BTreeMap<Key, BoxedRow>, after: Option<&Key>) -> Option<&'a Key>
     ensures { option_copied result ≡ next_open (option_copied after.entry) rows.now.entries }
 {
     for (key, row) in rows.iter() {
-        if is_open_behind(after, key, row) {
+        if is_open_behind(after, key, row.get()) {
             return Some(key);
         }
     }
@@ -75,6 +75,7 @@ impl Rows for Node {
         let Some(row) = self.rows.get(key) else {
             unreachable!()
         };
+        let row = row.get();
         let key = key.share()?;
         let content = share_content(&row.content)?;
         Ok(CopyItem {

@@ -5,6 +5,6 @@ use Rattle.hk_node.proofs.give.swap_row.Goals as goal
 
 pub returns-clause-put : goal.returns-clause-put
 returns-clause-put c =
-    (c.get_mut.follows.holds c.replace.new.dest).0
-    ∙ set_is_put c.args.key.now c.replace.new.dest c.args.rows.now.entries c.get_mut.ensures.ordered c.requires
-    ∙ ap (λ w. put_row c.args.key.now w c.args.rows.now.entries) c.replace.ensures.after
+    (c.get_mut.follows.holds c.replace.new.self).0
+    ∙ set_is_put c.args.key.now c.replace.new.self c.args.rows.now.entries c.get_mut.ensures.ordered c.requires
+    ∙ ap (λ w. put_row c.args.key.now w c.args.rows.now.entries) c.replace.ensures.new

@@ -1,4 +1,4 @@
-use Rattle.std.proofs.Common.{◌≡◌, ◌∙◌, sym, ap, subst, ◌++◌, [], None, rules}
+use Rattle.std.proofs.Common.{◌≡◌, ◌∙◌, sym, ap, subst, ◌++◌, [], Some, None, rules}
 use Rattle.hk_node.specs.Node.{NodeState}
 use Rattle.hk_node.specs.Sends.{at_view, sent}
 use Rattle.hk_node.specs.Steps.{resent}
@@ -22,9 +22,9 @@ returns-clause-node c = sym (ap (λ (s : Stepped). s.node)
     (resent_is c.args.self.now c.args.key.now c.in-Some-get.row.now (subst IsNode c.self.view_is c.self.invariant.node).ordered (found_now _ c.args.self.now c.args.key.now _ c.self.view_is c.in-Some-get.ensures.value)))
 
 pub returns-clause-out : goal.returns-clause-out
-returns-clause-out c = resent_told _ c.args.self.now c.in-Some.view c.args.key.now c.in-Some-get.row.now c.tells.result
+returns-clause-out c = resent_told _ c.args.self.now c.in-Some.view c.args.key.now c.get-row.result.now c.tells.result
     (record { ok = c.self.invariant.node; same = c.self.view_is; seen = search rules })
-    (found_now _ c.args.self.now c.args.key.now _ c.self.view_is c.in-Some-get.ensures.value)
-    (c.tells.ensures.letters ∙ c.in_ok-post_sent.ensures ∙ ap (λ l. l ++ sent (at_view c.self.inside.id c.in-Some.view) c.args.key.now c.in-Some-get.row.now c.resend-out.result.send) c.new-letters.ensures
-    ∙ ap (λ o. sent (at_view c.self.inside.id c.in-Some.view) c.args.key.now c.in-Some-get.row.now o.send) c.resend-out.ensures)
+    (found_now _ c.args.self.now c.args.key.now _ c.self.view_is c.in-Some-get.ensures.value ∙ ap Some (sym c.get-row.ensures))
+    (c.tells.ensures.letters ∙ c.in_ok-post_sent.ensures ∙ ap (λ l. l ++ sent (at_view c.self.inside.id c.in-Some.view) c.args.key.now c.get-row.result.now c.resend-out.result.send) c.new-letters.ensures
+    ∙ ap (λ o. sent (at_view c.self.inside.id c.in-Some.view) c.args.key.now c.get-row.result.now o.send) c.resend-out.ensures)
     (c.tells.ensures.replies ∙ c.new.ensures) c.tells.ensures.installed c.tells.ensures.undo (c.tells.ensures.report ∙ sym (ap (λ (n : NodeState). rows_report n []) c.self.view_is))
