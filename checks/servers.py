@@ -110,6 +110,11 @@ class Server:
     def told(self):
         return os.pread(self.errors.fileno(), 1 << 16, 0).decode(errors="replace")
 
+    def expect_no_doubt(self, what):
+        """No node was told by letters that another has forgotten, or is none of its group."""
+        doubts = [line for line in self.told().splitlines() if "has forgotten" in line or "is no member" in line]
+        expect(doubts, [], f"{what}: doubts on standard error")
+
     def is_up(self):
         return self.process.poll() is None
 
@@ -351,13 +356,12 @@ class Cases:
     def __init__(self, name, wanted=()):
         self.name, self.wanted, self.faults, self.tried = name, wanted, 0, 0
 
-    def try_all(self, cases, waiting, by_hand, *given):
-        """Tries the cases one after the other, and beside them those that do little but wait. Those by hand are tried where they are named."""
-        known = {case.__name__ for case in [*cases, *waiting, *by_hand]}
+    def try_all(self, cases, waiting, *given):
+        """Tries the cases one after the other, and beside them those that do little but wait."""
+        known = {case.__name__ for case in [*cases, *waiting]}
         if not set(self.wanted) <= known:
             sys.exit(f"{self.name}: the cases are {' '.join(sorted(known))}")
         chosen = [[case for case in some if not self.wanted or case.__name__ in self.wanted] for some in (cases, waiting)]
-        chosen[0] += [case for case in by_hand if case.__name__ in self.wanted]
         with ThreadPoolExecutor(len(waiting)) as pool:
             for case in chosen[1]:
                 pool.submit(self.try_one, case, *given)

@@ -23,6 +23,7 @@ PIDFD_GETFD = 438
 ACK = 2
 # No ask is given up before so many seconds; also a full machine gives it up before so many.
 UNKNOWN_AFTER, UNKNOWN_BEFORE = 2.0, 20.0
+FORGOT = "has forgotten what it acknowledged, as a process does that is started again"
 # So often at most a key is asked for whose update got lost.
 FEW_ASKS = 4
 libc = ctypes.CDLL(None, use_errno=True)
@@ -272,7 +273,7 @@ def meets_itself(port):
 
 
 def a_peer_started_again(room):
-    """A process is killed while a lock is held, and started again, which nobody may do."""
+    """A process is killed while a lock is held, and started again, which nobody may do. The others find it out where it would take the lock."""
     with room.group(3) as group, group.client(0) as holder:
         meet(group)
         expect(holder.ask(b"add lock 0 0 1\r\nx\r\n"), STORED, "the first holder of a lock")
@@ -280,11 +281,46 @@ def a_peer_started_again(room):
         group.begin(2)
         with group.client(2) as second:
             told = ask_on(second, b"add lock 0 0 1\r\ny\r\n", 10)
-            held = [client.get(b"lock")[0] for client in (holder, second)] if told == STORED else []
-        said = [line for node in (0, 1) for line in group.servers[node].told().splitlines() if "serves on port" not in line]
         if told == STORED:
-            raise Fault(f"peer 2 is killed and started again: a second holder of one lock is told {told!r}, the lock is {held} at nodes 0 and 2; the others say {said}")
-        return f"a second holder was told {told!r}, and the others say {said}"
+            raise Fault("peer 2 is killed and started again: a second holder of one lock is told STORED")
+        expect(holder.get(b"lock")[0], b"x", "the lock at node 0")
+        for node in (0, 1):
+            expect(said(group, node), [f"hermes: node 2 {FORGOT}: node {node} takes nothing from it any more"], f"what node {node} says")
+        return f"a second holder is told {told!r}, and both others say that node 2 has forgotten"
+
+
+def a_peer_started_again_is_told(room):
+    """A process that was started again finds it out itself, where another node goes on with what it acknowledged."""
+    with room.group(2) as group, group.client(0) as client:
+        meet(group)
+        for value in (b"x", b"y"):
+            expect(client.set(b"kept", value), STORED, "a set")
+        group.servers[1].kill()
+        group.begin(1)
+        told = ask_on(client, b"set kept 0 0 1\r\nz\r\n", 5)
+        if told == STORED:
+            raise Fault("peer 1 is killed and started again: it acknowledges the next update of what it has forgotten")
+        expect(said(group, 1), [f"hermes: node 1 {FORGOT}: it takes nothing from the others any more. End it"], "what node 1 says")
+        return f"the next set is told {told!r}, and node 1 says that it has forgotten"
+
+
+def a_peer_of_another_group(room):
+    """Two processes are started as those of a group of two, and one behind them as the third of three: it is no member of theirs."""
+    with room.group(3, begin=[2]) as group:
+        for node in (0, 1):
+            group.servers[node] = servers.peer(group.program, group.first, node, 2, group.conns)
+        with group.client(2) as client:
+            client.begin(b"key", b"x")
+            wanted = [[f"hermes: node 2 is no member of the group that node {node} is of: were all processes started with the same --nodes?"] for node in (0, 1)]
+            if until(10, lambda: [said(group, node) for node in (0, 1)] == wanted) is None:
+                raise Fault(f"they say {[said(group, node) for node in (0, 1)]} where {wanted} is due")
+        group.expect_up("a process of three nodes beside two of two")
+        return "both of the group say so"
+
+
+def said(group, node):
+    """What a process says on standard error beside that it serves."""
+    return [line for line in group.servers[node].told().splitlines() if "serves on port" not in line]
 
 
 def ask_on(client, sent, seconds):
@@ -527,7 +563,6 @@ CASES = [
 # Those that spend most of their time waiting go on beside the others.
 WAITING = [
     a_peer_that_reads_nothing, a_peer_that_does_not_answer, a_peer_comes_back_behind_the_last_client, a_dial_that_meets_itself,
-    unknown_takes_its_time, what_waits_is_sent_again,
+    unknown_takes_its_time, what_waits_is_sent_again, a_peer_started_again, a_peer_started_again_is_told, a_peer_of_another_group,
 ]  # fmt: skip
-# What breaks the promise, and has no answer yet: nothing that a process sends tells whether it was started again.
-BY_HAND = [a_peer_started_again]
+

@@ -31,6 +31,7 @@ use hk_process::serve_process;
 use hk_storm::storm;
 use hk_watching::watch_writes;
 use std::alloc::Global;
+use std::io::Eprint;
 use std::sync::{Arc, Wait};
 use std::thread::Threads;
 
@@ -49,7 +50,7 @@ fn tell_usage<K: Sink>(sink: &mut K) -> Status
 
 // Does what a command says.
 fn perform<
-    R: Threads + Wait + Copy + Send + Sync + 'static,
+    R: Threads + Wait + Eprint + Copy + Send + Sync + 'static,
     S: Source,
     K: Sink,
     C: Clock + Send + Sync + Drop + 'static,
@@ -155,7 +156,7 @@ fn perform<
 ///
 /// For all other words one line is written, which tells the commands, and the status is Usage. Only `serve` and `peer` touch the doors and the spawner.
 pub fn hermes<
-    R: Threads + Wait + Copy + Send + Sync + 'static,
+    R: Threads + Wait + Eprint + Copy + Send + Sync + 'static,
     S: Source,
     K: Sink,
     C: Clock + Send + Sync + Drop + 'static,

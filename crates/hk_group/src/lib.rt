@@ -22,6 +22,7 @@ mod lines;
 mod load;
 mod managing;
 mod member;
+mod notices;
 mod program;
 mod reserve;
 mod server;

@@ -20,6 +20,7 @@ use hk_locked::Places;
 use hk_outside::{Clock, Doors, Failed, Job, Spawner, Status};
 use hk_worker::Founded;
 use std::alloc::Global;
+use std::io::Eprint;
 use std::marker::Brand;
 use std::sync::{Arc, Wait};
 
@@ -38,7 +39,7 @@ pub fn start_each<J: Job, S: Spawner>(jobs: Vec<J>, spawner: &mut S) -> Result<(
 #[tactic(auto, using(crate::proofs::Started::served_beside))]
 fn serve_conns<
     P: Places + Send + Sync + 'static,
-    R: Wait + Copy + Send + Sync + Drop + 'static,
+    R: Wait + Eprint + Copy + Send + Sync + Drop + 'static,
     C: Clock + Send + Sync + Drop + 'static,
     D: Doors,
     S: Spawner,
@@ -70,7 +71,7 @@ fn serve_conns<
 // Serves the connections, and ends all other loops then.
 fn run<
     P: Places + Send + Sync + 'static,
-    R: Wait + Copy + Send + Sync + Drop + 'static,
+    R: Wait + Eprint + Copy + Send + Sync + Drop + 'static,
     C: Clock + Send + Sync + Drop + 'static,
     D: Doors,
     S: Spawner,
@@ -130,7 +131,7 @@ fn run<
 /// Done: so many connections were taken as the group says, or no more came, and the port was closed behind them. A connection that got no job was closed, and ends
 /// nothing. Memory: there was none to make the group. DoorFault: the port could not be opened. SpawnFault: a worker or a manager's loop got no job.
 pub fn serve<
-    R: Wait + Copy + Send + Sync + Drop + 'static,
+    R: Wait + Eprint + Copy + Send + Sync + Drop + 'static,
     C: Clock + Send + Sync + Drop + 'static,
     D: Doors,
     S: Spawner,

@@ -3,10 +3,12 @@
 use crate::completion::Unheard;
 use crate::gate::Open;
 use crate::load::{Load, Trimming};
+use crate::notices::tell_doubt;
 use crossbeam_utils::sync::WaitGroup;
 use hk_locked::Places;
 use hk_outside::{Clock, Job};
 use hk_worker::{Post, work};
+use std::io::Eprint;
 use std::sync::{Arc, Wait};
 
 /// A worker makes at most so many turns before it looks at the clock and the journals. Each may bring a mebibyte.
@@ -55,7 +57,7 @@ fn tend<R: Wait, P: Places>(
 }
 
 // Makes turns until the ending is told: one for each ring, and where the clock rose one for each request for a lease that is due then. It sleeps in between.
-fn go_on<R: Wait, C: Clock, P: Places>(
+fn go_on<R: Wait + Eprint, C: Clock, P: Places>(
     rt: &R,
     post: &mut Post<Unheard, P>,
     clock: &C,
@@ -70,6 +72,9 @@ fn go_on<R: Wait, C: Clock, P: Places>(
         last = reading;
         let turns = work(rt, post, gate, TURNS);
         tend(rt, post, load, &mut trimming, turns);
+        if let Some(doubt) = post.next_doubt() {
+            tell_doubt(rt, post.shards().node(), doubt);
+        }
         if gate.is_over() {
             return;
         }
@@ -78,7 +83,7 @@ fn go_on<R: Wait, C: Clock, P: Places>(
 }
 
 impl<
-    R: Wait + Send + Drop + 'static,
+    R: Wait + Eprint + Send + Drop + 'static,
     C: Clock + Send + Sync + Drop + 'static,
     P: Places + Send + Sync + 'static,
 > Job for WorkJob<R, C, P> {

@@ -1,4 +1,5 @@
 pub mod ByRow
+pub mod Doubts
 pub mod Locked
 pub mod Places
 pub mod Steps

@@ -8,17 +8,22 @@
 //! Beside them stand the keys of the shard's open rows, which follow each step by what it reports: what is to be sent again ([`LockedShard::due`]) is found by
 //! a look-up, with no look at other rows.
 //!
+//! A letter that no node would send in a group whose nodes all run as they began can be told from others as it comes ([`LockedShard::doubt`]): a process that is
+//! started again has forgotten what it acknowledged.
+//!
 //! The caller names the cells of the shards of all its nodes once ([`Places`]), makes each [`LockedShard`] of the shard that has these cells, and draws the
 //! tickets of steps above the last one.
 #![tactic(auto)]
 
 mod by_row;
+mod doubt;
 mod locked;
 mod places;
 mod reader;
 mod told;
 
 pub use by_row::RowRead;
+pub use doubt::Doubt;
 pub use locked::{Given, LockedShard, Started};
 pub use places::Places;
 pub use reader::ShardReader;

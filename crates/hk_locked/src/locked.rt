@@ -20,16 +20,18 @@ ghost use Rattle.hk_node.specs.Steps.{node_step};
 ghost use Rattle.hk_node.specs.Calls.{lease_end};
 ghost use Rattle.hk_locked.specs.Places.{shard_names, node_names};
 ghost use Rattle.hk_locked.specs.ByRow.{ReadsRow};
+ghost use Rattle.hk_locked.specs.Doubts.{doubt_in};
 ghost use Rattle.hk_locked.specs.Makes.{Stands, Follows, Makes, MakesCall, CallsAt, IsQuiet, due_in};
 ghost use Rattle.hk_due.specs.Due.{due_of_key};
 ghost use Rattle.hk_locked.specs.Steps.{IsGrown, Meets, MeetsLease, Ticks, Trims, Begins, StartsAt, LooksFor, GivesUp, HasNoAsk, HasCalled, AreOneOrNone, replies_with, told_asks, is_short};
 ghost use Rattle.hk_told.specs.declared.asks.AskState.TheVariants.{Gone};
 
 use crate::by_row::{RowRead, told_by};
+use crate::doubt::{Doubt, doubt_in};
 use crate::places::Places;
 use crate::reader::ShardReader;
 use crate::told::{ToldAsks, told_asks};
-use hk_base::{Answer, CallNo, Key, Letters, Memory, NodeId, Op, Replies, Reply, State};
+use hk_base::{Answer, CallNo, Key, Letter, Letters, Memory, NodeId, Op, Replies, Reply, State};
 use hk_callback::{Callbacks, Completion};
 use hk_due::{Due, OpenKeys, due_of_key};
 use hk_journal::{Journal, share_journal};
@@ -325,6 +327,15 @@ impl<F: Completion + Copy + Drop, P: Places> LockedShard<F, P> {
         ensures { IfOk result (λ due. due ≡ due_of_key self.now.shard.part.rows key.now) }
     {
         due_of_key(self.shard.part(), key)
+    }
+
+    /// What a letter that comes shows, if it is one that no node would send in a group whose nodes all run as they began.
+    pub fn doubt(&self, letter: &Letter) -> Option<Doubt>
+        requires { IsLetter letter.now }
+        ensures { result ≡ doubt_in self.now.shard.part letter.now }
+    {
+        keeps(&self.shard);
+        doubt_in(self.shard.part(), letter)
     }
 
     /// Makes the step of an event that is no call, publishes the rows that it changed, calls the completions of its replies and tells the asks. After `Memory`

@@ -22,6 +22,7 @@ use hk_locked::Places;
 use hk_outside::{Clock, Doors, Job, Spawner, Status};
 use hk_worker::{Founded, Tickets};
 use std::alloc::Global;
+use std::io::Eprint;
 use std::marker::Brand;
 use std::sync::{Arc, Mutex, Wait};
 
@@ -179,7 +180,7 @@ fn close(bell: Option<Arc<Bell>>) {
 // Serves the connections, and ends all other loops then: first the workers, so that what they put is sent still.
 fn serve_member<
     P: Places + Send + Sync + 'static,
-    R: Wait + Copy + Send + Sync + Drop + 'static,
+    R: Wait + Eprint + Copy + Send + Sync + Drop + 'static,
     C: Clock + Send + Sync + Drop + 'static,
     D: Doors,
     S: Spawner,
@@ -223,7 +224,7 @@ fn serve_member<
 #[tactic(auto, using(crate::proofs::Groups::is_below, crate::proofs::Groups::of_group))]
 fn run<
     P: Places + Send + Sync + 'static,
-    R: Wait + Copy + Send + Sync + Drop + 'static,
+    R: Wait + Eprint + Copy + Send + Sync + Drop + 'static,
     C: Clock + Send + Sync + Drop + 'static,
     D: Doors,
     S: Spawner,
@@ -261,7 +262,7 @@ fn run<
 /// other nodes can't be reached ends nothing.
 #[tactic(auto, using(crate::proofs::Groups::is_below))]
 pub fn serve_process<
-    R: Wait + Copy + Send + Sync + Drop + 'static,
+    R: Wait + Eprint + Copy + Send + Sync + Drop + 'static,
     C: Clock + Send + Sync + Drop + 'static,
     D: Doors,
     S: Spawner,

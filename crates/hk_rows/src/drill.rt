@@ -6,6 +6,7 @@ use hk_outside::{
 };
 use std::alloc::Global;
 use std::collections::VecDeque;
+use std::io::Eprint;
 use std::process::Abort;
 use std::sync::{Arc, Wait};
 use std::thread::Threads;
@@ -44,7 +45,7 @@ fn sink_of(rt: &impl Abort, alloc: Global, failing_writes: &[u64]) -> MemorySink
 }
 
 // Makes the top call. The reads and writes of these numbers fail.
-fn call<R: Threads + Wait + Abort + Copy + Send + Sync + 'static>(
+fn call<R: Threads + Wait + Eprint + Abort + Copy + Send + Sync + 'static>(
     rt: R,
     alloc: Global,
     words: &[&str],
@@ -76,7 +77,7 @@ fn call<R: Threads + Wait + Abort + Copy + Send + Sync + 'static>(
 }
 
 // A drill of a script, with no faults.
-fn drill<R: Threads + Wait + Abort + Copy + Send + Sync + 'static>(
+fn drill<R: Threads + Wait + Eprint + Abort + Copy + Send + Sync + 'static>(
     rt: R,
     alloc: Global,
     script: &[u8],

@@ -8,6 +8,7 @@ use hk_outside::{
 };
 use std::alloc::Global;
 use std::collections::VecDeque;
+use std::io::Eprint;
 use std::process::Abort;
 use std::sync::atomic::{AtomicBool, AtomicU64, Ordering};
 use std::sync::{Arc, Wait};
@@ -23,7 +24,7 @@ struct Outcome {
 
 // Makes the top call with the words of a storm that starts at 1, and this clock.
 fn storm<
-    R: Threads + Wait + Abort + Copy + Send + Sync + 'static,
+    R: Threads + Wait + Eprint + Abort + Copy + Send + Sync + 'static,
     C: Clock + Send + Sync + Drop + 'static,
 >(rt: R, alloc: Global, words: &[&str], clock: Arc<C>) -> Outcome {
     let mut owned = Vec::new(alloc);

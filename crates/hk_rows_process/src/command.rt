@@ -8,6 +8,7 @@ use hk_outside::{
 };
 use std::alloc::Global;
 use std::collections::VecDeque;
+use std::io::Eprint;
 use std::process::Abort;
 use std::sync::{Arc, Mutex, Wait};
 use std::thread::Threads;
@@ -18,13 +19,11 @@ const REPLIES: &[u8] =
     b"STORED\r\nVALUE k 7 5\r\nhello\r\nEND\r\nVALUE k 7 5 131072\r\nhello\r\nEND\r\n";
 
 // Makes the top call with these words.
-pub fn called<R: Threads + Wait + Abort + Copy + Send + Sync + 'static, D: Doors, P: Spawner>(
-    rt: R,
-    alloc: Global,
-    words: &[&str],
-    doors: &mut D,
-    spawner: &mut P,
-) -> Status {
+pub fn called<
+    R: Threads + Wait + Eprint + Abort + Copy + Send + Sync + 'static,
+    D: Doors,
+    P: Spawner,
+>(rt: R, alloc: Global, words: &[&str], doors: &mut D, spawner: &mut P) -> Status {
     let mut owned = Vec::new(alloc);
     for word in words {
         let word = String::from_str(alloc, word).expect(&rt, "memory");

@@ -38,7 +38,7 @@ pub record IsMade {G : Type 0} (applies : ℕ → NodeEvent → List Letter → 
   pub applied : applies shard event letters
   pub put : GoOut answers shard letters before after
 
--- or memory was wanting at the shard, and the event is lost
+-- or memory was wanting at the shard, or the letter was refused there, and the event is lost
 pub record IsLost {G : Type 0} (lacks : ℕ → Type 0) (shard : ℕ) (before after : Way G) : Type 0 where
   pub lacking : lacks shard
   pub same : after ≡ before
@@ -62,7 +62,7 @@ pub record Working (G : Type 0) : Type 0 where
   pub worker : WorkerState
   pub way : Way G
 
--- by which steps were made at shards, what is due there, what is owed there, where memory was wanting, and what the gate answers
+-- by which steps were made at shards, what is due there, what is owed there, where memory was wanting or a letter was refused, and what the gate answers
 module _ {G : Type 0} (applies : ℕ → NodeEvent → List Letter → Type 0) (finds : ℕ → Option (List ℕ) → ℕ → Option Due → Type 0) (owes : ℕ → Due → Type 0) (lacks : ℕ → Type 0) (answers : G → Bool → G → Type 0) where
   -- a parcel is taken, and its letter is given to its shard
   pub record ReceivesParcel (before after : Working G) : Type 0 where

@@ -3,7 +3,7 @@
 //! A worker ([`Worker`]) has inlets and outlets of its node's links. [`work`] makes its turns, each asked of a gate before. A turn takes one parcel and gives its
 //! letter to the shard that it is for; where all inlets are empty it makes one request for a lease that is due, or else it sends again the update of a key for
 //! which someone waits, or of the next key, in the order of shards and keys, that was open at the call of `work` before. What the step sends goes on for the same shard, each letter asked of the
-//! gate. A turn that has nothing to do yields. One that finds no memory loses its parcel. What turns do is a definition, `specs/Turns.antt`.
+//! gate. A turn that has nothing to do yields. One that finds no memory, or whose letter the shard refuses, loses its parcel. What turns do is a definition, `specs/Turns.antt`.
 //!
 //! Where the steps are made is behind a trait ([`Workplace`]), so that this crate knows of no lock. The caller owes that all workers of a node share its shards.
 #![tactic(auto)]
@@ -17,4 +17,4 @@ mod workplace;
 pub use requests::LeaseRequests;
 pub use turning::work;
 pub use worker::{Inlets, Worker};
-pub use workplace::Workplace;
+pub use workplace::{Unmade, Workplace};

@@ -52,7 +52,7 @@ fn put_all<G: Gate, R: Wait>(
     }
 }
 
-// Makes the step of an event at a shard, and sends what it gives. Where memory is wanting, the event is lost.
+// Makes the step of an event at a shard, and sends what it gives. Where memory is wanting, or the shard refuses a letter, the event is lost.
 fn make<W: Workplace, G: Gate, R: Wait>(
     rt: &R,
     alloc: Global,

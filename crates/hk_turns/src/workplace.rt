@@ -16,6 +16,21 @@ use hk_node::NodeEvent;
 use std::alloc::Global;
 use std::sync::Wait;
 
+/// Why the step of an event was not made.
+#[derive(Clone, Copy, Debug, PartialEq, Eq)]
+pub enum Unmade {
+    /// An allocation was refused.
+    Memory,
+    /// The event is a letter that is not taken.
+    Refused,
+}
+
+impl From<Memory> for Unmade {
+    fn from(_refused: Memory) -> Unmade {
+        Unmade::Memory
+    }
+}
+
 /// The eight shards of a node, each under its lock.
 pub trait Workplace {
     /// The step of an event was made at a shard, at some moment, and gave these letters.
@@ -27,20 +42,20 @@ pub trait Workplace {
     /// At some moment a row was open at a shard, and this was to be sent again of its key.
     ghost owes: { Self → ℕ → IsDue → Type 0 };
 
-    /// Memory was wanting at a shard, at some moment. Only the calls here tell it, so a loop that says so has made one.
+    /// Memory was wanting at a shard, at some moment, or a letter was refused there. Only the calls here tell it, so a loop that says so has made one.
     ghost lacks: { Self → ℕ → Type 0 } = { λ place shard. ⊤ };
 
     /// A number above the tickets of all steps that were made.
     fn ticket<R: Wait>(&self, rt: &R) -> u64;
 
-    /// Makes the step of an event at a shard, under its lock and with a ticket drawn there, and gives the letters to send. After `Memory` nothing has changed.
+    /// Makes the step of an event at a shard, under its lock and with a ticket drawn there, and gives the letters to send. Where none is made nothing has changed.
     fn apply<R: Wait>(
         &self,
         rt: &R,
         alloc: Global,
         shard: u8,
         event: NodeEvent,
-    ) -> Result<Letters, Memory>
+    ) -> Result<Letters, Unmade>
         requires shard { shard < 8 }
         requires event { IsNodeEvent event }
         requires no_call { IsNoCall event }

@@ -17,6 +17,7 @@ mod asking;
 mod changes;
 mod clock_desk;
 mod desk;
+mod doubts;
 mod eight;
 mod laws;
 mod post;

@@ -14,7 +14,7 @@ use crate::shards::Shards;
 use hk_base::{Actor, CallNo, Key, MAX_TIME, Memory, NodeId, Op};
 use hk_callback::Completion;
 use hk_link::Outlet;
-use hk_locked::{Places, ShardReader};
+use hk_locked::{Doubt, Places, ShardReader};
 use hk_outside::DeskReply;
 use hk_overseer::{Gate, Outlets};
 use hk_shard::{SHARDS, shard_of};
@@ -186,6 +186,11 @@ impl<F: Completion + Copy + Drop, P: Places> Post<F, P> {
         ensures { self.new ≡ self.old }
     {
         self.worker.take_brought()
+    }
+
+    /// What letters showed that none would show in a group whose nodes all run as they began. Each is told once, at one post of the node.
+    pub fn next_doubt(&self) -> Option<Doubt> {
+        self.shards.next_doubt()
     }
 
     /// Whether its worker may sleep until the bell of the shards is rung: its last turn found nothing to do, and no row of a shard is open.
