@@ -15,7 +15,7 @@ use Rattle.hk_base.specs.Stamp.{tag_of}
 use Rattle.hk_key.specs.declared.row.Row.{Row}
 use Rattle.hk_key.specs.Sound.{IsSound}
 use Rattle.hk_key.specs.Table.{first_row}
-use Rattle.hk_node.specs.Rows.{find_row}
+use Rattle.hk_node.specs.Rows.{find_row, row_at}
 use Rattle.hk_node.specs.Node.{members_of}
 use Rattle.hk_node.specs.Calls.{lease_end}
 use Rattle.hk_node.proofs.Order.{holds_found}
@@ -46,6 +46,14 @@ row_in_limit s key is = within (find_row key s.part.rows) (holds_found (λ row. 
     within : (found : Option Row) → IfSome found (λ row. IsSound s.part.id (members_of s.part) row) → IfSome found (λ row. row.stamp.version ≤ MAX_VERSION)
     within None sound = tt
     within (Some row) sound = sound.within
+
+-- so is that of the row that a key without one counts as
+pub row_at_in_limit : (s : ShardState) (key : List ℕ) → IsShard s → (row_at key s.part.rows).stamp.version ≤ MAX_VERSION
+row_at_in_limit s key is = within (find_row key s.part.rows) (row_in_limit s key is)
+  where
+    within : (found : Option Row) → IfSome found (λ row. row.stamp.version ≤ MAX_VERSION) → (unwrap_or found first_row).stamp.version ≤ MAX_VERSION
+    within None limit = omega arith
+    within (Some row) limit = limit
 
 -- ---- it suits a read
 content_suits : (stamp : Stamp) (content : Option Content) (answer : Answer) → with_content stamp content ≡ Some answer → answers Read answer ≡ true

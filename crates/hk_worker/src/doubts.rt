@@ -1,5 +1,7 @@
 //! Which nodes are doubted, as workers find it.
 
+ghost use Rattle.std.specs.Prelude.{◌<◌};
+
 use hk_base::{Actor, NodeId};
 use hk_locked::Doubt;
 use std::sync::atomic::{AtomicU64, Ordering};
@@ -17,7 +19,9 @@ pub(crate) struct Doubts {
     told: AtomicU64,
 }
 
-fn place_of(node: NodeId) -> u32 {
+fn place_of(node: NodeId) -> u32
+    ensures { result < 16 }
+{
     u32::from(node.0) % NODES
 }
 
