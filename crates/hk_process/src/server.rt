@@ -177,6 +177,40 @@ fn close(bell: Option<Arc<Bell>>) {
     }
 }
 
+// Serves the connections at a node with these workers and desks.
+fn serve_node<
+    R: Wait + Copy + Send + Sync + Drop + 'static,
+    W: Job,
+    K: Desks + Send + Sync + Drop + 'static,
+    D: Doors,
+    S: Spawner,
+>(
+    rt: R,
+    alloc: Global,
+    workers: Vec<W>,
+    desks: K,
+    outlet: Outlet,
+    ways: Vec<Way>,
+    sending: &mut Sending,
+    process: &Process,
+    doors: &mut D,
+    spawner: &mut S,
+) -> Status
+    requires workers { length workers.items ≡ process.now.workers }
+    requires ways { length ways.items + 1 ≡ process.now.nodes }
+    ensures ends { EndsServe result }
+    ensures done { result ≡ Status.Done → HasTakenBeside (process_jobs process.now) (D.left doors.old) (D.left doors.new) (S.taken spawner.old) (S.taken spawner.new) (S.faults spawner.old) (S.faults spawner.new) process.now.conns }
+    ensures closed { result ≡ Status.Done → D.closed doors.new ≡ true }
+    ensures door_fault { result ≡ Status.DoorFault → Rose (D.faults doors.old) (D.faults doors.new) }
+    ensures spawn_fault { result ≡ Status.SpawnFault → Rose (S.faults spawner.old) (S.faults spawner.new) }
+{
+    let node = NodeId(u16::from(process.id));
+    let guests = new_guests(doors, process);
+    let senders = send_jobs(rt, alloc, doors, process, ways, sending);
+    let house = new_house(rt, alloc, node, outlet, desks, guests);
+    serve_where(&rt, alloc, process, workers, senders, house, doors, spawner)
+}
+
 // Serves the connections, and ends all other loops then: first the workers, so that what they put is sent still.
 fn serve_member<
     P: Places + Send + Sync + 'static,
@@ -208,12 +242,19 @@ fn serve_member<
         ways,
         running,
     } = member;
-    let node = NodeId(u16::from(process.id));
     let bell = shared_bell(&outlet);
-    let guests = new_guests(doors, process);
-    let senders = send_jobs(rt, alloc, doors, process, ways, &mut sending);
-    let house = new_house(rt, alloc, node, outlet, desks, guests);
-    let status = serve_where(&rt, alloc, process, workers, senders, house, doors, spawner);
+    let status = serve_node(
+        rt,
+        alloc,
+        workers,
+        desks,
+        outlet,
+        ways,
+        &mut sending,
+        process,
+        doors,
+        spawner,
+    );
     running.end(&rt);
     close(bell);
     sending.end(&rt);
