@@ -1,10 +1,11 @@
 //! A desk over a table.
 
 ghost use Rattle.std.specs.Prelude.{None};
+ghost use Rattle.hk_base.specs.declared.call.Op.TheVariants.{Read};
 ghost use Rattle.hk_outside.specs.Desk.{Suits};
 
 use hk_base::{Answer, Content, Key, Memory, Op, Why};
-use hk_outside::{Desk, DeskReply};
+use hk_outside::{Desk, DeskReply, NoWait};
 use std::alloc::{AllocError, Global};
 
 // How many keys there is a place for. It is more than the benchmark has.
@@ -94,7 +95,11 @@ fn first_place(key: &[u8]) -> usize {
 }
 
 impl Desk for TableDesk {
+    type Waits = NoWait;
+
     ghost asks = { λ desk. None };
+
+    ghost op_of = { λ waits. Read };
 
     fn ask(&mut self, key: &Key, op: &Op) -> Result<DeskReply, Memory> {
         match op {
@@ -102,5 +107,9 @@ impl Desk for TableDesk {
             Op::Write(content) => self.write(key, content),
             _ => Ok(DeskReply::Told(Answer::Busy(Why::Lease { end: 0, now: 1 }))),
         }
+    }
+
+    fn finish(&mut self, waits: NoWait) -> Result<DeskReply, Memory> {
+        match waits {}
     }
 }

@@ -75,7 +75,6 @@ pub fn serve_each<R: Wait, D: Doors, S: Spawner, K: Desks + Send + Sync + Drop +
         return Status::Memory;
     };
     let clients = Clients {
-        alloc,
         desks,
         group: &group,
     };

@@ -1,7 +1,7 @@
 //! Connections, each served by a job of its own.
 //!
-//! [`serve_each`] starts a job for each connection that comes through open doors. The job makes a desk for the connection ([`Desks`]) and serves the connection
-//! there to its end. When `serve_each` returns, all jobs that it started have ended, so no reply is lost on the way. How it ends, and what shows it, stands in its
+//! [`serve_each`] starts a job for each connection that comes through open doors. The job has a desk made for the connection and serves the connection there to
+//! its end ([`Desks`]). When `serve_each` returns, all jobs that it started have ended, so no reply is lost on the way. How it ends, and what shows it, stands in its
 //! contract; that each job serves its connection, and that it waits for them, no clause says. [`take_each`] is the loop alone, over whatever makes the jobs
 //! ([`Reception`]), and [`next_connection`] what it waits by.
 //!
@@ -19,6 +19,6 @@ mod spawner;
 mod visit;
 
 pub use accept::{next_connection, serve_each, take_each};
-pub use desks::Desks;
+pub use desks::{Desks, serve_at};
 pub use reception::Reception;
 pub use spawner::LooseSpawner;

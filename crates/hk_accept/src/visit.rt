@@ -4,18 +4,12 @@ use crate::desks::Desks;
 use crate::reception::Reception;
 use crossbeam_utils::sync::WaitGroup;
 use hk_base::Memory;
-use hk_conn::serve_connection;
 use hk_outside::{Connection, Job};
-use std::alloc::Global;
 use std::sync::Arc;
 
-// How often one key of one request is asked, while it is busy.
-const PATIENCE: u32 = 64;
-
-/// A connection of a client, which is to be served, and what its desk is made by.
+/// A connection of a client, which is to be served, and what makes its desk.
 #[derive(Drop)]
 pub struct Visit<N: Drop, K: Drop> {
-    alloc: Global,
     conn: N,
     desks: Arc<K>,
     number: u32,
@@ -26,7 +20,6 @@ pub struct Visit<N: Drop, K: Drop> {
 /// Takes clients in: each is served at a desk of its own. All visits are of this group until they are over.
 #[derive(Drop)]
 pub struct Clients<'a, K> {
-    pub alloc: Global,
     pub desks: &'a Arc<K>,
     pub group: &'a WaitGroup,
 }
@@ -40,7 +33,6 @@ impl<'a, N: Connection + Send + Drop + 'static, K: Desks + Send + Sync + Drop + 
         let desks = self.desks.clone()?;
         let group = self.group.clone()?;
         Ok(Visit {
-            alloc: self.alloc,
             conn,
             desks,
             number,
@@ -54,15 +46,12 @@ impl<N: Connection + Send + Drop + 'static, K: Desks + Send + Sync + Drop + 'sta
     // Serves the connection to its end. One for whose desk there is no memory is closed.
     fn run(self) {
         let Visit {
-            alloc,
             mut conn,
             desks,
             number,
             group,
         } = self;
-        if let Ok(mut desk) = desks.desk(number) {
-            serve_connection(alloc, &mut conn, &mut desk, PATIENCE);
-        }
+        desks.serve(&mut conn, number);
         drop(conn);
         drop(group);
     }

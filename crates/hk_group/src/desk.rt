@@ -1,8 +1,9 @@
 //! The desk of one connection.
 
 ghost use Rattle.std.specs.Prelude.{◌≡◌, ◌<◌, None, length};
-ghost use Rattle.hk_outside.specs.Desk.{Suits};
+ghost use Rattle.hk_outside.specs.Desk.{BeginSuits, IsSettled, Suits};
 ghost use Rattle.hk_worker.specs.Reading.{AsksByClock};
+ghost use Rattle.hk_worker.specs.Opening.{BeginsByClock, FinishesAtPost};
 
 use crate::completion::Unheard;
 use crate::load::{Load, MAX_ENTRIES, data_in};
@@ -10,10 +11,10 @@ use crate::reserve::Reserve;
 use hk_base::{Key, Memory, Op};
 use hk_link::Bell;
 use hk_locked::Places;
-use hk_outside::{Clock, Desk, DeskReply};
+use hk_outside::{Begun, Clock, Desk, DeskReply};
 use hk_shard::shard_of;
 use hk_snap::LeaseCell;
-use hk_worker::{Changes, ClockDesk, Patience, Shards};
+use hk_worker::{Changes, ClockDesk, OpenAsk, Patience, Post, Shards};
 use std::sync::{Arc, Wait};
 
 // So long, in milliseconds, a desk waits at least for a lease that serves.
@@ -152,23 +153,90 @@ pub struct GroupDesk<C: Clock + Drop, R: Wait + Drop, P: Places> {
     pub(crate) reserve: Reserve,
 }
 
+// Keeps the lease that an ask needs, and gives whether memory is left for what it brings.
+fn is_ready<C: Clock + Drop, R: Wait, P: Places>(
+    rt: &R,
+    reserve: &mut Reserve,
+    ringing: &mut Ringing<C>,
+    shards: &Shards<Unheard, P>,
+    key: &Key,
+    op: &Op,
+) -> bool {
+    if !reserve.is_left(data_in(op)) {
+        return false;
+    }
+    ringing.keep_lease(rt, shards, key);
+    true
+}
+
+// Counts what was asked, and has the journals begun anew where it is time to look at them.
+fn count<C: Clock + Drop, R: Wait, P: Places>(
+    rt: &R,
+    ringing: &mut Ringing<C>,
+    post: &mut Post<Unheard, P>,
+    op: &Op,
+)
+    ensures { post.new ≡ post.old }
+{
+    if ringing.count(rt, op) {
+        let _ = post.trim(rt, MAX_ENTRIES);
+    }
+}
+
 impl<C: Clock + Drop, R: Wait + Drop, P: Places> Desk for GroupDesk<C, R, P> {
+    type Waits = OpenAsk;
+
     ghost asks = { λ desk. None };
+
+    ghost op_of = { λ waits. waits.op };
 
     #[tactic(auto, using(hk_worker::proofs::Freely::looked_itself))]
     fn ask(&mut self, key: &Key, op: &Op) -> Result<DeskReply, Memory>
         ensures suits { Suits op.now result }
         ensures told { AsksByClock (C.reading self.old.desk.clock.value) key.now op.now self.old.desk.desk.post self.new.desk.desk.post result }
     {
-        if !self.reserve.is_left(data_in(op)) {
+        let shards = self.desk.desk.post.shards();
+        if !is_ready(
+            &self.rt,
+            &mut self.reserve,
+            &mut self.ringing,
+            shards,
+            key,
+            op,
+        ) {
             return Err(Memory);
         }
-        self.ringing
-            .keep_lease(&self.rt, self.desk.desk.post.shards(), key);
         let reply = self.desk.ask(key, op);
-        if self.ringing.count(&self.rt, op) {
-            let _ = self.desk.desk.post.trim(&self.rt, MAX_ENTRIES);
-        }
+        count(&self.rt, &mut self.ringing, &mut self.desk.desk.post, op);
         reply
+    }
+
+    #[tactic(auto, using(hk_worker::proofs::Freely::looked_itself))]
+    fn begin(&mut self, key: &Key, op: &Op) -> Result<Begun<OpenAsk>, Memory>
+        ensures suits { BeginSuits (λ waits. waits.op) op.now result }
+        ensures told { BeginsByClock (C.reading self.old.desk.clock.value) key.now op.now self.old.desk.desk.post self.new.desk.desk.post result }
+    {
+        let shards = self.desk.desk.post.shards();
+        if !is_ready(
+            &self.rt,
+            &mut self.reserve,
+            &mut self.ringing,
+            shards,
+            key,
+            op,
+        ) {
+            return Err(Memory);
+        }
+        let begun = self.desk.begin(key, op);
+        count(&self.rt, &mut self.ringing, &mut self.desk.desk.post, op);
+        begun
+    }
+
+    fn finish(&mut self, waits: OpenAsk) -> Result<DeskReply, Memory>
+        ensures suits { Suits waits.op result }
+        ensures settled { IsSettled result }
+        ensures told { FinishesAtPost waits self.old.desk.desk.post self.new.desk.desk.post result }
+    {
+        self.desk.finish(waits)
     }
 }

@@ -7,11 +7,11 @@ use crate::desk::{GroupDesk, LeaseTerms, Ringing};
 use crate::lines::split_all;
 use crate::load::Load;
 use crate::reserve::Reserve;
-use hk_accept::Desks;
+use hk_accept::{Desks, serve_at};
 use hk_base::{Actor, Memory};
 use hk_link::Outlet;
 use hk_locked::Places;
-use hk_outside::Clock;
+use hk_outside::{Clock, Connection};
 use hk_overseer::Outlets;
 use hk_shard::SHARDS;
 use hk_snap::LeaseCell;
@@ -94,14 +94,8 @@ fn new_post<R: Wait + Drop, C: Drop, P: Places>(
     )
 }
 
-impl<
-    R: Wait + Copy + Send + Sync + Drop + 'static,
-    C: Clock + Send + Sync + Drop + 'static,
-    P: Places + Send + Sync + 'static,
-> Desks for GroupDesks<R, C, P> {
-    type Desk = GroupDesk<C, R, P>;
-
-    // The node is that of the connection's number modulo the number of nodes.
+impl<R: Wait + Copy + Drop, C: Clock + Drop, P: Places> GroupDesks<R, C, P> {
+    // The desk of the connection of this number. Its node is that number modulo the number of nodes.
     fn desk(&self, number: u32) -> Result<GroupDesk<C, R, P>, Memory> {
         let count = self.nodes.len();
         if count == 0 {
@@ -119,5 +113,15 @@ impl<
             ringing,
             reserve: Reserve::new(station.alloc),
         })
+    }
+}
+
+impl<
+    R: Wait + Copy + Send + Sync + Drop + 'static,
+    C: Clock + Send + Sync + Drop + 'static,
+    P: Places + Send + Sync + 'static,
+> Desks for GroupDesks<R, C, P> {
+    fn serve<N: Connection>(&self, conn: &mut N, number: u32) {
+        serve_at(self.station.alloc, conn, self.desk(number));
     }
 }

@@ -8,6 +8,8 @@ use Rattle.hk_base.specs.declared.call.Why.TheVariants.{Lease}
 use Rattle.hk_base.specs.Register.{Register, act}
 use Rattle.hk_outside.specs.declared.desk.Asked.{Asked}
 use Rattle.hk_outside.specs.declared.desk.Asked.TheVariants.{Replied, NoMemory}
+use Rattle.hk_outside.specs.declared.desk.Begun.{Begun}
+use Rattle.hk_outside.specs.declared.desk.Begun.TheVariants as begun
 use Rattle.hk_outside.specs.declared.desk.DeskReply.{DeskReply}
 use Rattle.hk_outside.specs.declared.desk.DeskReply.TheVariants.{Told, Unknown, Spent}
 
@@ -22,6 +24,27 @@ abbrev pub Asks : {E : Type 0} → Option (List Asked) → Option (List Asked) �
 Asks before None key op result = ⊤
 Asks None (Some now) key op result = ⊥
 Asks (Some before) (Some now) key op result = now ≡ before ++ asked_of key op result ∷ []
+
+abbrev pub is_busy : DeskReply → Bool
+is_busy (Told (Busy why)) = true
+is_busy reply = false
+
+-- it is not refused for now
+abbrev pub IsSettled : {E : Type 0} → Result DeskReply E → Type 0
+IsSettled (Ok reply) = is_busy reply ≡ false
+IsSettled (Err e) = ⊤
+
+-- The list of asks after one more began, where the desk tells it: it has this ask at its end, with what it was told, or will be told.
+abbrev pub Begins : {W E : Type 0} → (W → Result DeskReply E) → Option (List Asked) → Option (List Asked) → List ℕ → Op → Result (Begun W) E → Type 0
+Begins {E = E} will before now key op (Ok (begun.Told reply)) = Asks {E = E} before now key op (Ok reply)
+Begins will before now key op (Ok (begun.Waits w)) = Asks before now key op (will w)
+Begins {E = E} will before now key op (Err e) = Asks {E = E} before now key op (Err e)
+
+-- What waits is told what it was to be told, where the desk tells its asks: the list has it already.
+abbrev pub Finishes : {E : Type 0} → Option (List Asked) → Option (List Asked) → Result DeskReply E → Result DeskReply E → Type 0
+Finishes before None will result = ⊤
+Finishes None (Some now) will result = ⊥
+Finishes (Some before) (Some now) will result = (now ≡ before) × (result ≡ will)
 
 -- whether an answer can be one to an operation
 abbrev pub answers : Op → Answer → Bool
@@ -77,6 +100,12 @@ suits op (Spent asks) = true
 abbrev pub Suits : {E : Type 0} → Op → Result DeskReply E → Type 0
 Suits op (Ok reply) = IsTrue (suits op reply)
 Suits op (Err e) = ⊤
+
+-- what is told at once suits the operation; what waits is that operation
+abbrev pub BeginSuits : {W E : Type 0} → (W → Op) → Op → Result (Begun W) E → Type 0
+BeginSuits op_of op (Ok (begun.Told reply)) = IsTrue (suits op reply)
+BeginSuits op_of op (Ok (begun.Waits w)) = op_of w ≡ op
+BeginSuits op_of op (Err e) = ⊤
 
 -- what a desk with a list of replies tells: the first, where it suits; else Busy of a lease that ended at 0, now 1
 abbrev pub next_of : Op → List DeskReply → DeskReply

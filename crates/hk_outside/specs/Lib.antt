@@ -5,3 +5,4 @@ pub mod Records
 pub mod Status
 pub mod First
 pub mod Dialling
+pub mod Late

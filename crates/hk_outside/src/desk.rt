@@ -1,9 +1,15 @@
-//! A desk, which is asked one operation at a time.
+//! A desk, which is asked operations.
 
-ghost use Rattle.std.specs.Prelude.{◌≡◌, ◌++◌, ◌∷◌, [], drop, List, Option, Some, None, true, IfOk, if◌then◌else◌};
-ghost use Rattle.hk_outside.specs.Desk.{ActSuits, Asks, Suits, answers, suits, next_of};
+ghost use Rattle.std.specs.Prelude.{◌≡◌, ◌++◌, ◌∷◌, [], drop, List, Option, Result, Ok, Some, None, true, false, IfOk, if◌then◌else◌};
+ghost use Rattle.hk_base.specs.declared.call.Op.{Op};
+ghost use Rattle.hk_base.specs.declared.memory.Memory.{Memory};
+ghost use Rattle.hk_outside.specs.Desk.{ActSuits, Asks, Begins, BeginSuits, Finishes, IsSettled, Suits, answers, suits, is_busy, next_of};
+ghost use Rattle.hk_outside.specs.Late.{WaitsOrTold};
 ghost use Rattle.hk_outside.specs.declared.desk.Asked.{Asked};
+ghost use Rattle.hk_outside.specs.declared.desk.DeskReply.{DeskReply};
+ghost use Rattle.hk_outside.specs.declared.desk.DeskReply.TheVariants.{Spent};
 
+use crate::wait::FakeWait;
 use hk_base::{Answer, Key, Memory, Op, Why};
 use std::alloc::Global;
 use std::collections::VecDeque;
@@ -26,16 +32,55 @@ pub enum Asked {
     NoMemory,
 }
 
+/// What is told at once of an ask that begins.
+#[derive(Drop)]
+pub enum Begun<W> {
+    /// What it is told.
+    Told(DeskReply),
+    /// It waits: to finish it tells it.
+    Waits(W),
+}
+
 /// What is asked an operation on a key, and tells the outcome.
 pub trait Desk {
-    /// Its asks so far with what it told, the newest last, where it tells them.
+    /// An ask that waits. Each is to be finished: until then its desk may keep something for it.
+    type Waits: Drop;
+
+    /// Its asks so far with what it told or will tell, in the order in which they began, the newest last, where it tells them.
     ghost asks: { Self → Option (List Asked) };
+
+    /// What operation waits.
+    ghost op_of: { Self.Waits → Op };
+
+    /// What an ask that waits will be told, where its desk tells its asks.
+    ghost will: { Self.Waits → Result DeskReply Memory } = { λ _. Ok (Spent 0) };
 
     /// Asks one operation. What is told suits it: an unknown outcome is told of an update alone.
     fn ask(&mut self, key: &Key, op: &Op) -> Result<DeskReply, Memory>
         ensures listed { Asks (asks self.old) (asks self.new) key.now op.now result }
         ensures suits { Suits op.now result };
+
+    /// Begins to ask one operation: others may be asked before it is told. By default it is told at once.
+    fn begin(&mut self, key: &Key, op: &Op) -> Result<Begun<Self::Waits>, Memory>
+        ensures listed { Begins will (asks self.old) (asks self.new) key.now op.now result }
+        ensures suits { BeginSuits op_of op.now result }
+    {
+        match self.ask(key, op) {
+            Ok(reply) => Ok(Begun::Told(reply)),
+            Err(memory) => Err(memory),
+        }
+    }
+
+    /// Tells an ask that waits. It is not Busy: what waits has begun.
+    fn finish(&mut self, waits: Self::Waits) -> Result<DeskReply, Memory>
+        ensures listed { Finishes (asks self.old) (asks self.new) (will waits) result }
+        ensures settled { IsSettled result }
+        ensures suits { Suits (op_of waits) result };
 }
+
+/// What waits at a desk at which nothing does.
+#[derive(Drop)]
+pub enum NoWait {}
 
 impl DeskReply {
     /// The same reply, which shares the bytes.
@@ -102,18 +147,21 @@ pub struct FakeDesk {
     pub asked: Vec<Asked>,
     /// Whether every ask so far stands in the list.
     pub complete: bool,
+    /// Whether what begins waits, unless it is told Busy or there is no memory.
+    pub late: bool,
 }
 
 impl FakeDesk {
     /// A desk with these replies, and room for so many asks.
     pub fn new(alloc: Global, replies: VecDeque<DeskReply>, room: usize) -> Result<FakeDesk, Memory>
-        ensures { IfOk result (λ desk. (desk.replies ≡ replies) × (desk.asked.items ≡ []) × (desk.complete ≡ true)) }
+        ensures { IfOk result (λ desk. (desk.replies ≡ replies) × (desk.asked.items ≡ []) × (desk.complete ≡ true) × (desk.late ≡ false)) }
     {
         let asked = Vec::with_capacity(alloc, room)?;
         Ok(FakeDesk {
             replies,
             asked,
             complete: true,
+            late: false,
         })
     }
 
@@ -153,8 +201,34 @@ fn replied(key: &Key, op: &Op, reply: &DeskReply) -> Result<Asked, Memory>
     Ok(Asked::Replied { key, op, reply })
 }
 
+fn is_busy(reply: &DeskReply) -> bool
+    ensures { result ≡ is_busy reply.now }
+{
+    matches!(reply, DeskReply::Told(Answer::Busy(_)))
+}
+
+// What was told waits, where the desk is late, unless it is Busy.
+fn waits(late: bool, op: Op, reply: DeskReply) -> Begun<FakeWait>
+    requires { suits op reply ≡ true }
+    ensures { WaitsOrTold op reply result }
+{
+    if !late {
+        return Begun::Told(reply);
+    }
+    if is_busy(&reply) {
+        return Begun::Told(reply);
+    }
+    Begun::Waits(FakeWait { op, reply })
+}
+
 impl Desk for FakeDesk {
+    type Waits = FakeWait;
+
     ghost asks = { λ desk. if desk.complete then Some desk.asked.items else None };
+
+    ghost op_of = { λ waits. waits.op };
+
+    ghost will = { λ waits. Ok waits.reply };
 
     fn ask(&mut self, key: &Key, op: &Op) -> Result<DeskReply, Memory> {
         let reply = self.next(op);
@@ -168,5 +242,20 @@ impl Desk for FakeDesk {
                 Err(Memory)
             }
         }
+    }
+
+    fn begin(&mut self, key: &Key, op: &Op) -> Result<Begun<FakeWait>, Memory> {
+        let Ok(shared) = op.share() else {
+            self.note(Asked::NoMemory);
+            return Err(Memory);
+        };
+        match self.ask(key, op) {
+            Ok(reply) => Ok(waits(self.late, shared, reply)),
+            Err(memory) => Err(memory),
+        }
+    }
+
+    fn finish(&mut self, waits: FakeWait) -> Result<DeskReply, Memory> {
+        Ok(waits.reply)
     }
 }

@@ -23,9 +23,10 @@ mod status;
 mod stream;
 mod tcp;
 mod threads;
+mod wait;
 
 pub use clock::{Clock, HandClock, SteadyClock};
-pub use desk::{Asked, Desk, DeskReply, FakeDesk, act_suits, answers, suits};
+pub use desk::{Asked, Begun, Desk, DeskReply, FakeDesk, NoWait, act_suits, answers, suits};
 pub use dial::{Dial, MemoryDialer, NoDialer};
 pub use doors::{Doors, MemoryDoors};
 pub use memory::{MemoryConnection, MemorySink, MemorySource, SureSink, SureSource};
@@ -36,3 +37,4 @@ pub use status::Status;
 pub use stream::{Connection, Failed, Sink, Source, write_all};
 pub use tcp::{TcpConnection, TcpDialer, TcpDoors};
 pub use threads::{Job, NoSpawner, Refusal, Spawner, ThreadSpawner};
+pub use wait::FakeWait;

@@ -7,7 +7,6 @@ use crate::guests::{Guests, Knock};
 use crossbeam_utils::sync::WaitGroup;
 use hk_accept::{Desks, Reception};
 use hk_base::{Memory, NodeId};
-use hk_conn::serve_connection;
 use hk_link::Outlet;
 use hk_outside::{Connection, Job, Primed, Source};
 use hk_peer::serve_peer;
@@ -16,9 +15,6 @@ use std::sync::{Arc, Mutex, Wait};
 
 // The first byte of each frame. No request of a client begins with it.
 const FRAME: u8 = 0;
-
-// How often one key of one request is asked, while it is busy.
-const PATIENCE: u32 = 64;
 
 /// The node that is visited, and what all its visits share.
 #[derive(Drop)]
@@ -124,9 +120,7 @@ impl<
         if house.guests.admit(&house.rt) {
             if let Some(first) = first {
                 let mut primed = Primed::new(first, conn);
-                if let Ok(mut desk) = house.desks.desk(number) {
-                    serve_connection(house.alloc, &mut primed, &mut desk, PATIENCE);
-                }
+                house.desks.serve(&mut primed, number);
                 drop(primed);
             }
             house.guests.part(&house.rt);

@@ -2,11 +2,11 @@
 
 use crate::failing::FailingDoors;
 use crate::meeting::{Meeting, Seen};
-use hk_accept::{Desks, serve_each};
+use hk_accept::{Desks, serve_at, serve_each};
 use hk_base::{Answer, Memory};
 use hk_outside::{
-    DeskReply, FakeDesk, MemoryConnection, MemoryDoors, MemorySink, MemorySource, NoSpawner,
-    Status, ThreadSpawner,
+    Connection, DeskReply, FakeDesk, MemoryConnection, MemoryDoors, MemorySink, MemorySource,
+    NoSpawner, Status, ThreadSpawner,
 };
 use std::alloc::Global;
 use std::collections::VecDeque;
@@ -21,9 +21,13 @@ struct Storing {
 }
 
 impl Desks for Storing {
-    type Desk = FakeDesk;
+    fn serve<N: Connection>(&self, conn: &mut N, _number: u32) {
+        serve_at(self.alloc, conn, self.desk());
+    }
+}
 
-    fn desk(&self, _number: u32) -> Result<FakeDesk, Memory> {
+impl Storing {
+    fn desk(&self) -> Result<FakeDesk, Memory> {
         let mut replies = VecDeque::new(self.alloc);
         replies.push_back(DeskReply::Told(Answer::Stored))?;
         FakeDesk::new(self.alloc, replies, 0)

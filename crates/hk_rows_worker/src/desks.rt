@@ -10,7 +10,7 @@ use hk_base::{Answer, Key, Op, Stamp, State, Why};
 use hk_journal::{Journal, JournalEntry};
 use hk_locked::Places;
 use hk_node::NodeEvent;
-use hk_outside::{Desk, DeskReply};
+use hk_outside::{Begun, Desk, DeskReply};
 use hk_worker::{Founded, Shards};
 use std::alloc::Global;
 use std::marker::Brand;
@@ -133,4 +133,42 @@ fn a_tag_that_was_told_serves_the_next_update(rt: HostRuntime) {
     let alloc = rt.alloc();
     let founded = found(&rt, alloc, false);
     stored_by_tag::<HostRuntime, Brand>(rt, alloc, founded);
+}
+
+// What a write that begins comes to.
+fn begun<R: Abort, D: Desk>(rt: &R, alloc: Global, desk: &mut D, key: &Key) -> Begun<D::Waits> {
+    let write = Op::Write(content(rt, alloc, b"1"));
+    desk.begin(key, &write).expect(rt, "memory")
+}
+
+// Whether it waits, and is told as unknown in the end.
+fn ends_unknown<R: Abort, D: Desk>(rt: &R, desk: &mut D, begun: Begun<D::Waits>) -> bool {
+    match begun {
+        Begun::Told(_) => false,
+        Begun::Waits(waits) => desk.finish(waits).expect(rt, "memory")
+            == DeskReply::Unknown { turns: 100_000 },
+    }
+}
+
+// A write that waits for a node which hears nothing holds up no other key.
+fn two_wait<R: Wait + Abort + Copy + Drop, P: Places>(rt: R, alloc: Global, founded: Founded)
+    requires { node_names P.places founded.node ≡ names_of founded }
+{
+    let shards: Arc<Shards<Quiet, P>> = Arc::new(alloc, founded.named()).expect(&rt, "memory");
+    let mut desk = desk(rt, alloc, &shards, 1);
+    let first = key(&rt, alloc);
+    let second = Key::read(alloc, b"other").expect(&rt, "a key");
+    let third = Key::read(alloc, b"third").expect(&rt, "a key");
+    let first = begun(&rt, alloc, &mut desk, &first);
+    let second = begun(&rt, alloc, &mut desk, &second);
+    assert!(rt; asked(&rt, &mut desk, &third, Op::Read) == DeskReply::Told(Answer::Missing));
+    assert!(rt; ends_unknown(&rt, &mut desk, second));
+    assert!(rt; ends_unknown(&rt, &mut desk, first));
+}
+
+#[test]
+fn updates_wait_beside_each_other(rt: HostRuntime) {
+    let alloc = rt.alloc();
+    let founded = found(&rt, alloc, true);
+    two_wait::<HostRuntime, Brand>(rt, alloc, founded);
 }

@@ -1,5 +1,5 @@
 -- What an ask tells is told too from before a look that came first.
-use Rattle.std.proofs.Common.{◌≡◌, inl, inr, ℕ, ◌+◌, ◌-◌, ◌≤◌, min, List, ◌∷◌, ◌++◌, Option, Some, None, true, Result, Ok, Err, sym, ap, ◌∙◌, subst, arith, append_assoc, le_trans}
+use Rattle.std.proofs.Common.{◌≡◌, inl, inr, ℕ, ◌+◌, ◌-◌, ◌≤◌, min, List, ◌∷◌, ◌++◌, Option, Some, None, true, Result, Ok, Err, sym, ap, ◌∙◌, subst, arith, append_assoc, le_refl, le_trans}
 use Rattle.std.specs.Option.{IfSome}
 use mathlib.Core.List.{IsPrefix}
 use Rattle.hk_base.specs.declared.time.TheConstants.{MAX_TIME}
@@ -19,6 +19,10 @@ use Rattle.hk_locked.specs.Steps.{end_at, IsGrown}
 use Rattle.hk_locked.proofs.Reading.{grown_on}
 use Rattle.hk_worker.specs.Asking.{PostState, Tells, HasAsked, AsksAtPost, call_number, reader_of}
 use Rattle.hk_worker.specs.Reading.{HasLooked, HasAskedByClock, AsksByClock}
+use Rattle.hk_outside.specs.declared.desk.Begun.{Begun as DeskBegun}
+use Rattle.hk_worker.specs.declared.opening.OpenAsk.{OpenAsk}
+use Rattle.hk_outside.specs.declared.desk.Begun.TheVariants as opened
+use Rattle.hk_worker.specs.Opening.{BeginsAtPost, BeginsByClock}
 
 -- ---- what is shown
 module _ (old first grown : List Publication) (call : CallNo) (key : List ℕ) (op : Op) where
@@ -130,7 +134,16 @@ module _ (reading : Option ℕ) (value : ℕ) (key : List ℕ) (op : Op) (old mi
   asks_by_clock (Ok (Spent asks)) h = (sym l.asks ∙ h.0, h.1, subst (HasLooked key old) (sym h.2) l)
   asks_by_clock (Err e) h = inr (asked_earlier key old mid new l h)
 
+  pub begins_by_clock : {E : Type 0} (result : Result (DeskBegun OpenAsk) E) → BeginsAtPost key op mid new result → BeginsByClock reading key op old new result
+  begins_by_clock {E = E} (Ok (opened.Told reply)) h = asks_by_clock {E = E} (Ok reply) h
+  begins_by_clock (Ok (opened.Waits w)) h = (mid, l, risen reading value (reader_of key mid).lease.now (reader_of key mid).lease.now told above (le_refl (reader_of key mid).lease.now), h)
+  begins_by_clock (Err e) h = asks_by_clock (Err e) h
+
 -- where no memory was found for the tick
 pub fails_by_clock : {E : Type 0} (reading : Option ℕ) (key : List ℕ) (op : Op) (old new : PostState) (fault : E) (result : Result DeskReply E) → result ≡ Err fault → HasLooked key old new
     → AsksByClock reading key op old new result
 fails_by_clock reading key op old new fault result is looked = subst (AsksByClock reading key op old new) (sym is) (inl looked)
+
+pub begin_fails_by_clock : {E : Type 0} (reading : Option ℕ) (key : List ℕ) (op : Op) (old new : PostState) (fault : E) (result : Result (DeskBegun OpenAsk) E) → result ≡ Err fault → HasLooked key old new
+    → BeginsByClock reading key op old new result
+begin_fails_by_clock reading key op old new fault result is looked = subst (BeginsByClock reading key op old new) (sym is) (inl looked)

@@ -18,6 +18,10 @@ use Rattle.hk_locked.specs.Steps.{IsGrown}
 use Rattle.hk_worker.specs.Moments.{WasCalled}
 use Rattle.hk_worker.specs.Asking.{Tells, PostState, no_reader, reader_of, IsReaderOf, AreReadersBelow, call_number}
 use Rattle.hk_worker.specs.Reading.{HasLooked}
+use Rattle.hk_outside.specs.declared.desk.Begun.{Begun}
+use Rattle.hk_worker.specs.declared.opening.OpenAsk.{OpenAsk}
+use Rattle.hk_outside.specs.declared.desk.Begun.TheVariants as opened
+use Rattle.hk_worker.specs.Opening.{OpensAt, BeginSends, BeginSendsByClock}
 use Rattle.hk_worker.specs.Sending.{SendsCall, SendsOrFails, SendsNextCall, Sends, SendsByClock}
 use Rattle.hk_worker.proofs.Earlier.{number_earlier}
 use Rattle.hk_worker.proofs.Placed.{called_earlier}
@@ -78,6 +82,19 @@ module _ (places : List NodeNames) (key : List ℕ) (op : Op) (call : CallNo) (o
       → SendsOrFails places before.node before.number call key op before r old.outlets new.outlets result → Sends places key op now new result
   sends_at_post now new result same made tells sends = subst (λ (p : PostState). Sends places key op p new result) same (at_reply new result made tells sends)
 
+  at_opened : {E : Type 0} (new : PostState) (result : Result (Begun OpenAsk) E) → new.readers ≡ slice_set old.readers i r → IfOk result (λ o. OpensAt call key op before r o)
+      → SendsOrFails places before.node before.number call key op before r old.outlets new.outlets result → BeginSends places key op old new result
+  at_opened new (Ok (opened.Told (Told answer))) made t s = next new made s
+  at_opened new (Ok (opened.Told (Unknown turns))) made t s = absurd t
+  at_opened new (Ok (opened.Told (Spent asks))) made t s = absurd t
+  at_opened new (Ok (opened.Waits w)) made t s = next new made s
+  at_opened new (Err e) made t (inl s) = inl (next new made s)
+  at_opened new (Err e) made t (inr same) = inr same
+
+  pub begin_sends_at_post : {E : Type 0} (now new : PostState) (result : Result (Begun OpenAsk) E) → old ≡ now → new.readers ≡ slice_set old.readers i r → IfOk result (λ o. OpensAt call key op before r o)
+      → SendsOrFails places before.node before.number call key op before r old.outlets new.outlets result → BeginSends places key op now new result
+  begin_sends_at_post now new result same made opens sends = subst (λ (p : PostState). BeginSends places key op p new result) same (at_opened new result made opens sends)
+
 -- ---- by a clock
 module _ (places : List NodeNames) (key : List ℕ) (op : Op) (old mid new : PostState) (l : HasLooked key old mid) where
   from_first : (shard : ℕ) (call : CallNo) → SendsCall places old.node shard call key op (reader_of key mid) (reader_of key new) old.outlets new.outlets
@@ -103,7 +120,19 @@ module _ (places : List NodeNames) (key : List ℕ) (op : Op) (old mid new : Pos
   sends_by_clock (Err e) (inl s) = inl (earlier s)
   sends_by_clock (Err e) (inr same) = inr (same ∙ l.outlets)
 
+  pub begin_sends_by_clock : {E : Type 0} (result : Result (Begun OpenAsk) E) → BeginSends places key op mid new result → BeginSendsByClock places key op old new result
+  begin_sends_by_clock (Ok (opened.Told (Told answer))) s = inl (earlier s)
+  begin_sends_by_clock (Ok (opened.Told (Unknown turns))) s = earlier s
+  begin_sends_by_clock (Ok (opened.Told (Spent asks))) same = same ∙ l.outlets
+  begin_sends_by_clock (Ok (opened.Waits w)) s = earlier s
+  begin_sends_by_clock (Err e) (inl s) = inl (earlier s)
+  begin_sends_by_clock (Err e) (inr same) = inr (same ∙ l.outlets)
+
 -- what was looked at only sends nothing
 pub failed_sends_nothing : {E : Type 0} (places : List NodeNames) (key : List ℕ) (op : Op) (old new : PostState) (fault : E) (result : Result DeskReply E) → result ≡ Err fault → HasLooked key old new
     → SendsByClock places key op old new result
 failed_sends_nothing places key op old new fault result is l = subst (SendsByClock places key op old new) (sym is) (inr l.outlets)
+
+pub failed_begin_sends_nothing : {E : Type 0} (places : List NodeNames) (key : List ℕ) (op : Op) (old new : PostState) (fault : E) (result : Result (Begun OpenAsk) E) → result ≡ Err fault → HasLooked key old new
+    → BeginSendsByClock places key op old new result
+failed_begin_sends_nothing places key op old new fault result is l = subst (BeginSendsByClock places key op old new) (sym is) (inr l.outlets)

@@ -8,15 +8,17 @@ ghost use Rattle.hk_locked.specs.Makes.{CallsAt};
 ghost use Rattle.hk_locked.specs.Steps.{IsGrown, IsLeft, StartsAt, LooksFor};
 ghost use Rattle.hk_worker.specs.Moments.{WasCalled};
 ghost use Rattle.hk_worker.specs.Asking.{LooksOften, Tells};
+ghost use Rattle.hk_worker.specs.Opening.{FinishesAt, OpensAt, OpenedSuits};
 ghost use Rattle.hk_worker.specs.Sending.{SendsOrFails};
 
+use crate::opening::OpenAsk;
 use crate::shards::Shards;
 use crate::waiting::{ANSWER, Patience, SETTLE, wait_for};
 use hk_base::{Actor, Answer, CallNo, Key, Memory, Op};
 use hk_callback::Completion;
 use hk_link::Outlet;
 use hk_locked::{LockedShard, Places, ShardReader, Started};
-use hk_outside::DeskReply;
+use hk_outside::{Begun, DeskReply};
 use hk_overseer::send_all;
 use hk_told::AskState;
 use std::alloc::Global;
@@ -216,6 +218,59 @@ pub(crate) fn ask<F: Completion + Copy + Drop, P: Places, R: Wait>(
     if let Some(answer) = answer {
         return Ok(DeskReply::Told(answer));
     }
+    if let Some(answer) = wait(rt, shards, reader, key, call, ticket)? {
+        return Ok(DeskReply::Told(answer));
+    }
+    give_up(rt, shards, shard, call);
+    Ok(DeskReply::Unknown { turns: TURNS })
+}
+
+/// Begins to ask an operation: waits a while until the key is Valid, makes the call and sends its letters.
+pub(crate) fn begin_ask<F: Completion + Copy + Drop, P: Places, R: Wait>(
+    rt: &R,
+    alloc: Global,
+    shards: &Shards<F, P>,
+    reader: &mut ShardReader<P>,
+    outlets: &mut Vec<(Actor, Outlet)>,
+    call: CallNo,
+    key: &Key,
+    op: &Op,
+    tell: F,
+) -> Result<Begun<OpenAsk>, Memory>
+    requires { reader.old.number < 8 }
+    ensures opens { IfOk result (λ opened. OpensAt call key.now op.now reader.old reader.new opened) }
+    ensures suits { OpenedSuits op.now result }
+    ensures sent { SendsOrFails P.places reader.old.node reader.old.number call key.now op.now reader.old reader.new outlets.old.items outlets.new.items result }
+    ensures grown { IsGrown key.now reader.old reader.new }
+{
+    let waits = OpenAsk::new(key, op, call)?;
+    let number = reader.number();
+    let started = begin(rt, alloc, shards, reader, call, key, op, tell)?;
+    let Started {
+        ticket,
+        answer,
+        letters,
+    } = started;
+    send_all(rt, outlets, number, letters);
+    match answer {
+        Some(answer) => Ok(Begun::Told(DeskReply::Told(answer))),
+        None => Ok(Begun::Waits(waits.under(ticket))),
+    }
+}
+
+/// Looks until an update that waits was told.
+pub(crate) fn finish_ask<F: Completion + Copy + Drop, P: Places, R: Wait>(
+    rt: &R,
+    shards: &Shards<F, P>,
+    reader: &mut ShardReader<P>,
+    key: &Key,
+    call: CallNo,
+    ticket: u64,
+) -> Result<DeskReply, Memory>
+    ensures finishes { IfOk result (λ reply. FinishesAt key.now ticket reader.old reader.new reply) }
+    ensures grown { IsGrown key.now reader.old reader.new }
+{
+    let shard = reader.number();
     if let Some(answer) = wait(rt, shards, reader, key, call, ticket)? {
         return Ok(DeskReply::Told(answer));
     }

@@ -5,18 +5,20 @@ ghost use Rattle.std.specs.Arc.{arc_value};
 ghost use Rattle.std.specs.Option.{IfSome};
 ghost use Rattle.hk_base.specs.declared.call.Op.TheVariants.{Read};
 ghost use Rattle.hk_base.specs.declared.time.TheConstants.{MAX_TIME};
-ghost use Rattle.hk_outside.specs.Desk.{Suits, answers};
+ghost use Rattle.hk_outside.specs.Desk.{BeginSuits, IsSettled, Suits, answers};
 ghost use Rattle.hk_worker.specs.Asking.{reader_of};
 ghost use Rattle.hk_worker.specs.Reading.{AsksByClock, HasLooked, TellsRead};
 ghost use Rattle.hk_worker.specs.Sending.{SendsByClock};
+ghost use Rattle.hk_worker.specs.Opening.{BeginsByClock, BeginSendsByClock, FinishesAtPost, OpenedSuits};
 
 use crate::desk::NodeDesk;
+use crate::opening::OpenAsk;
 use crate::post::Post;
 use crate::reading::{look, raise};
 use hk_base::{Answer, Key, MAX_TIME, Memory, Op};
 use hk_callback::Completion;
 use hk_locked::Places;
-use hk_outside::{Clock, Desk, DeskReply};
+use hk_outside::{Begun, Clock, Desk, DeskReply};
 use hk_shard::shard_of;
 use std::sync::{Arc, Wait};
 
@@ -100,6 +102,26 @@ impl<F: Completion + Copy + Drop, P: Places> Post<F, P> {
         self.raise(rt, key, reading)?;
         self.ask(rt, key, op)
     }
+
+    /// Begins to ask one operation by a clock, as `ask_by` asks it. An update may wait, and others may be asked before it is finished.
+    pub fn begin_by<C: Clock, R: Wait>(
+        &mut self,
+        rt: &R,
+        clock: &C,
+        key: &Key,
+        op: &Op,
+    ) -> Result<Begun<OpenAsk>, Memory>
+        ensures suits { OpenedSuits op.now result }
+        ensures told { BeginsByClock (C.reading clock.now) key.now op.now self.old self.new result }
+        ensures sent { BeginSendsByClock P.places key.now op.now self.old self.new result }
+    {
+        if let Some(answer) = self.read(rt, clock, key, op)? {
+            return Ok(Begun::Told(DeskReply::Told(answer)));
+        }
+        let reading = clock.now();
+        self.raise(rt, key, reading)?;
+        self.begin(rt, key, op)
+    }
 }
 
 /// Asks operations at the post of a [`NodeDesk`], with a clock. A read is told from what the shard of its key shows, with no lock, where that shows the key's
@@ -126,7 +148,11 @@ impl<C: Clock + Drop, R: Wait + Drop, F: Completion + Copy + Drop, P: Places> Cl
 
 impl<C: Clock + Drop, R: Wait + Drop, F: Completion + Copy + Drop, P: Places> Desk
     for ClockDesk<C, R, F, P> {
+    type Waits = OpenAsk;
+
     ghost asks = { λ desk. None };
+
+    ghost op_of = { λ waits. waits.op };
 
     fn ask(&mut self, key: &Key, op: &Op) -> Result<DeskReply, Memory>
         ensures suits { Suits op.now result }
@@ -134,5 +160,21 @@ impl<C: Clock + Drop, R: Wait + Drop, F: Completion + Copy + Drop, P: Places> De
         ensures sent { SendsByClock P.places key.now op.now self.old.desk.post self.new.desk.post result }
     {
         self.desk.ask_by(&*self.clock, key, op)
+    }
+
+    fn begin(&mut self, key: &Key, op: &Op) -> Result<Begun<OpenAsk>, Memory>
+        ensures suits { BeginSuits (λ waits. waits.op) op.now result }
+        ensures told { BeginsByClock (C.reading (arc_value self.old.clock)) key.now op.now self.old.desk.post self.new.desk.post result }
+        ensures sent { BeginSendsByClock P.places key.now op.now self.old.desk.post self.new.desk.post result }
+    {
+        self.desk.begin_by(&*self.clock, key, op)
+    }
+
+    fn finish(&mut self, waits: OpenAsk) -> Result<DeskReply, Memory>
+        ensures suits { Suits waits.op result }
+        ensures settled { IsSettled result }
+        ensures told { FinishesAtPost waits self.old.desk.post self.new.desk.post result }
+    {
+        self.desk.finish(waits)
     }
 }

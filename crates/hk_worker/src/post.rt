@@ -1,21 +1,23 @@
 //! A thread's place at the shards of a node.
 
-ghost use Rattle.std.specs.Prelude.{◌≡◌, ◌<◌, ◌≤◌, ◌^◌, ℕ, true, length, IsTrue, IfOk, OnOk, OnErr};
+ghost use Rattle.std.specs.Prelude.{◌≡◌, ◌<◌, ◌≤◌, ◌^◌, ℕ, true, length, IsTrue, Ok, IfOk, OnOk, OnErr};
 ghost use Rattle.hk_base.specs.declared.time.TheConstants.{MAX_TIME};
-ghost use Rattle.hk_outside.specs.Desk.{Suits};
+ghost use Rattle.hk_outside.specs.Desk.{IsSettled, Suits, is_busy};
 ghost use Rattle.hk_worker.specs.Asking.{AsksAtPost, AreReadersBelow, HaveTicked, HaveAsked, AsksBy, IsTicked, call_number};
 ghost use Rattle.std.specs.Arc.{arc_value};
 ghost use Rattle.hk_turns.specs.Requests.{requests_in};
 ghost use Rattle.hk_worker.specs.Sending.{Sends};
+ghost use Rattle.hk_worker.specs.Opening.{BeginsAtPost, BeginSends, FinishesAtPost, OpenedSuits};
 ghost use Rattle.hk_worker.specs.Working.{HasWorked, WereQuietBelow};
 
-use crate::asking::ask;
+use crate::asking::{ask, begin_ask, finish_ask};
+use crate::opening::OpenAsk;
 use crate::shards::Shards;
-use hk_base::{Actor, CallNo, Key, MAX_TIME, Memory, NodeId, Op};
+use hk_base::{Actor, Answer, CallNo, Key, MAX_TIME, Memory, NodeId, Op};
 use hk_callback::Completion;
 use hk_link::Outlet;
 use hk_locked::{Doubt, Places, ShardReader};
-use hk_outside::DeskReply;
+use hk_outside::{Begun, DeskReply, suits};
 use hk_overseer::{Gate, Outlets};
 use hk_shard::{SHARDS, shard_of};
 use hk_turns::{Inlets, Worker};
@@ -137,6 +139,51 @@ impl<F: Completion + Copy + Drop, P: Places> Post<F, P> {
         )
     }
 
+    /// Begins to ask one operation. It is told at once, or its update waits, and others may be asked before it is finished. Just the letters of the call's step are sent.
+    pub fn begin<R: Wait>(&mut self, rt: &R, key: &Key, op: &Op) -> Result<Begun<OpenAsk>, Memory>
+        ensures suits { OpenedSuits op.now result }
+        ensures told { BeginsAtPost key.now op.now self.old self.new result }
+        ensures sent { BeginSends P.places key.now op.now self.old self.new result }
+    {
+        if self.asks == u32::MAX {
+            return Ok(Begun::Told(DeskReply::Spent {
+                asks: u64::from(self.asks),
+            }));
+        }
+        self.asks += 1;
+        let call = call_number(self.number, self.asks);
+        let shard = usize::from(shard_of(key));
+        begin_ask(
+            rt,
+            self.alloc,
+            &self.shards,
+            &mut self.readers[shard],
+            &mut self.outlets,
+            call,
+            key,
+            op,
+            self.tell,
+        )
+    }
+
+    /// Looks until an update that waits was told. What is told is shown by what the post's reader of the key's shard has seen. Nothing is sent.
+    pub fn finish<R: Wait>(&mut self, rt: &R, waits: OpenAsk) -> Result<DeskReply, Memory>
+        ensures suits { Suits waits.op result }
+        ensures settled { IsSettled result }
+        ensures told { FinishesAtPost waits self.old self.new result }
+    {
+        let shard = usize::from(shard_of(&waits.key));
+        let told = finish_ask(
+            rt,
+            &self.shards,
+            &mut self.readers[shard],
+            &waits.key,
+            waits.call,
+            waits.ticket,
+        );
+        fitting(&waits.op, told)
+    }
+
     /// Raises the clocks of all shards to a reading. One above the limit counts as the limit. Where the reading is above all that the post ticked to before, each
     /// shard that has then less than half left of the time for which a lease serves is to ask each of its managers for one. After `Memory` the shards before the refused one have it.
     pub fn tick<R: Wait>(&mut self, rt: &R, now: u64) -> Result<(), Memory>
@@ -214,6 +261,32 @@ impl<F: Completion + Copy + Drop, P: Places> Post<F, P> {
             self.shards.trim(rt, self.alloc, shard, entries)?;
         }
         Ok(())
+    }
+}
+
+fn is_busy(reply: &DeskReply) -> bool
+    ensures { result ≡ is_busy reply.now }
+{
+    matches!(reply, DeskReply::Told(Answer::Busy(_)))
+}
+
+// What was told, where it suits the operation and is not Busy. Nothing else can be told of an update that waited.
+fn fitting(op: &Op, told: Result<DeskReply, Memory>) -> Result<DeskReply, Memory>
+    ensures suits { Suits op.now result }
+    ensures settled { IsSettled result }
+    ensures same { IfOk result (λ reply. told ≡ Ok reply) }
+{
+    match told {
+        Ok(reply) => {
+            if !suits(op, &reply) {
+                return Err(Memory);
+            }
+            if is_busy(&reply) {
+                return Err(Memory);
+            }
+            Ok(reply)
+        }
+        Err(memory) => Err(memory),
     }
 }
 
