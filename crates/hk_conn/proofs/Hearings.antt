@@ -6,7 +6,7 @@ use Rattle.hk_outside.specs.Desk.{Asks}
 use Rattle.hk_outside.specs.declared.desk.Asked.{Asked}
 use Rattle.hk_outside.specs.declared.desk.DeskReply.{DeskReply}
 use Rattle.hk_conn.specs.Heard.{AsksMore}
-use Rattle.hk_conn.specs.Asking.{with_asks, told, Hears}
+use Rattle.hk_conn.specs.Asking.{with_asks, told, Hears, HearsOn}
 use Rattle.hk_conn.specs.Heard.{told_of, ask_of, heard, is_busy, with_ask}
 
 pub map_append : (xs ys : List Asked) → map told_of (xs ++ ys) ≡ map told_of xs ++ map told_of ys
@@ -29,7 +29,7 @@ asks_one None (Some y) key o r h = absurd h
 asks_one (Some x) (Some y) key o (Ok r) h = h
 asks_one (Some x) (Some y) key o (Err e) h = h
 
-told_ask : (key : List ℕ) (o : Op) (t : Option DeskReply) → told_of (ask_of key o t) ≡ t
+pub told_ask : (key : List ℕ) (o : Op) (t : Option DeskReply) → told_of (ask_of key o t) ≡ t
 told_ask key o None = refl
 told_ask key o (Some r) = refl
 
@@ -65,4 +65,22 @@ hearing_goes_on most more fewer a b c key o t s h g e = record {
   hears = λ later.
       let again : heard more key o (t ∷ later) ≡ with_ask (ask_of key o t) (heard fewer key o later) = rw (sym s) (heard_again fewer key o t later e) in
       rw (map_append h.made (ask_of key o t ∷ []), told_ask key o t, append_assoc (map told_of h.made) (t ∷ []) later, h.hears (t ∷ later), again) (ap (λ xs. record (heard fewer key o later) { asks = xs }) (sym (append_assoc h.made (ask_of key o t ∷ []) (heard fewer key o later).asks)));
+}
+
+-- ---- behind a first ask
+pub hears_first : (more : ℕ) (a : Option (List Asked)) (key : List ℕ) (o : Op) (t : Option DeskReply) → (0 < more → is_busy t ≡ false) → HearsOn more a a key o t t
+hears_first more a key o t e = record { made = []; grown = asks_none a; hears = λ later. heard_end more key o t later e }
+
+pub hears_again : (more fewer : ℕ) (a b : Option (List Asked)) (key : List ℕ) (o : Op) (t last : Option DeskReply) → suc fewer ≡ more → is_busy t ≡ true → Hears fewer a b key o last → HearsOn more a b key o t last
+hears_again more fewer a b key o t last s e h = rw (sym s) (record {
+  made = h.made;
+  grown = h.grown;
+  hears = λ later. rw (heard_again fewer key o t (map told_of h.made ++ later) e, h.hears later) refl;
+})
+
+pub hears_joined : (more : ℕ) (a b c : Option (List Asked)) (key : List ℕ) (o : Op) (t last : Option DeskReply) → AsksMore a b (ask_of key o t ∷ []) → HearsOn more b c key o t last → Hears more a c key o last
+hears_joined more a b c key o t last g h = record {
+  made = ask_of key o t ∷ h.made;
+  grown = asks_more a b c (ask_of key o t ∷ []) h.made g h.grown;
+  hears = λ later. rw (told_ask key o t) (h.hears later);
 }

@@ -1,9 +1,9 @@
 -- What the code hears, beside what is heard.
-use Rattle.std.specs.Prelude.{◌≡◌, ℕ, List, ◌++◌, map, Option, None, Some, Result, Ok, Err}
+use Rattle.std.specs.Prelude.{◌≡◌, ℕ, List, ◌∷◌, ◌++◌, map, Option, None, Some, Result, Ok, Err}
 use Rattle.hk_base.specs.declared.call.Op.{Op}
 use Rattle.hk_outside.specs.declared.desk.Asked.{Asked}
 use Rattle.hk_outside.specs.declared.desk.DeskReply.{DeskReply}
-use Rattle.hk_conn.specs.Heard.{AsksMore, told_of, heard, Hearing}
+use Rattle.hk_conn.specs.Heard.{AsksMore, told_of, ask_of, heard, Hearing}
 
 abbrev pub told : {E : Type 0} → Result DeskReply E → Option DeskReply
 told (Ok r) = Some r
@@ -17,3 +17,9 @@ pub record Hears (more : ℕ) (asks asks' : Option (List Asked)) (key : List ℕ
   pub made : List Asked
   pub grown : AsksMore asks asks' made
   pub hears : (later : List (Option DeskReply)) → heard more key o (map told_of made ++ later) ≡ record { last = Some last; asks = made; later = later }
+
+-- the same of the asks behind a first one, which was told this
+pub record HearsOn (more : ℕ) (asks asks' : Option (List Asked)) (key : List ℕ) (o : Op) (first last : Option DeskReply) : Type 0 where
+  pub made : List Asked
+  pub grown : AsksMore asks asks' made
+  pub hears : (later : List (Option DeskReply)) → heard more key o (first ∷ (map told_of made ++ later)) ≡ record { last = Some last; asks = ask_of key o first ∷ made; later = later }

@@ -11,7 +11,6 @@ use Rattle.hk_conn.specs.declared.said.Stop.TheVariants as stop
 use Rattle.hk_conn.specs.Heard.{told_of}
 use Rattle.hk_conn.specs.Heard.{AsksMore}
 use Rattle.hk_conn.specs.Turns.{ahead, IsReader}
-use Rattle.hk_conn.specs.Answering.{Replied, Stopped}
 use Rattle.hk_conn.specs.Served.{Out, before, replies}
 
 -- a reader at some moment
@@ -65,7 +64,3 @@ abbrev pub stop_at : Said → Option Stop
 stop_at Left = Some stop.Quit
 stop_at LongLine = Some stop.TooLong
 stop_at s = None
-
-abbrev pub ReplyStops : {E : Type 0} → Result (Option Stop) E → ℕ → Option (List Asked) → Option (List Asked) → List ℕ → List ℕ → Said → Type 0
-ReplyStops (Ok o) m asks asks' old new s = Replied m asks asks' old new s × (o ≡ stop_at s)
-ReplyStops (Err e) m asks asks' old new s = Stopped m asks asks' s

@@ -15,34 +15,8 @@ use hk_request::{Request, RequestCause};
 // The longest text of the values of one get: 64 MiB, with the end behind them.
 const VALUES_ROOM: usize = 67_108_859;
 
-/// Appends the reply to what was said.
-pub fn answer<D: Desk>(
-    desk: &mut D,
-    patience: u32,
-    said: &Said,
-    out: &mut Vec<u8>,
-) -> Result<(), Memory>
-    requires { 1 ≤ patience }
-    ensures { Answers result (patience - 1) (D.asks desk.old) (D.asks desk.new) out.old.items out.new.items said.now }
-{
-    match said {
-        Said::Asked(Request::Get { keys, tags }) => {
-            put_values(desk, patience, keys.as_slice(), *tags, out)
-        }
-        Said::Asked(Request::Update { key, op, noreply }) => {
-            put_update(desk, patience, key, op, *noreply, out)
-        }
-        Said::Asked(Request::Version) => put_plain(out, said),
-        Said::Asked(Request::Quit) => put_plain(out, said),
-        Said::Refused(_) => put_plain(out, said),
-        Said::BadEnd { .. } => put_plain(out, said),
-        Said::LongLine => put_plain(out, said),
-        Said::Left => put_plain(out, said),
-    }
-}
-
-// The reply to what asks no desk.
-fn put_plain(out: &mut Vec<u8>, said: &Said) -> Result<(), Memory>
+/// Appends the reply to what asks no desk.
+pub fn put_plain(out: &mut Vec<u8>, said: &Said) -> Result<(), Memory>
     ensures { OnOk result (out.new.items ≡ out.old.items ++ plain_text said.now) }
 {
     match said {
@@ -77,22 +51,8 @@ fn put_bad_end(out: &mut Vec<u8>, noreply: bool) -> Result<(), Memory>
     print_reply(&Reply::ClientError(ClientText::BadChunk), out)
 }
 
-fn put_update<D: Desk>(
-    desk: &mut D,
-    patience: u32,
-    key: &Key,
-    op: &Op,
-    noreply: bool,
-    out: &mut Vec<u8>,
-) -> Result<(), Memory>
-    requires { 1 ≤ patience }
-    ensures { Answers result (patience - 1) (D.asks desk.old) (D.asks desk.new) out.old.items out.new.items (Said.Asked (Request.Update key.now op.now noreply)) }
-{
-    let heard = hear(desk, key, op, patience);
-    put_told(out, heard, noreply)
-}
-
-fn put_told(
+/// Appends the reply to an update that was told this.
+pub fn put_told(
     out: &mut Vec<u8>,
     heard: Result<DeskReply, Memory>,
     noreply: bool,
@@ -127,7 +87,8 @@ fn reply_to(heard: Result<DeskReply, Memory>) -> Reply
     }
 }
 
-fn put_values<D: Desk>(
+/// Appends the reply to a get.
+pub fn put_values<D: Desk>(
     desk: &mut D,
     patience: u32,
     keys: &[Key],

@@ -13,6 +13,7 @@ mod answer;
 mod connection;
 mod ends;
 mod hear;
+mod late;
 mod pass;
 mod reader;
 mod respond;

@@ -1,20 +1,25 @@
 //! Answers what was said so far.
 
-ghost use Rattle.std.specs.Prelude.{◌≡◌, ◌≤◌, ◌-◌};
+ghost use Rattle.std.specs.Prelude.{◌≡◌, ◌≤◌, ◌-◌, []};
 ghost use Rattle.hk_conn.specs.Turns.{IsReader};
-ghost use Rattle.hk_conn.specs.Serving.{place_of, Passes, ReplyStops, stop_at};
+ghost use Rattle.hk_conn.specs.Serving.{place_of, Passes, stop_at};
+ghost use Rattle.hk_conn.specs.Late.{AnswersLate, PassesLate, RepliesLate};
 
-use crate::answer::answer;
+use crate::answer::{put_plain, put_values};
+use crate::late::{Late, finish_all, hold_up, update};
 use crate::reader::Reader;
 use crate::said::{ReaderStep, Said, Stop};
 use hk_base::Memory;
 use hk_outside::Desk;
+use hk_request::Request;
 use std::alloc::Global;
+use std::collections::VecDeque;
 
 // From this length on the replies to one read are not kept together.
 const WRITE_SIZE: usize = 65_536;
 
-// Appends the replies to all that was said so far, or to as much of it as passes the size of a write.
+// Appends the replies to all that was said so far, or to as much of it as passes the size of a write. Updates wait at the desk together, until all was said or one
+// has to be told first.
 pub fn pass<D: Desk>(
     alloc: Global,
     reader: &mut Reader,
@@ -26,17 +31,48 @@ pub fn pass<D: Desk>(
     requires reader { IsReader reader.old.cutter reader.old.pending }
     ensures { Passes result (patience - 1) (D.asks desk.old) (D.asks desk.new) out.old.items out.new.items (place_of reader.old.pending reader.old.cutter) (place_of reader.new.pending reader.new.cutter) }
 {
+    let mut lates = VecDeque::new(alloc);
+    let stopped = pass_on(alloc, reader, desk, patience, &mut lates, out);
+    match finish_all(alloc, desk, &mut lates, out) {
+        Ok(()) => stopped,
+        Err(memory) => Err(memory),
+    }
+}
+
+// Whether the replies so far pass the size of a write.
+fn is_full<W>(lates: &VecDeque<Late<W>>, out: &Vec<u8>) -> bool {
+    let mut length = out.len();
+    for late in lates.iter() {
+        length = length.saturating_add(late.front.len());
+    }
+    length > WRITE_SIZE
+}
+
+// Answers what was said, until all was or so much that it is written first. Some updates wait at the desk then.
+fn pass_on<D: Desk>(
+    alloc: Global,
+    reader: &mut Reader,
+    desk: &mut D,
+    patience: u32,
+    lates: &mut VecDeque<Late<D::Waits>>,
+    out: &mut Vec<u8>,
+) -> Result<Stop, Memory>
+    requires patience { 1 ≤ patience }
+    requires reader { IsReader reader.old.cutter reader.old.pending }
+    requires none { lates.old.items ≡ [] }
+    ensures { PassesLate D.will result (patience - 1) (D.asks desk.old) (D.asks desk.new) lates.new.items out.old.items out.new.items (place_of reader.old.pending reader.old.cutter) (place_of reader.new.pending reader.new.cutter) }
+{
     loop {
         match reader.turn(alloc) {
             Ok(ReaderStep::Need) => return Ok(Stop::Need),
             Ok(ReaderStep::Head) => {}
             Ok(ReaderStep::Says(said)) => {
-                match reply(desk, patience, said, out) {
+                match reply(alloc, desk, patience, said, lates, out) {
                     Ok(None) => {}
                     Ok(Some(stop)) => return Ok(stop),
                     Err(memory) => return Err(memory),
                 }
-                if out.len() > WRITE_SIZE {
+                if is_full(lates, out) {
                     return Ok(Stop::Full);
                 }
             }
@@ -45,18 +81,67 @@ pub fn pass<D: Desk>(
     }
 }
 
+// Answers what was said, behind those that have to be told first.
 fn reply<D: Desk>(
+    alloc: Global,
     desk: &mut D,
     patience: u32,
     said: Said,
+    lates: &mut VecDeque<Late<D::Waits>>,
     out: &mut Vec<u8>,
 ) -> Result<Option<Stop>, Memory>
     requires { 1 ≤ patience }
-    ensures { ReplyStops result (patience - 1) (D.asks desk.old) (D.asks desk.new) out.old.items out.new.items said }
+    ensures { RepliesLate D.will result (patience - 1) (D.asks desk.old) (D.asks desk.new) lates.old.items lates.new.items out.old.items out.new.items said }
 {
-    match answer(desk, patience, &said, out) {
-        Ok(()) => Ok(stop_at(&said)),
+    match hold_up(alloc, desk, &said, lates, out) {
+        Ok(()) => reply_on(alloc, desk, patience, &said, lates, out),
         Err(memory) => Err(memory),
+    }
+}
+
+// The same where nothing has to be told first.
+fn reply_on<D: Desk>(
+    alloc: Global,
+    desk: &mut D,
+    patience: u32,
+    said: &Said,
+    lates: &mut VecDeque<Late<D::Waits>>,
+    out: &mut Vec<u8>,
+) -> Result<Option<Stop>, Memory>
+    requires { 1 ≤ patience }
+    ensures { RepliesLate D.will result (patience - 1) (D.asks desk.old) (D.asks desk.new) lates.old.items lates.new.items out.old.items out.new.items said.now }
+{
+    match answer(alloc, desk, patience, said, lates, out) {
+        Ok(()) => Ok(stop_at(said)),
+        Err(memory) => Err(memory),
+    }
+}
+
+// Appends the reply to what was said, or has an update wait, behind the replies so far.
+fn answer<D: Desk>(
+    alloc: Global,
+    desk: &mut D,
+    patience: u32,
+    said: &Said,
+    lates: &mut VecDeque<Late<D::Waits>>,
+    out: &mut Vec<u8>,
+) -> Result<(), Memory>
+    requires { 1 ≤ patience }
+    ensures { AnswersLate D.will result (patience - 1) (D.asks desk.old) (D.asks desk.new) lates.old.items lates.new.items out.old.items out.new.items said.now }
+{
+    match said {
+        Said::Asked(Request::Get { keys, tags }) => {
+            put_values(desk, patience, keys.as_slice(), *tags, out)
+        }
+        Said::Asked(Request::Update { key, op, noreply }) => {
+            update(alloc, desk, patience, key, op, *noreply, lates, out)
+        }
+        Said::Asked(Request::Version) => put_plain(out, said),
+        Said::Asked(Request::Quit) => put_plain(out, said),
+        Said::Refused(_) => put_plain(out, said),
+        Said::BadEnd { .. } => put_plain(out, said),
+        Said::LongLine => put_plain(out, said),
+        Said::Left => put_plain(out, said),
     }
 }
 

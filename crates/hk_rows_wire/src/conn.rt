@@ -70,10 +70,11 @@ struct Served {
     asks: usize,
 }
 
-// Serves a connection over a desk that tells these, and is busy then.
-fn serve(rt: &impl Abort, alloc: Global, conn: Pieced, tells: &[Tell]) -> Served {
+// Serves a connection over a desk that tells these, and is busy then. At a late one updates wait.
+fn serve(rt: &impl Abort, alloc: Global, conn: Pieced, tells: &[Tell], late: bool) -> Served {
     let mut conn = conn;
     let mut desk = desk_of(rt, alloc, tells);
+    desk.late = late;
     let end = serve_connection(alloc, &mut conn, &mut desk, 3);
     let asks = desk.asked.len();
     Served { end, conn, asks }
@@ -90,19 +91,33 @@ struct Exchange<'a> {
 }
 
 // The row holds whole and in pieces.
-fn check(rt: &impl Abort, alloc: Global, row: &Exchange) {
+fn check_at(rt: &impl Abort, alloc: Global, row: &Exchange, late: bool) {
     let name = row.name;
     for most in SIZES {
         let conn = in_pieces(rt, alloc, row.sent, most, &[], &[]);
-        let served = serve(rt, alloc, conn, row.tells);
+        let served = serve(rt, alloc, conn, row.tells, late);
         assert_eq!(rt;
             served.conn.written(),
             row.written,
-            "{name}, {most} bytes at a time"
+            "{name}, {most} bytes at a time, late: {late}"
         );
-        assert_eq!(rt; served.end, row.end, "{name}, {most} bytes at a time");
-        assert_eq!(rt; served.asks, row.asks, "{name}, {most} bytes at a time");
+        assert_eq!(rt;
+            served.end,
+            row.end,
+            "{name}, {most} bytes at a time, late: {late}"
+        );
+        assert_eq!(rt;
+            served.asks,
+            row.asks,
+            "{name}, {most} bytes at a time, late: {late}"
+        );
     }
+}
+
+// So it does whether updates wait or not.
+fn check(rt: &impl Abort, alloc: Global, row: &Exchange) {
+    check_at(rt, alloc, row, false);
+    check_at(rt, alloc, row, true);
 }
 
 #[test]
@@ -271,7 +286,7 @@ fn a_write_that_fails_leaves_a_front_of_the_replies(rt: HostRuntime) {
             (0, b"".as_slice())
         };
         let conn = in_pieces(&rt, alloc, sent, most, &[], &[last]);
-        let served = serve(&rt, alloc, conn, &[]);
+        let served = serve(&rt, alloc, conn, &[], false);
         assert_eq!(rt; served.end, ConnEnd::WriteFault, "{most} bytes at a time");
         assert_eq!(rt; served.conn.written(), front, "{most} bytes at a time");
     }

@@ -12,6 +12,8 @@ mod link;
 #[cfg(test)]
 mod outside;
 #[cfg(test)]
+mod overlap;
+#[cfg(test)]
 mod pieces;
 #[cfg(test)]
 mod request;
