@@ -1,8 +1,8 @@
 -- How the parts of a text are read.
 use Rattle.std.proofs.Common.{◌≡◌, ℕ, zero, suc, ◌+◌, ◌<◌, ◌≤◌, List, [], ◌∷◌, length, drop, refl, arith, Bool, false, Some, ◌++◌, take, true, ◌∙◌, ap, sym, append_assoc, append-nil}
 use Rattle.std.specs.Prelude.{Result, Ok, Err}
-use Rattle.hk_reply.specs.declared.scan.Stop.TheVariants.{Need}
-use Rattle.hk_reply.specs.Scans.{◌>>=◌, key_from, literal_at, longer, ends_at, number_from}
+use Rattle.hk_reply.specs.declared.scan.Stop.TheVariants.{Memory, Need, Bad}
+use Rattle.hk_reply.specs.Scans.{Fails, ◌>>=◌, key_from, literal_at, longer, ends_at, number_from}
 use Rattle.hk_reply.specs.Reading.{with_items, items_at, turn_at}
 use Rattle.hk_reply.specs.declared.scan.Tail.{Tail}
 use Rattle.hk_reply.specs.declared.scan.Stop.{Stop}
@@ -69,3 +69,9 @@ one_item front item (Err e) = refl
 
 pub items_more : (n m : ℕ) (tags : Bool) (front longer : List Item) (item : Item) (bytes rest : List ℕ) → n ≡ suc m → longer ≡ front ++ item ∷ [] → turn_at tags bytes ≡ Ok (Some item, rest) → with_items front (items_at n tags bytes) ≡ with_items longer (items_at m tags rest)
 items_more n m tags front longer item bytes rest e k h = rw (e, h, k) (one_item front item (items_at m tags rest))
+
+-- the next one can't be read, and so the others can't
+pub items_fail : (n m : ℕ) (tags : Bool) (front : List Item) (bytes : List ℕ) (stop : Stop) → n ≡ suc m → Fails stop (turn_at tags bytes) → Fails stop (with_items front (items_at n tags bytes))
+items_fail n m tags front bytes Memory e h = tt
+items_fail n m tags front bytes Need e h = rw (e, h) refl
+items_fail n m tags front bytes (Bad left) e h = rw (e, h) refl
