@@ -95,7 +95,7 @@ fn written(rt: &impl Abort, alloc: Global, sent: &[u8], desk: &mut NotingDesk) -
     };
     let end = serve_connection(alloc, &mut conn, desk, 3);
     assert_eq!(rt; end, ConnEnd::End);
-    conn.sink.sink.bytes
+    Vec::from_slice(alloc, conn.sink.sink.bytes.as_slice()).expect(rt, "memory")
 }
 
 #[test]
