@@ -1,9 +1,10 @@
-"""The repository's small programs, each proved and built first where it is missing or older than a source of any crate."""
+"""The repository's programs, each proved and built first where it is missing or older than a source."""
 import subprocess
 import sys
 from pathlib import Path
 
 TOP = Path(__file__).resolve().parent.parent
+HERMES = TOP / "crates/hermes/out/hermes"
 
 
 def is_stale(program):
@@ -15,7 +16,7 @@ def is_stale(program):
 
 
 def program(name):
-    """The path of the program of this crate."""
+    """The path of the program of this crate, a small one."""
     path = TOP / "crates" / name / "out" / name
     if is_stale(path):
         print(f"{name}: proving and building it, which may take an hour", file=sys.stderr, flush=True)
@@ -23,3 +24,10 @@ def program(name):
         if not path.exists():
             sys.exit(f"{name}: it was not built; `rt run` in crates/{name} says why")
     return path
+
+
+def hermes():
+    """The path of the proved program `hermes`. Where it can't be proved nothing is checked."""
+    if subprocess.run([TOP / "hermes", "prove"], stdin=subprocess.DEVNULL, stdout=subprocess.DEVNULL).returncode != 0:
+        sys.exit("hermes: it was not proved, so nothing was checked")
+    return str(HERMES)

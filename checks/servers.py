@@ -16,6 +16,7 @@ import time
 from concurrent.futures import ThreadPoolExecutor
 from pathlib import Path
 
+import built
 import ports
 from ports import HOST
 
@@ -51,8 +52,7 @@ def split_words(words):
     if "--" in words:
         at = words.index("--")
         return words[:at], words[at + 1 :]
-    subprocess.run([TOP / "hermes"], stdin=subprocess.DEVNULL, stdout=subprocess.DEVNULL)
-    return words, [str(TOP / "crates/hermes/out/hermes")]
+    return words, [built.hermes()]
 
 
 def end_all(*_signal):
