@@ -12,7 +12,7 @@
 //! is sent. A peer's connection that is still open then is left. How it ends, and what shows it, stands in the contract of `serve_process`; who of those that came
 //! counted, and that clients and loops have ended then, is only tested.
 //!
-//! A loop that sends sleeps until something was put for its node. No wait ends by time.
+//! A loop that sends sleeps until something was put for its node.
 //!
 //! The caller gives the runtime value, a clock, doors, a spawner, and a process within the limits of `specs/Process.antt`.
 #![tactic(auto)]

@@ -161,17 +161,17 @@ fn wait<F: Completion + Copy + Drop, P: Places, R: Wait>(
     key: &Key,
     call: CallNo,
     ticket: u64,
+    patience: &mut Patience,
 ) -> Result<Option<Answer>, Memory>
     ensures waits { IfOk result (λ told. (turns : ℕ) × (told ≡ None → turns ≡ 100000) × LooksOften turns key.now ticket reader.old reader.new told) }
     ensures grown { IsGrown key.now reader.old reader.new }
 {
     let told = shards.told_to(call);
-    let mut patience = Patience::new(ANSWER);
     for _looked in 0..TURNS {
         let seen = told.seen();
         match turn(rt, shards, reader, key, call, ticket)? {
             AskState::Told(answer) => return Ok(Some(answer)),
-            AskState::Waits => wait_for(rt, shards, key, told, seen, &mut patience),
+            AskState::Waits => wait_for(rt, shards, key, told, seen, patience),
             AskState::Gone => return Err(Memory),
         }
     }
@@ -218,14 +218,15 @@ pub(crate) fn ask<F: Completion + Copy + Drop, P: Places, R: Wait>(
     if let Some(answer) = answer {
         return Ok(DeskReply::Told(answer));
     }
-    if let Some(answer) = wait(rt, shards, reader, key, call, ticket)? {
+    let mut patience = Patience::new(ANSWER);
+    if let Some(answer) = wait(rt, shards, reader, key, call, ticket, &mut patience)? {
         return Ok(DeskReply::Told(answer));
     }
     give_up(rt, shards, shard, call);
     Ok(DeskReply::Unknown { turns: TURNS })
 }
 
-/// Begins to ask an operation: waits a while until the key is Valid, makes the call and sends its letters.
+/// Begins to ask an operation: waits a while until the key is Valid, makes the call and sends its letters. Where it waits, it waits since `since`.
 pub(crate) fn begin_ask<F: Completion + Copy + Drop, P: Places, R: Wait>(
     rt: &R,
     alloc: Global,
@@ -236,6 +237,7 @@ pub(crate) fn begin_ask<F: Completion + Copy + Drop, P: Places, R: Wait>(
     key: &Key,
     op: &Op,
     tell: F,
+    since: u64,
 ) -> Result<Begun<OpenAsk>, Memory>
     requires { reader.old.number < 8 }
     ensures opens { IfOk result (λ opened. OpensAt call key.now op.now reader.old reader.new opened) }
@@ -243,7 +245,7 @@ pub(crate) fn begin_ask<F: Completion + Copy + Drop, P: Places, R: Wait>(
     ensures sent { SendsOrFails P.places reader.old.node reader.old.number call key.now op.now reader.old reader.new outlets.old.items outlets.new.items result }
     ensures grown { IsGrown key.now reader.old reader.new }
 {
-    let waits = OpenAsk::new(key, op, call)?;
+    let waits = OpenAsk::new(key, op, call, since)?;
     let number = reader.number();
     let started = begin(rt, alloc, shards, reader, call, key, op, tell)?;
     let Started {
@@ -258,7 +260,7 @@ pub(crate) fn begin_ask<F: Completion + Copy + Drop, P: Places, R: Wait>(
     }
 }
 
-/// Looks until an update that waits was told.
+/// Looks until an update that waits was told, or the patience is over.
 pub(crate) fn finish_ask<F: Completion + Copy + Drop, P: Places, R: Wait>(
     rt: &R,
     shards: &Shards<F, P>,
@@ -266,12 +268,13 @@ pub(crate) fn finish_ask<F: Completion + Copy + Drop, P: Places, R: Wait>(
     key: &Key,
     call: CallNo,
     ticket: u64,
+    patience: &mut Patience,
 ) -> Result<DeskReply, Memory>
     ensures finishes { IfOk result (λ reply. FinishesAt key.now ticket reader.old reader.new reply) }
     ensures grown { IsGrown key.now reader.old reader.new }
 {
     let shard = reader.number();
-    if let Some(answer) = wait(rt, shards, reader, key, call, ticket)? {
+    if let Some(answer) = wait(rt, shards, reader, key, call, ticket, patience)? {
         return Ok(DeskReply::Told(answer));
     }
     give_up(rt, shards, shard, call);

@@ -6,7 +6,7 @@
 //! may sleep while its post rests ([`Post::rests`]), until the bell of the shards is rung.
 //!
 //! A [`NodeDesk`] asks operations at a post: it makes the call under the shard's lock, and where the update has to wait for other nodes it looks again until the
-//! answer was delivered. Who waits for what, and until when, stands in `src/waiting.rt`. What it tells is shown by what its post has seen of the key's cell (`specs/Asking.antt`). A [`ClockDesk`] has a clock too: it tells a read
+//! answer was delivered; an update may also be begun, and finished behind others ([`Post::begin`], [`Post::finish`]). Who waits for what, and until when, stands in `src/waiting.rt`. What it tells is shown by what its post has seen of the key's cell (`specs/Asking.antt`). A [`ClockDesk`] has a clock too: it tells a read
 //! from what the key's shard shows, with no lock, where that serves, and else raises the shard's clock and asks as a [`NodeDesk`] does.
 //!
 //! The caller founds the shards of all its nodes, names their cells once (`Places` of `hk_locked`), gives each post of a node another number, and ticks the

@@ -13,6 +13,7 @@ ghost use Rattle.hk_worker.specs.Working.{HasWorked, WereQuietBelow};
 use crate::asking::{ask, begin_ask, finish_ask};
 use crate::opening::OpenAsk;
 use crate::shards::Shards;
+use crate::waiting::{ANSWER, Patience};
 use hk_base::{Actor, Answer, CallNo, Key, MAX_TIME, Memory, NodeId, Op};
 use hk_callback::Completion;
 use hk_link::Outlet;
@@ -41,6 +42,8 @@ pub struct Post<F: Completion + Copy + Drop, P: Places> {
     worker: Worker,
     outlets: Vec<(Actor, Outlet)>,
     tell: F,
+    // So many milliseconds its asks have waited, one behind the other.
+    waited: u64,
 }
 
 impl<F: Completion + Copy + Drop, P: Places> Model for Post<F, P> {
@@ -108,6 +111,7 @@ impl<F: Completion + Copy + Drop, P: Places> Post<F, P> {
             worker,
             outlets: outlets.into_vec(),
             tell,
+            waited: 0,
         })
     }
 
@@ -163,6 +167,7 @@ impl<F: Completion + Copy + Drop, P: Places> Post<F, P> {
             key,
             op,
             self.tell,
+            self.waited,
         )
     }
 
@@ -173,6 +178,8 @@ impl<F: Completion + Copy + Drop, P: Places> Post<F, P> {
         ensures told { FinishesAtPost waits self.old self.new result }
     {
         let shard = usize::from(shard_of(&waits.key));
+        let passed = self.waited.saturating_sub(waits.since);
+        let mut patience = Patience::behind(ANSWER, passed);
         let told = finish_ask(
             rt,
             &self.shards,
@@ -180,7 +187,9 @@ impl<F: Completion + Copy + Drop, P: Places> Post<F, P> {
             &waits.key,
             waits.call,
             waits.ticket,
+            &mut patience,
         );
+        self.waited = self.waited.saturating_add(patience.slept());
         fitting(&waits.op, told)
     }
 

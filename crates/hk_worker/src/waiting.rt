@@ -2,7 +2,7 @@
 //!
 //! | Who waits | for what | looks | and goes on |
 //! |---|---|---|---|
-//! | an ask whose update other nodes have to acknowledge | what it is told | under the shard's lock, behind each answer to an ask of its post | behind 100,000 looks, and not before 2 s ([`ANSWER`]): its outcome is unknown then |
+//! | an ask whose update other nodes have to acknowledge | what it is told | under the shard's lock, behind each answer to an ask of its post | behind 100,000 looks, and not before 2 s since it began ([`ANSWER`]): its outcome is unknown then |
 //! | a desk that is to make a call | the key's row to be Valid | under the lock, behind each step of a worker at the shard | after 32 ms ([`SETTLE`]): the call is made then, and told Busy of the row |
 //! | a read | the same | at the key's cell, with no lock, behind each step | after 32 ms: it is told Busy of the row then |
 //! | a desk whose node's lease has run out (`hk_group`) | one that serves | at the lease's cell, behind each step at the key's shard | after two lengths of a lease, and not before 1 s; until there is one again it waits no more |
@@ -72,6 +72,16 @@ impl Patience {
             woken: 0,
             next_ring: FIRST_RING,
         }
+    }
+
+    /// For so many milliseconds, of which these have passed.
+    pub(crate) fn behind(limit: u64, passed: u64) -> Patience {
+        Patience::new(limit.saturating_sub(passed))
+    }
+
+    /// So many milliseconds at least someone waited.
+    pub(crate) fn slept(&self) -> u64 {
+        self.slept
     }
 
     /// Whether so many milliseconds have passed.

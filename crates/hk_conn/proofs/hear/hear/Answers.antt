@@ -20,3 +20,6 @@ loop-more-preserved g c = hearing_goes_on _ c.loop-more.more (c.loop-more.more -
 
 pub loop-more-preserved-else-not-is_busy-2 : goal.loop-more-preserved-else-not-is_busy-2
 loop-more-preserved-else-not-is_busy-2 g c = hearing_goes_on _ c.loop-more.more (c.loop-more.more - 1) _ (g.D.Desk.asks c.loop-more.desk) _ _ _ (told c.ask-heard.result) (less c.loop-more.more c.if-more-eq0.false) c.loop-more.invariant (asks_one (g.D.Desk.asks c.loop-more.desk) (g.D.Desk.asks c.ask-heard.new.self) c.args.key.now c.args.op.now c.ask-heard.result c.ask-heard.ensures.listed) (sym c.if-not-is_busy.ensures)
+
+pub loop-more-preserved-else-not-is_busy-5 : goal.loop-more-preserved-else-not-is_busy-5
+loop-more-preserved-else-not-is_busy-5 g c = hearing_goes_on _ c.loop-more.more (c.loop-more.more - 1) _ (g.D.Desk.asks c.loop-more.desk) _ _ _ (told c.ask-heard.result) (less c.loop-more.more c.if-more-eq0.false) c.loop-more.invariant (asks_one (g.D.Desk.asks c.loop-more.desk) (g.D.Desk.asks c.ask-heard.new.self) c.args.key.now c.args.op.now c.ask-heard.result c.ask-heard.ensures.listed) (sym c.if-not-is_busy.ensures)
