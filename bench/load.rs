@@ -1,9 +1,12 @@
-// Asks a server that speaks the memcached text protocol, and prints requests a second, the microseconds of processor time that the
-// server spent on each, and the 50th and 99th percentile of the time to an answer, in microseconds.
+// Asks a server that speaks the memcached text protocol, or redis, and prints requests a second, the microseconds of processor time that
+// the server spent on each, and the 50th and 99th percentile of the time to an answer, in microseconds.
 //
-// `load PORT PROCESS CONNECTIONS DEPTH REQUESTS SETS` asks over so many connections, each a thread that has DEPTH requests on their way,
+// `load PORT PROCESSES CONNECTIONS DEPTH REQUESTS SETS` asks over so many connections, each a thread that has DEPTH requests on their way,
 // REQUESTS in all, of which SETS in a hundred are sets; the others are gets. There are 10,000 keys, each with a value of 100 bytes, which
-// are set first where they are not there yet.
+// are set first where they are not there yet. PROCESSES are those that serve, parted by commas.
+//
+// `load redis PORT PROCESSES ..` does the same at redis, where each batch with a set ends with a `WAIT 2 0`: it is answered once two replicas
+// have what was set.
 //
 // `load PORT KEYS` sets so many keys, each with such a value, and prints nothing.
 use std::io::{self, BufRead, BufReader, Read, Write};
@@ -22,18 +25,62 @@ impl Draws {
     }
 }
 
+/// What a server speaks.
+#[derive(Clone, Copy, PartialEq, Eq)]
+enum Protocol {
+    Memcached,
+    Redis,
+}
+
+impl Protocol {
+    fn put_request(self, out: &mut Vec<u8>, key: u64, is_set: bool) -> io::Result<()> {
+        match (self, is_set) {
+            (Protocol::Memcached, true) => write!(out, "set key:{key:08} 0 0 {}\r\n", VALUE.len())?,
+            (Protocol::Memcached, false) => return write!(out, "get key:{key:08}\r\n"),
+            (Protocol::Redis, true) => write!(out, "*3\r\n$3\r\nSET\r\n$12\r\nkey:{key:08}\r\n${}\r\n", VALUE.len())?,
+            (Protocol::Redis, false) => return write!(out, "*2\r\n$3\r\nGET\r\n$12\r\nkey:{key:08}\r\n"),
+        }
+        out.extend_from_slice(&VALUE);
+        out.extend_from_slice(b"\r\n");
+        Ok(())
+    }
+
+    /// Ends a batch with so many sets. Gives whether a reply of its own is due to that.
+    fn put_end(self, out: &mut Vec<u8>, sets: usize) -> bool {
+        let waits = self == Protocol::Redis && sets > 0;
+        if waits {
+            out.extend_from_slice(b"*3\r\n$4\r\nWAIT\r\n$1\r\n2\r\n$1\r\n0\r\n");
+        }
+        waits
+    }
+
+    fn quit(self) -> &'static [u8] {
+        match self {
+            Protocol::Memcached => b"quit\r\n",
+            Protocol::Redis => b"*1\r\n$4\r\nQUIT\r\n",
+        }
+    }
+}
+
 struct Client {
+    protocol: Protocol,
     reader: BufReader<TcpStream>,
     stream: TcpStream,
     line: Vec<u8>,
 }
 
 impl Client {
-    fn new(port: u16) -> io::Result<Client> {
+    fn new(protocol: Protocol, port: u16) -> io::Result<Client> {
         let stream = TcpStream::connect(("127.0.0.1", port))?;
         stream.set_nodelay(true)?;
         let reader = BufReader::with_capacity(1 << 16, stream.try_clone()?);
-        Ok(Client { reader, stream, line: Vec::new() })
+        Ok(Client { protocol, reader, stream, line: Vec::new() })
+    }
+
+    fn quit(mut self) -> io::Result<()> {
+        self.stream.write_all(self.protocol.quit())?;
+        self.reader.read_to_end(&mut Vec::new())?;
+        Ok(())
     }
 
     fn read_line(&mut self) -> io::Result<()> {
@@ -45,70 +92,64 @@ impl Client {
     /// Reads one reply, and panics where it is none that is due.
     fn reply(&mut self, is_set: bool) -> io::Result<()> {
         self.read_line()?;
+        let (stored, found, end): (&[u8], &[u8], &[u8]) = match self.protocol {
+            Protocol::Memcached => (b"STORED\r\n", b"VALUE ", b"END\r\n"),
+            Protocol::Redis => (b"+OK\r\n", b"$100\r\n", b""),
+        };
         if is_set {
-            assert_eq!(self.line, b"STORED\r\n");
+            assert_eq!(self.line, stored);
             return Ok(());
         }
-        assert!(self.line.starts_with(b"VALUE "), "{}", String::from_utf8_lossy(&self.line));
+        assert!(self.line.starts_with(found), "{}", String::from_utf8_lossy(&self.line));
         let mut value = [0; VALUE.len() + 2];
         self.reader.read_exact(&mut value)?;
-        self.read_line()?;
-        assert_eq!(self.line, b"END\r\n");
+        let mut rest = [0; 5];
+        self.reader.read_exact(&mut rest[..end.len()])?;
+        assert_eq!(&rest[..end.len()], end);
         Ok(())
     }
-}
-
-fn put_request(out: &mut Vec<u8>, key: u64, is_set: bool) -> io::Result<()> {
-    if is_set {
-        write!(out, "set key:{key:08} 0 0 {}\r\n", VALUE.len())?;
-        out.extend_from_slice(&VALUE);
-        out.extend_from_slice(b"\r\n");
-    } else {
-        write!(out, "get key:{key:08}\r\n")?;
-    }
-    Ok(())
 }
 
 /// Whether the server has this key.
 fn is_there(client: &mut Client, key: u64) -> io::Result<bool> {
     let mut out = Vec::new();
-    put_request(&mut out, key, false)?;
+    client.protocol.put_request(&mut out, key, false)?;
     client.stream.write_all(&out)?;
     client.read_line()?;
-    if client.line == b"END\r\n" {
+    if client.line == b"END\r\n" || client.line == b"$-1\r\n" {
         return Ok(false);
     }
-    let mut rest = [0; VALUE.len() + 7];
+    let end = if client.protocol == Protocol::Redis { 0 } else { 5 };
+    let mut rest = vec![0; VALUE.len() + 2 + end];
     client.reader.read_exact(&mut rest)?;
     Ok(true)
 }
 
 /// Sets so many keys, unless the last of them is there.
-fn fill(port: u16, keys: u64) -> io::Result<()> {
-    let mut client = Client::new(port)?;
+fn fill(protocol: Protocol, port: u16, keys: u64) -> io::Result<()> {
+    let mut client = Client::new(protocol, port)?;
     if is_there(&mut client, keys - 1)? {
         return Ok(());
     }
-    let mut out = Vec::new();
+    let (mut out, mut sets) = (Vec::new(), 0);
     for key in 0..keys {
-        put_request(&mut out, key, true)?;
+        protocol.put_request(&mut out, key, true)?;
+        sets += 1;
         if out.len() > 8192 || key + 1 == keys {
             client.stream.write_all(&out)?;
-            let requests = out.windows(4).filter(|bytes| bytes == b"set ").count();
-            for _ in 0..requests {
+            for _ in 0..sets {
                 client.reply(true)?;
             }
             out.clear();
+            sets = 0;
         }
     }
-    client.stream.write_all(b"quit\r\n")?;
-    client.reader.read_to_end(&mut Vec::new())?;
-    Ok(())
+    client.quit()
 }
 
 /// Gives the times to the answers of each batch of DEPTH requests.
-fn ask(port: u16, start: u64, depth: u64, requests: u64, sets: u64) -> io::Result<Vec<Duration>> {
-    let mut client = Client::new(port)?;
+fn ask(protocol: Protocol, port: u16, start: u64, depth: u64, requests: u64, sets: u64) -> io::Result<Vec<Duration>> {
+    let mut client = Client::new(protocol, port)?;
     let mut draws = Draws(start);
     let (mut out, mut kinds, mut times) = (Vec::new(), Vec::new(), Vec::new());
     for _ in 0..requests / depth {
@@ -116,47 +157,68 @@ fn ask(port: u16, start: u64, depth: u64, requests: u64, sets: u64) -> io::Resul
         kinds.clear();
         for _ in 0..depth {
             let is_set = draws.below(100) < sets;
-            put_request(&mut out, draws.below(KEYS), is_set)?;
+            protocol.put_request(&mut out, draws.below(KEYS), is_set)?;
             kinds.push(is_set);
         }
+        let waits = protocol.put_end(&mut out, kinds.iter().filter(|is_set| **is_set).count());
         let begun = Instant::now();
         client.stream.write_all(&out)?;
         for is_set in &kinds {
             client.reply(*is_set)?;
         }
+        if waits {
+            client.read_line()?;
+            assert_eq!(client.line, b":2\r\n", "two replicas");
+        }
         times.push(begun.elapsed());
     }
-    client.stream.write_all(b"quit\r\n")?;
-    client.reader.read_to_end(&mut Vec::new())?;
+    client.quit()?;
     Ok(times)
 }
 
-/// The processor time of a process, in microseconds.
-fn spent(process: u64) -> io::Result<f64> {
+/// The processor time of processes, in microseconds.
+fn spent(processes: &[u64]) -> io::Result<f64> {
+    processes.iter().map(|process| spent_by(*process)).sum()
+}
+
+fn spent_by(process: u64) -> io::Result<f64> {
     let stat = std::fs::read_to_string(format!("/proc/{process}/stat"))?;
     let words: Vec<&str> = stat[stat.rfind(')').unwrap_or(0)..].split(' ').collect();
     let ticks: f64 = words[12].parse::<f64>().unwrap_or(0.0) + words[13].parse::<f64>().unwrap_or(0.0);
     Ok(ticks * 10_000.0)
 }
 
+fn number(word: &str) -> u64 {
+    word.parse().expect("a number")
+}
+
 fn main() -> io::Result<()> {
-    let words: Vec<u64> = std::env::args().skip(1).map(|word| word.parse().expect("a number")).collect();
-    if let [port, keys] = words[..] {
-        return fill(port as u16, keys);
+    let words: Vec<String> = std::env::args().skip(1).collect();
+    let mut words: Vec<&str> = words.iter().map(String::as_str).collect();
+    let mut protocol = Protocol::Memcached;
+    if words.first() == Some(&"redis") {
+        words.remove(0);
+        protocol = Protocol::Redis;
     }
-    let [port, process, connections, depth, requests, sets] = words[..] else {
-        eprintln!("usage: load PORT PROCESS CONNECTIONS DEPTH REQUESTS SETS | load PORT KEYS");
+    if let [port, keys] = words[..] {
+        return fill(protocol, number(port) as u16, number(keys));
+    }
+    let [port, processes, connections, depth, requests, sets] = words[..] else {
+        eprintln!("usage: load [redis] PORT PROCESSES CONNECTIONS DEPTH REQUESTS SETS | load [redis] PORT KEYS");
         std::process::exit(2);
     };
-    let port = port as u16;
-    fill(port, KEYS)?;
-    let (spent_before, begun) = (spent(process)?, Instant::now());
-    let asking: Vec<_> = (0..connections).map(|start| std::thread::spawn(move || ask(port, start, depth, requests / connections, sets))).collect();
+    let port = number(port) as u16;
+    let processes: Vec<u64> = processes.split(',').map(number).collect();
+    let (connections, depth, requests, sets) = (number(connections), number(depth), number(requests), number(sets));
+    fill(protocol, port, KEYS)?;
+    let (spent_before, begun) = (spent(&processes)?, Instant::now());
+    let each = requests / connections;
+    let asking: Vec<_> = (0..connections).map(|start| std::thread::spawn(move || ask(protocol, port, start, depth, each, sets))).collect();
     let mut times = Vec::new();
     for thread in asking {
         times.extend(thread.join().expect("a thread ended")?);
     }
-    let (wall, cpu) = (begun.elapsed().as_secs_f64(), spent(process)? - spent_before);
+    let (wall, cpu) = (begun.elapsed().as_secs_f64(), spent(&processes)? - spent_before);
     let asked = (times.len() as u64 * depth) as f64;
     times.sort_unstable();
     let percentile = |part: usize| times[(times.len() - 1) * part / 100].as_secs_f64() * 1e6;
