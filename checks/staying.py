@@ -352,7 +352,7 @@ def idle_behind_a_great_reply(room):
         got = 0
         while got < due:
             got += len(client.read.read(min(due - got, 1 << 20)))
-        return expect_small(server, before, 8 * MEBIBYTE, "behind a reply of 60 MiB")
+        return expect_small(server, before, 16 * MEBIBYTE, "behind a reply of 60 MiB")
 
 
 def idle_behind_large_sets(room):
