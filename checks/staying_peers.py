@@ -273,10 +273,20 @@ def meets_itself(port):
 
 
 def a_peer_started_again(room):
-    """A process is killed while a lock is held, and started again, which nobody may do. The others find it out where it would take the lock."""
+    """A process is killed while a lock is held that was taken at another one, and started again, which nobody may do. The others find it out where it would take the lock."""
+    return a_second_holder(room, 0)
+
+
+def a_peer_started_again_takes_its_own(room):
+    """The same of a lock that was taken at that process: the second holder's update has the very stamp of the first one's."""
+    return a_second_holder(room, 2)
+
+
+def a_second_holder(room, at):
     with room.group(3) as group, group.client(0) as holder:
         meet(group)
-        expect(holder.ask(b"add lock 0 0 1\r\nx\r\n"), STORED, "the first holder of a lock")
+        with group.client(at) as first:
+            expect(first.ask(b"add lock 0 0 1\r\nx\r\n"), STORED, "the first holder of a lock")
         group.servers[2].kill()
         group.begin(2)
         with group.client(2) as second:
@@ -563,6 +573,6 @@ CASES = [
 # Those that spend most of their time waiting go on beside the others.
 WAITING = [
     a_peer_that_reads_nothing, a_peer_that_does_not_answer, a_peer_comes_back_behind_the_last_client, a_dial_that_meets_itself,
-    unknown_takes_its_time, what_waits_is_sent_again, a_peer_started_again, a_peer_started_again_is_told, a_peer_of_another_group,
+    unknown_takes_its_time, what_waits_is_sent_again, a_peer_started_again, a_peer_started_again_takes_its_own, a_peer_started_again_is_told, a_peer_of_another_group,
 ]  # fmt: skip
 

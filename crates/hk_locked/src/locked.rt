@@ -332,10 +332,10 @@ impl<F: Completion + Copy + Drop, P: Places> LockedShard<F, P> {
     /// What a letter that comes shows, if it is one that no node would send in a group whose nodes all run as they began.
     pub fn doubt(&self, letter: &Letter) -> Option<Doubt>
         requires { IsLetter letter.now }
-        ensures { result ≡ doubt_in self.now.shard.part letter.now }
+        ensures { result ≡ doubt_in self.now.node self.now.shard.part letter.now }
     {
         keeps(&self.shard);
-        doubt_in(self.shard.part(), letter)
+        doubt_in(self.node, self.shard.part(), letter)
     }
 
     /// Makes the step of an event that is no call, publishes the rows that it changed, calls the completions of its replies and tells the asks. After `Memory`

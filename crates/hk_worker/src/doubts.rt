@@ -1,12 +1,13 @@
 //! Which nodes are doubted, as workers find it.
 
 ghost use Rattle.std.specs.Prelude.{◌<◌};
+ghost use Rattle.std.specs.Option.{IfSome};
 
 use hk_base::{Actor, NodeId};
 use hk_locked::Doubt;
 use std::sync::atomic::{AtomicU64, Ordering};
 
-// A group has at most 16 nodes. One bit for each that has forgotten, one for each that is no member, and one for this node.
+// A group has at most 16 nodes, and none is doubted whose number is higher. One bit for each that has forgotten, one for each that is no member, and one for this node.
 const NODES: u32 = 16;
 
 const HERE: u32 = 32;
@@ -19,16 +20,24 @@ pub(crate) struct Doubts {
     told: AtomicU64,
 }
 
-fn place_of(node: NodeId) -> u32
-    ensures { result < 16 }
+// None where no group has a node of this number.
+fn place_of(node: NodeId) -> Option<u32>
+    ensures { IfSome result (λ place. place < 16) }
 {
-    u32::from(node.0) % NODES
+    let place = u32::from(node.0);
+    if place < NODES { Some(place) } else { None }
 }
 
 fn bit_of(doubt: Doubt) -> u64 {
     match doubt {
-        Doubt::Forgot(node) => 1 << place_of(node),
-        Doubt::Stranger(node) => 1 << (NODES + place_of(node)),
+        Doubt::Forgot(node) => match place_of(node) {
+            Some(place) => 1 << place,
+            None => 0,
+        },
+        Doubt::Stranger(node) => match place_of(node) {
+            Some(place) => 1 << (NODES + place),
+            None => 0,
+        },
         Doubt::ForgotHere => 1 << HERE,
     }
 }

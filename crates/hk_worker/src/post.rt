@@ -13,7 +13,7 @@ ghost use Rattle.hk_worker.specs.Working.{HasWorked, WereQuietBelow};
 use crate::asking::{ask, begin_ask, finish_ask};
 use crate::opening::OpenAsk;
 use crate::shards::Shards;
-use crate::waiting::{ANSWER, Patience};
+use crate::waiting::Patience;
 use hk_base::{Actor, Answer, CallNo, Key, MAX_TIME, Memory, NodeId, Op};
 use hk_callback::Completion;
 use hk_link::Outlet;
@@ -42,7 +42,7 @@ pub struct Post<F: Completion + Copy + Drop, P: Places> {
     worker: Worker,
     outlets: Vec<(Actor, Outlet)>,
     tell: F,
-    // So many milliseconds its asks have waited, one behind the other.
+    // So many milliseconds updates that waited have been waited for, one behind the other.
     waited: u64,
 }
 
@@ -179,7 +179,7 @@ impl<F: Completion + Copy + Drop, P: Places> Post<F, P> {
     {
         let shard = usize::from(shard_of(&waits.key));
         let passed = self.waited.saturating_sub(waits.since);
-        let mut patience = Patience::behind(ANSWER, passed);
+        let mut patience = Patience::behind(passed);
         let told = finish_ask(
             rt,
             &self.shards,

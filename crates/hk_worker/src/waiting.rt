@@ -2,7 +2,7 @@
 //!
 //! | Who waits | for what | looks | and goes on |
 //! |---|---|---|---|
-//! | an ask whose update other nodes have to acknowledge | what it is told | under the shard's lock, behind each answer to an ask of its post | behind 100,000 looks, and not before 2 s since it began ([`ANSWER`]): its outcome is unknown then |
+//! | an ask whose update other nodes have to acknowledge | what it is told | under the shard's lock, behind each answer to an ask of its post | behind 100,000 looks, and not before 2 s since it began ([`ANSWER`]), of which 0.2 are its own: its outcome is unknown then |
 //! | a desk that is to make a call | the key's row to be Valid | under the lock, behind each step of a worker at the shard | after 32 ms ([`SETTLE`]): the call is made then, and told Busy of the row |
 //! | a read | the same | at the key's cell, with no lock, behind each step | after 32 ms: it is told Busy of the row then |
 //! | a desk whose node's lease has run out (`hk_group`) | one that serves | at the lease's cell, behind each step at the key's shard | after two lengths of a lease, and not before 1 s; until there is one again it waits no more |
@@ -29,6 +29,9 @@ use std::time::Duration;
 
 /// So long, in milliseconds, an ask waits for what it is told at least, before its outcome is unknown.
 pub(crate) const ANSWER: u64 = 2_000;
+
+// So long, in milliseconds, each is waited for at least: the looks that are left behind that follow at once, and take some ten milliseconds of a processor.
+const STILL: u64 = 200;
 
 /// So long, in milliseconds, whoever finds a row that is not Valid waits for it to become so.
 pub(crate) const SETTLE: u64 = 32;
@@ -74,9 +77,9 @@ impl Patience {
         }
     }
 
-    /// For so many milliseconds, of which these have passed.
-    pub(crate) fn behind(limit: u64, passed: u64) -> Patience {
-        Patience::new(limit.saturating_sub(passed))
+    /// For the answer to an update that has waited for so many milliseconds while others were waited for.
+    pub(crate) fn behind(passed: u64) -> Patience {
+        Patience::new(ANSWER.saturating_sub(passed).max(STILL))
     }
 
     /// So many milliseconds at least someone waited.
