@@ -5,7 +5,7 @@ ghost use Rattle.hk_base.specs.declared.call.Op.TheVariants.{Read};
 ghost use Rattle.hk_outside.specs.Desk.{Suits};
 
 use hk_base::{Answer, Content, Key, Memory, Op, Why};
-use hk_outside::{Desk, DeskReply, NoWait};
+use hk_outside::{Desk, DeskReply};
 use std::alloc::{AllocError, Global};
 
 // How many keys there is a place for. It is more than the benchmark has.
@@ -94,8 +94,12 @@ fn first_place(key: &[u8]) -> usize {
     (hash ^ (hash >> 32)) as usize % PLACES
 }
 
+/// What would wait at the desk. Nothing does.
+#[derive(Drop)]
+pub struct Waiting;
+
 impl Desk for TableDesk {
-    type Waits = NoWait;
+    type Waits = Waiting;
 
     ghost asks = { λ desk. None };
 
@@ -109,7 +113,7 @@ impl Desk for TableDesk {
         }
     }
 
-    fn finish(&mut self, waits: NoWait) -> Result<DeskReply, Memory> {
-        match waits {}
+    fn finish(&mut self, _waits: Waiting) -> Result<DeskReply, Memory> {
+        Err(Memory)
     }
 }
