@@ -119,3 +119,12 @@ following_keeps changed old new ticket before after are noted was = record {
 
 pub open_keys_stay : OpenKeysStay
 open_keys_stay changed old new ticket since key before after noted whole is was = stays new ticket key since changed before after noted whole is was
+
+-- where none is missing, the keys of the open rows tell which they are
+pub told_open : (keys : OpenState) (rows : Rows) (key : List ℕ) → AreOpen keys rows → keys.whole ≡ true → is_some (since_of key keys) ≡ is_open_at rows key
+told_open keys rows key are whole = by (is_some (since_of key keys)) (is_open_at rows key) refl refl
+  where
+    by : (b d : Bool) → is_some (since_of key keys) ≡ b → is_open_at rows key ≡ d → b ≡ d
+    by true d there is = sym (are.open_ones key there) ∙ is
+    by false true gone is = absurd (false≢true (sym gone ∙ are.all_open whole key is))
+    by false false gone is = refl

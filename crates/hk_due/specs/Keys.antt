@@ -51,6 +51,13 @@ abbrev pub AreNoted : Rows → ℕ → List (List ℕ) → OpenState → OpenSta
 AreNoted rows ticket [] before after = after ≡ before
 AreNoted rows ticket (key ∷ keys) before after = (between : OpenState) × IsNoted key (is_open_at rows key) ticket before between × AreNoted rows ticket keys between after
 
+-- A step of this ticket is followed by the keys of open rows. It changed just these rows: each that is open then is noted under the ticket, or keeps an earlier
+-- one, and the others are let go.
+pub record Follows (ticket : ℕ) (old new : Rows) (before after : OpenState) : Type 0 where
+  pub changed : List PriorRow
+  pub differ : AreChanged changed old new
+  pub noted : AreNoted new ticket (map (λ f. f.key) changed) before after
+
 -- whether a key is behind another one, or whatever it is; and whether it is open since a step of a ticket up to this one
 abbrev pub is_later : Option (List ℕ) → List ℕ × ℕ → Bool
 is_later after e = is_behind after e.0

@@ -1,14 +1,15 @@
 //! The keys of open rows.
 
-ghost use Rattle.std.specs.Prelude.{◌≡◌, ◌⊎◌, [], true, map, Some, None, IsTrue, IfOk, OnOk, OnErr};
+ghost use Rattle.std.specs.Prelude.{◌≡◌, ◌⊎◌, [], true, Some, None, IsTrue, IfOk, OnOk, OnErr};
 ghost use Rattle.std.specs.List.{find, filter};
 ghost use Rattle.std.specs.Option.{option_map, option_copied};
+ghost use Rattle.hk_node.specs.Index.{is_open_at};
 ghost use Rattle.hk_due.specs.Due.{due_key, due_of};
-ghost use Rattle.hk_due.specs.Keys.{since_of, AreOthersSame, IsKept, IsMissed, IsLetGo, IsNoted, AreNoted, is_later, is_due, next_due};
+ghost use Rattle.hk_due.specs.Keys.{since_of, AreOthersSame, IsKept, IsMissed, IsLetGo, IsNoted, AreOpen, is_later, is_due, next_due};
 
 use crate::due::{Due, due_at, is_open};
 use hk_base::{Key, Memory};
-use hk_node::{Node, PriorRow};
+use hk_node::Node;
 use std::alloc::Global;
 use std::collections::BTreeMap;
 use std::marker::Model;
@@ -97,8 +98,9 @@ impl OpenKeys {
         self.since.remove(key);
     }
 
-    // The key's row was found open, or was not, after the step of this ticket.
-    fn note(&mut self, key: &Key, found_open: bool, ticket: u64)
+    /// A step of this ticket changed the key's row, which was found open behind it, or was not. Where memory is wanting for an open one, it is missing from then
+    /// on. It looks at no row.
+    pub fn note(&mut self, key: &Key, found_open: bool, ticket: u64)
         ensures { IsNoted key.now found_open ticket self.old self.new }
     {
         if found_open {
@@ -108,14 +110,15 @@ impl OpenKeys {
         }
     }
 
-    /// A step of this ticket made the node `part`, and changed the rows of these keys. It looks at these rows alone. Where memory is wanting, keys are missing
-    /// from then on.
-    pub fn follow(&mut self, changed: &[PriorRow], part: &Node, ticket: u64)
-        ensures { AreNoted part.now.rows ticket (map (λ f. f.key) changed.now) self.old self.new }
+    /// Whether the key's row is open at the node `part`, of whose open rows these are the keys. It looks at no row, unless keys are missing.
+    pub fn is_open(&self, part: &Node, key: &Key) -> bool
+        requires { AreOpen self.now part.now.rows }
+        ensures { result ≡ is_open_at part.now.rows key.now }
     {
-        for prior in changed {
-            let found_open = is_open(part, &prior.key);
-            self.note(&prior.key, found_open, ticket);
+        if self.whole {
+            self.since.contains_key(key)
+        } else {
+            is_open(part, key)
         }
     }
 

@@ -5,7 +5,8 @@
 //! only where it was open at some earlier ticket, which the worker chooses: else what is on its way would be sent again at once. What is to be sent again
 //! of it its row tells ([`Due`]). Of a key for which someone waits that is told at once ([`due_of_key`]).
 //!
-//! The caller tells each step of the shard's node, in the order of their tickets, with the node as it is after the step.
+//! The caller tells of each step of the shard's node which rows it changed, and which of these are open then, in the order of the steps' tickets
+//! ([`OpenKeys::note`]).
 #![tactic(auto)]
 
 mod due;

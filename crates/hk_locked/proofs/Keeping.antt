@@ -28,9 +28,7 @@ use Rattle.std.specs.List.{AllByRecursion}
 use Rattle.hk_base.specs.Range.{IsLetter}
 use Rattle.hk_base.specs.declared.letter.Letter.{Letter}
 use Rattle.hk_node.proofs.Ranged.{letters_in_range}
-use Rattle.hk_node.specs.declared.report.PriorRow.{PriorRow}
-use Rattle.hk_node.specs.Report.{AreChanged}
-use Rattle.hk_due.specs.Keys.{OpenState, AreOpen, AreNoted}
+use Rattle.hk_due.specs.Keys.{OpenState, AreOpen, Follows}
 use Rattle.hk_due.proofs.Following.{following_keeps}
 use Rattle.hk_told.specs.declared.ask.Ask.{Ask}
 use Rattle.hk_told.specs.Lists.{last_row}
@@ -47,7 +45,6 @@ use Rattle.hk_told.proofs.Telling.{calls_begin_in_lists}
 use Rattle.hk_locked.specs.Places.{NodeNames, node_names, shard_names}
 use Rattle.hk_told.specs.Shown.{BeginsIn}
 use Rattle.hk_locked.specs.Locked.{lists_in, LockedState, IsLocked}
-use Rattle.hk_locked.specs.Makes.{Follows}
 use Rattle.hk_locked.specs.Steps.{GivesUp, IsLeft, AreOneOrNone, HasCalled, Begins, replies_with}
 
 -- ---- a shard's lists show its rows
@@ -161,18 +158,7 @@ called_letters s call key op event letters is same given =
     subst (AllByRecursion IsLetter) (sym given) (letters_in_range s.part event (part_is_node s is) (subst IsNodeEvent (sym same) tt))
 
 -- ---- the keys of open rows
--- a step that is reported is followed
-pub follows : (s t : ShardState) (ticket : ℕ) (event : NodeEvent) (changed shown : List PriorRow) (part : NodeState) (keys followed : OpenState) → IsApplied s ticket event t
-    → AreChanged changed s.part.rows (node_step s.part event).node.rows → shown ≡ changed → part ≡ t.part → AreNoted part.rows ticket (map (λ f. f.key) shown) keys followed
-    → Follows ticket s.part.rows t.part.rows keys followed
-follows s t ticket event changed shown part keys followed applied are same at noted = record {
-  changed = changed;
-  differ = subst (λ (n : NodeState). AreChanged changed s.part.rows n.rows) (sym applied.part) are;
-  noted = subst (λ (l : List PriorRow). AreNoted t.part.rows ticket (map (λ f. f.key) l) keys followed) same
-      (subst (λ (n : NodeState). AreNoted n.rows ticket (map (λ (f : PriorRow). f.key) shown) keys followed) at noted);
-}
-
--- and the keys are those of the open rows again
+-- a step is followed, and they are those of the open rows again
 still_open : (ticket : ℕ) (old new : Rows) (before after : OpenState) → Follows ticket old new before after → AreOpen before old → AreOpen after new
 still_open ticket old new before after follow = following_keeps follow.changed old new ticket before after follow.differ follow.noted
 

@@ -17,13 +17,13 @@ use Rattle.hk_due.specs.Due.{due_of, due_of_key}
 use Rattle.std.proofs.lemmas.Bool.{false≢true}
 use Rattle.hk_node.specs.Rows.{Rows}
 use Rattle.hk_node.specs.Index.{is_open_at}
-use Rattle.hk_due.specs.Keys.{OpenState, AreOpen, since_of}
+use Rattle.hk_due.specs.Keys.{OpenState, AreOpen, Follows, since_of}
 use Rattle.hk_told.specs.declared.ask.Ask.{Ask}
 use Rattle.hk_locked.specs.Places.{NodeNames}
 use Rattle.hk_node.specs.Calls.{lease_end}
 use Rattle.hk_locked.specs.Locked.{LockedState, ReaderState, IsLocked}
 use Rattle.hk_locked.specs.Steps.{Meets, MeetsLease, end_at, is_short}
-use Rattle.hk_locked.specs.Makes.{Stands, Follows, Makes, MakesCall, CallsAt, IsQuiet, due_in}
+use Rattle.hk_locked.specs.Makes.{Stands, Makes, MakesCall, CallsAt, IsQuiet, due_in}
 
 -- a step, as contracts see the shard before it
 pub makes : (s now : LockedState) (t : ShardState) (ticket : ℕ) (event : NodeEvent) (asks : List (CallNo × Ask)) (keys : OpenState) (letters : List Letter)

@@ -23,11 +23,11 @@ use Rattle.hk_told.specs.declared.asks.AskState.{AskState}
 use Rattle.hk_told.specs.declared.asks.AskState.TheVariants.{Gone, Waits, Told}
 use Rattle.hk_told.specs.Held.{IsHeld}
 use Rattle.hk_told.specs.Kept.{asks_in, LooksAs}
-use Rattle.hk_told.specs.Shown.{BeginsIn, LooksAt}
-use Rattle.hk_told.proofs.Telling.{asks_are_shown}
+use Rattle.hk_told.specs.Shown.{BeginsIn, LooksAt, LooksOn}
+use Rattle.hk_told.proofs.Telling.{asks_are_shown, looks_are_joined}
 use Rattle.hk_locked.specs.Places.{NodeNames, node_names, shard_names}
 use Rattle.hk_locked.specs.Locked.{lists_in, LockedState, IsLocked, ReaderState, IsReader}
-use Rattle.hk_locked.specs.Steps.{end_at, IsSameBut, IsLaterLease, IsGrown, Meets, MeetsLease, Reads, Begins, replies_with, StartsAt, LooksOnce, LooksFor}
+use Rattle.hk_locked.specs.Steps.{end_at, IsSameBut, IsLaterLease, IsGrown, Meets, MeetsLease, Reads, Begins, replies_with, StartsAt, LooksOnce, LooksFor, LooksOften, LooksOftenFor}
 
 -- ---- the reader stays the same one
 pub same_itself : (key : List ℕ) (r : ReaderState) → IsSameBut key r r
@@ -205,6 +205,39 @@ grown_looked key ticket told old new l = record {
   loads = let e = l.looks.1 in omega (arith, e);
   lease = lease_of old.lease new.lease l.lease;
 }
+
+-- ---- loads one after the other
+pub record MeetsOn (turns : ℕ) (key : List ℕ) (old new : ReaderState) : Type 0 where
+  pub grown : IsGrown key old new
+  pub lease : new.lease ≡ old.lease
+  pub loads : (end_at key new).loads ≡ (end_at key old).loads + turns
+
+pub meets_none : (key : List ℕ) (r : ReaderState) → MeetsOn 0 key r r
+meets_none key r = record { grown = grown_itself key r; lease = refl; loads = omega arith }
+
+pub meets_more : (turns : ℕ) (s : LockedState) (key : List ℕ) (old mid new : ReaderState) → MeetsOn turns key old mid → Meets s key mid new → MeetsOn (turns + 1) key old new
+meets_more turns s key old mid new on m = record {
+  grown = grown_on key old mid new on.grown (grown_met s key mid new m);
+  lease = m.lease ∙ on.lease;
+  loads = let p = on.loads in let q = m.loads in omega (arith, p, q);
+}
+
+looked_on : (turns looks : ℕ) (key : List ℕ) (ticket : ℕ) (told : Option Answer) (old mid new : ReaderState) → turns + 1 ≡ looks → MeetsOn turns key old mid → LooksOnce key ticket mid new told
+    → LooksOften looks key ticket old new told
+looked_on turns looks key ticket told old mid new count on l = record {
+  same = same_on key old mid new on.grown.same l.same;
+  lease = l.lease ∙ on.lease;
+  looks = subst (λ n. LooksOn n (end_at key old) (end_at key new) key ticket told) count
+      (looks_are_joined turns (end_at key old) (end_at key mid) (end_at key new) key ticket told on.grown.seen on.loads l.looks);
+}
+
+-- and a look at the ask behind them
+pub looks_on : {E : Type 0} (turns looks : ℕ) (key : List ℕ) (ticket : ℕ) (old mid new : ReaderState) (result : Result AskState E) → turns + 1 ≡ looks → MeetsOn turns key old mid
+    → IfOk result (λ look. LooksFor key ticket mid new look) → IfOk result (λ look. LooksOftenFor looks key ticket old new look)
+looks_on turns looks key ticket old mid new (Ok Gone) count on l = tt
+looks_on turns looks key ticket old mid new (Ok Waits) count on l = looked_on turns looks key ticket None old mid new count on l
+looks_on turns looks key ticket old mid new (Ok (Told answer)) count on l = looked_on turns looks key ticket (Some answer) old mid new count on l
+looks_on turns looks key ticket old mid new (Err e) count on l = tt
 
 -- a load by a reader of the same shard, as contracts see both
 pub met_inside : (places : List NodeNames) (s now : LockedState) (r old : ReaderState) (key : List ℕ) (cell : ℕ) (cells : Reader) → s ≡ now → r ≡ old → IsLocked places s → IsReader places r

@@ -3,7 +3,7 @@
 -- Nobody begins two updates under one stamp: what comes under the row's own stamp is the row's own update.
 --
 -- A row becomes Valid once every member of the view has acknowledged just its stamp, and an update begins only at a Valid row, by the next stamp of its kind: a write
--- steps the version by two, a read-modify-write by one (the paper's section 3). The stamp of a row never falls. So where a row is Valid, and the view is the one in
+-- steps the version by two, a read-modify-write by one (Hermes, "Read-Modify-Writes"). The stamp of a row never falls. So where a row is Valid, and the view is the one in
 -- which the group was founded, an INV above the row has a next stamp: the node where it began had just this row. Where its version is lower, that node had an older
 -- row, and has forgotten one that it acknowledged; where it is higher, this node has.
 use Rattle.std.specs.Prelude.{ℕ, ◌+◌, Bool, true, false, Option, None, Some, nat_eq, nat_lt, ◌==◌, ◌&&◌, if◌then◌else◌}
@@ -12,7 +12,6 @@ use Rattle.hk_base.specs.declared.stamp.NodeId.{NodeId}
 use Rattle.hk_base.specs.declared.call.Content.{Content}
 use Rattle.hk_base.specs.declared.stamp.Stamp.{Stamp}
 use Rattle.hk_base.specs.declared.stamp.Kind.{Kind}
-use Rattle.hk_base.specs.declared.stamp.Kind.TheVariants as Kind
 use Rattle.hk_base.specs.declared.letter.Actor.{Actor}
 use Rattle.hk_base.specs.declared.letter.Actor.TheVariants.{Node, Manager}
 use Rattle.hk_base.specs.declared.letter.Body.{Body}

@@ -1,5 +1,5 @@
 -- What a step makes of a shard under its lock, and what is told of one as it stands.
-use Rattle.std.specs.Prelude.{◌≡◌, ℕ, ◌<◌, false, List, map, Option}
+use Rattle.std.specs.Prelude.{◌≡◌, ℕ, ◌<◌, false, List, Option}
 use mathlib.Core.List.{IsPrefix}
 use Rattle.hk_base.specs.declared.call.CallNo.{CallNo}
 use Rattle.hk_base.specs.declared.call.Op.{Op}
@@ -7,16 +7,13 @@ use Rattle.hk_base.specs.declared.call.Answer.{Answer}
 use Rattle.hk_base.specs.declared.letter.Letter.{Letter}
 use Rattle.hk_node.specs.declared.event.NodeEvent.{NodeEvent}
 use Rattle.hk_node.specs.declared.event.NodeEvent.TheVariants.{Call}
-use Rattle.hk_node.specs.declared.report.PriorRow.{PriorRow}
-use Rattle.hk_node.specs.Rows.{Rows}
-use Rattle.hk_node.specs.Report.{AreChanged}
 use Rattle.hk_node.specs.Index.{is_open_at}
 use Rattle.hk_node.specs.Steps.{node_step}
 use Rattle.hk_node.specs.Calls.{lease_end}
 use Rattle.hk_shard.specs.Shard.{IsShard, IsApplied}
 use Rattle.hk_due.specs.declared.due.Due.{Due}
 use Rattle.hk_due.specs.Due.{due_of}
-use Rattle.hk_due.specs.Keys.{OpenState, AreNoted}
+use Rattle.hk_due.specs.Keys.{Follows}
 use Rattle.hk_told.specs.Kept.{asks_in}
 use Rattle.hk_locked.specs.Places.{NodeNames}
 use Rattle.hk_locked.specs.Locked.{LockedState, ReaderState, IsLocked, lists_in}
@@ -34,13 +31,6 @@ IsQuiet s = (key : List ℕ) → is_open_at s.shard.part.rows key ≡ false
 -- what is to be sent again of the least key behind one, or of all, that is open since a step up to a ticket
 abbrev pub due_in : Option (List ℕ) → ℕ → LockedState → Option Due
 due_in after before s = due_of after before s.open_keys s.shard.part.rows
-
--- A step of this ticket is followed by the keys of open rows. It changed just these rows: each that is open then is noted under the ticket, or keeps an earlier
--- one, and the others are let go.
-pub record Follows (ticket : ℕ) (old new : Rows) (before after : OpenState) : Type 0 where
-  pub changed : List PriorRow
-  pub differ : AreChanged changed old new
-  pub noted : AreNoted new ticket (map (λ f. f.key) changed) before after
 
 -- The step of an event was made, under a ticket above those of all before, and gave these letters. The keys of open rows follow it.
 pub record Makes (ticket : ℕ) (event : NodeEvent) (letters : List Letter) (old new : LockedState) : Type 0 where

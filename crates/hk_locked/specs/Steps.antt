@@ -22,7 +22,7 @@ use Rattle.hk_told.specs.declared.asks.AskState.TheVariants.{Gone, Waits, Told}
 use Rattle.hk_told.specs.declared.ask.Ask.{Ask}
 use Rattle.hk_told.specs.Held.{Asks, IsNewAsk, IsWith}
 use Rattle.hk_told.specs.Kept.{asks_in, given_up, AreOthersSame}
-use Rattle.hk_told.specs.Shown.{BeginsIn, Starts, Looks}
+use Rattle.hk_told.specs.Shown.{BeginsIn, Starts, Looks, LooksOn}
 use Rattle.hk_locked.specs.declared.told.ToldAsks.{ToldAsks}
 use Rattle.hk_locked.specs.declared.told.ToldAsks.TheVariants.{Nobody, One, Several}
 use Rattle.hk_locked.specs.Locked.{LockedState, ReaderState, lists_in}
@@ -145,6 +145,17 @@ abbrev pub LooksFor : List ℕ → ℕ → ReaderState → ReaderState → AskSt
 LooksFor key ticket old new Gone = ⊤
 LooksFor key ticket old new Waits = LooksOnce key ticket old new None
 LooksFor key ticket old new (Told answer) = LooksOnce key ticket old new (Some answer)
+
+-- the same by so many loads of the key's cell
+pub record LooksOften (turns : ℕ) (key : List ℕ) (ticket : ℕ) (old new : ReaderState) (told : Option Answer) : Type 0 where
+  pub same : IsSameBut key old new
+  pub lease : new.lease ≡ old.lease
+  pub looks : LooksOn turns (end_at key old) (end_at key new) key ticket told
+
+abbrev pub LooksOftenFor : ℕ → List ℕ → ℕ → ReaderState → ReaderState → AskState → Type 0
+LooksOftenFor turns key ticket old new Gone = ⊤
+LooksOftenFor turns key ticket old new Waits = LooksOften turns key ticket old new None
+LooksOftenFor turns key ticket old new (Told answer) = LooksOften turns key ticket old new (Some answer)
 
 -- no ask of this call and this key is kept that began under the ticket
 abbrev pub HasNoAsk : CallNo → List ℕ → ℕ → LockedState → Type 0

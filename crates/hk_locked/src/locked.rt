@@ -1,12 +1,11 @@
 //! A shard under its lock.
 
-ghost use Rattle.std.specs.Prelude.{◌≡◌, ◌<◌, ◌≤◌, ◌∷◌, [], true, false, None, Some, IsTrue, IfOk, OnOk, OnErr, MatchOption};
+ghost use Rattle.std.specs.Prelude.{◌≡◌, ◌<◌, ◌≤◌, ◌∷◌, [], true, false, not, None, Some, IsTrue, IfOk, OnOk, OnErr, MatchOption};
 ghost use Rattle.std.specs.Option.{option_copied, IfSome};
 ghost use Rattle.std.specs.List.{AllByRecursion};
 ghost use Rattle.hk_base.specs.Range.{IsLetter};
 ghost use Rattle.hk_base.specs.declared.time.TheConstants.{MAX_TIME};
 ghost use Rattle.hk_node.specs.Sound.{IsNodeEvent};
-ghost use Rattle.hk_node.specs.Outs.{IsOutOf};
 ghost use Rattle.hk_node.specs.Laws.{IsNoCall};
 ghost use Rattle.hk_shard.specs.Shard.{IsShard, IsApplied};
 ghost use Rattle.hk_snap.specs.Ends.{names};
@@ -18,12 +17,14 @@ ghost use Rattle.hk_node.specs.declared.event.NodeEvent.TheVariants.{Call};
 ghost use Rattle.hk_node.specs.Stepped.{replies_of};
 ghost use Rattle.hk_node.specs.Steps.{node_step};
 ghost use Rattle.hk_node.specs.Calls.{lease_end};
+ghost use Rattle.hk_node.specs.Index.{is_open_at};
 ghost use Rattle.hk_locked.specs.Places.{shard_names, node_names};
 ghost use Rattle.hk_locked.specs.ByRow.{ReadsRow};
 ghost use Rattle.hk_locked.specs.Doubts.{doubt_in};
-ghost use Rattle.hk_locked.specs.Makes.{Stands, Follows, Makes, MakesCall, CallsAt, IsQuiet, due_in};
+ghost use Rattle.hk_due.specs.Keys.{Follows};
+ghost use Rattle.hk_locked.specs.Makes.{Stands, Makes, MakesCall, CallsAt, IsQuiet, due_in};
 ghost use Rattle.hk_due.specs.Due.{due_of_key};
-ghost use Rattle.hk_locked.specs.Steps.{IsGrown, Meets, MeetsLease, Ticks, Trims, Begins, StartsAt, LooksFor, GivesUp, HasNoAsk, HasCalled, AreOneOrNone, replies_with, told_asks, is_short};
+ghost use Rattle.hk_locked.specs.Steps.{IsGrown, Meets, MeetsLease, Ticks, Trims, Begins, StartsAt, LooksFor, LooksOftenFor, GivesUp, HasNoAsk, HasCalled, AreOneOrNone, replies_with, told_asks, is_short};
 ghost use Rattle.hk_told.specs.declared.asks.AskState.TheVariants.{Gone};
 
 use crate::by_row::{RowRead, told_by};
@@ -31,12 +32,12 @@ use crate::doubt::{Doubt, doubt_in};
 use crate::places::Places;
 use crate::reader::ShardReader;
 use crate::told::{ToldAsks, told_asks};
-use hk_base::{Answer, CallNo, Key, Letter, Letters, Memory, NodeId, Op, Replies, Reply, State};
+use hk_base::{Answer, CallNo, Key, Letter, Letters, Memory, NodeId, Op, Replies, Reply};
 use hk_callback::{Callbacks, Completion};
 use hk_due::{Due, OpenKeys, due_of_key};
 use hk_journal::{Journal, share_journal};
-use hk_node::{Node, NodeEvent, NodeOut, Report};
-use hk_shard::Shard;
+use hk_node::{Node, NodeEvent};
+use hk_shard::{Shard, ShardOut};
 use hk_snap::cell_of;
 use hk_told::{Ask, AskState, Asks};
 use std::alloc::Global;
@@ -48,8 +49,6 @@ use std::sync::Wait;
 pub struct Given {
     /// The letters to send.
     pub letters: Letters,
-    /// What it did to its node.
-    pub report: Report,
     /// Whose asks it told.
     pub told: ToldAsks,
 }
@@ -186,28 +185,6 @@ fn answer_of(replies: Replies) -> Option<Answer>
     }
 }
 
-// Makes the step of an event. The keys of the open rows follow it.
-fn step<R: Wait>(
-    rt: &R,
-    alloc: Global,
-    shard: &mut Shard,
-    keys: &mut OpenKeys,
-    ticket: u64,
-    event: NodeEvent,
-) -> Result<NodeOut, Memory>
-    requires ticket { shard.old.last < ticket }
-    requires event { IsNodeEvent event }
-    ensures out { IfOk result (λ out. IsOutOf out shard.old.part (node_step shard.old.part event)) }
-    ensures applied { OnOk result (IsApplied shard.old ticket event shard.new) }
-    ensures followed { OnOk result (Follows ticket shard.old.part.rows shard.new.part.rows keys.old keys.new) }
-    ensures shard { OnErr result (shard.new ≡ shard.old) }
-    ensures unfollowed { OnErr result (keys.new ≡ keys.old) }
-{
-    let out = shard.apply(rt, alloc, ticket, event)?;
-    keys.follow(out.report.rows.as_slice(), shard.part(), ticket);
-    Ok(out)
-}
-
 // Makes the step of a call. Its completion and its ask are kept before, and dropped where it was answered at once or was not made.
 fn make_call<F: Completion + Drop, R: Wait>(
     rt: &R,
@@ -236,7 +213,7 @@ fn make_call<F: Completion + Drop, R: Wait>(
     let event = call_event(call, key, op)?;
     let ask = new_ask(key, ticket)?;
     keep(completions, asks, call, ask, tell)?;
-    let Ok(out) = step(rt, alloc, shard, keys, ticket, event) else {
+    let Ok(out) = shard.step(rt, alloc, keys, ticket, event) else {
         forget(completions, asks, call);
         return Err(Memory);
     };
@@ -290,12 +267,11 @@ impl<F: Completion + Copy + Drop, P: Places> LockedShard<F, P> {
         self.shard.last_ticket()
     }
 
-    /// Whether the key's row is Valid, or there is none.
-    pub fn is_settled(&self, key: &Key) -> bool {
-        match self.shard.part().row(key) {
-            Some(row) => row.state == State::Valid,
-            None => true,
-        }
+    /// Whether the key's row is Valid, or there is none. It looks at no row, unless memory was wanting for keys of open rows.
+    pub fn is_settled(&self, key: &Key) -> bool
+        ensures { result ≡ not (is_open_at self.now.shard.part.rows key.now) }
+    {
+        !self.open_keys.is_open(self.shard.part(), key)
     }
 
     /// Whether it is the node's shard of this number.
@@ -359,28 +335,14 @@ impl<F: Completion + Copy + Drop, P: Places> LockedShard<F, P> {
         ensures err { OnErr result (self.new ≡ self.old) }
     {
         keeps(&self.shard);
-        let out = step(
-            rt,
-            alloc,
-            &mut self.shard,
-            &mut self.open_keys,
-            ticket,
-            event,
-        )?;
-        let NodeOut {
-            letters,
-            replies,
-            report,
-            ..
-        } = out;
+        let out = self
+            .shard
+            .step(rt, alloc, &mut self.open_keys, ticket, event)?;
+        let ShardOut { letters, replies } = out;
         let told = told_asks(&replies);
         deliver(&mut self.completions, &mut self.asks, replies);
         keeps(&self.shard);
-        Ok(Given {
-            letters,
-            report,
-            told,
-        })
+        Ok(Given { letters, told })
     }
 
     // Whether the reader is of this shard.
@@ -522,6 +484,26 @@ impl<F: Completion + Copy + Drop, P: Places> LockedShard<F, P> {
             return Ok(AskState::Gone);
         }
         Ok(self.asks.look(call, ticket))
+    }
+
+    /// The same with so many loads, one after the other. Nothing is told or published between them, so the ask is looked at once.
+    pub fn look_on(
+        &mut self,
+        reader: &mut ShardReader<P>,
+        key: &Key,
+        call: CallNo,
+        ticket: u64,
+        looks: u64,
+    ) -> Result<AskState, Memory>
+        requires { 1 ≤ looks }
+        ensures looks { IfOk result (λ look. LooksOftenFor looks key.now ticket reader.old reader.new look) }
+        ensures gone { IfOk result (λ look. look ≡ Gone → HasNoAsk call key.now ticket self.old) }
+        ensures grown { IsGrown key.now reader.old reader.new }
+    {
+        for _met in 0..looks - 1 {
+            self.meet(key, reader)?;
+        }
+        self.look(reader, key, call, ticket)
     }
 
     // Whether of the time for which a lease of this length serves, where clocks may differ by `skew`, less is left than has gone.

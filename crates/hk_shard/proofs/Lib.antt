@@ -4,3 +4,4 @@ pub mod Listing
 pub mod Covering
 pub mod Keeping
 pub mod Reading
+mod Following

@@ -6,7 +6,7 @@
 //! each step since then the shard keeps what it replaced, by which the base is made of the part when it is asked for.
 //!
 //! What a shard shows to readers that hold no lock stands in its cells (`hk_snap`): each row that an event changed is published
-//! before [`Shard::apply`] returns, and the lease cell shows the end of the part's lease and its clock. So what is published in a
+//! before [`Shard::apply`] or [`Shard::step`] returns, and the lease cell shows the end of the part's lease and its clock. So what is published in a
 //! cell is just what the journal tells.
 //!
 //! The caller keeps a lock round each shard where threads share it, gives tickets that rise and events that are in range, and
@@ -21,3 +21,4 @@ mod step;
 
 pub use laws::{cells_show_the_part, leases_never_fall, local_reads_are_reads};
 pub use shard::{SHARDS, Shard, shard_of};
+pub use step::ShardOut;

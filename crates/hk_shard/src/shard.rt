@@ -4,16 +4,19 @@ ghost use Rattle.std.specs.Prelude.{◌≡◌, ℕ, ◌<◌, ◌≤◌, ◌*◌,
 ghost use Rattle.hk_node.specs.Outs.{IsOutOf};
 ghost use Rattle.hk_node.specs.Steps.{node_step};
 ghost use Rattle.hk_node.specs.Calls.{lease_end};
+ghost use Rattle.hk_node.specs.Stepped.{replies_of};
 ghost use Rattle.hk_node.specs.Sound.{IsNodeEvent};
+ghost use Rattle.hk_due.specs.Keys.{Follows};
 ghost use mathlib.Core.List.{IsPrefix};
 ghost use Rattle.hk_snap.specs.Ends.{names, noted, seen_at, looked, Loads};
 ghost use Rattle.hk_snap.specs.Leases.{Looks};
 ghost use Rattle.hk_shard.specs.Shard.{shard_of};
 
 use crate::replaced::{Replaced, let_go};
-use crate::show::{call_of, lease_end, publish_rows};
-use crate::step::{before_all, make};
+use crate::show::{call_of, lease_end, publish_rows, show_rows};
+use crate::step::{ShardOut, before_all, make, make_noted, move_in};
 use hk_base::{Key, Memory};
+use hk_due::OpenKeys;
 use hk_journal::Journal;
 use hk_node::{Node, NodeEvent, NodeOut};
 use hk_snap::{LeaseCell, LeaseKeeper, SnapReader, SnapWriter, cells, lease_cell};
@@ -146,6 +149,37 @@ impl Shard {
         let_go(&mut self.spent);
         self.last = ticket;
         Ok(out)
+    }
+
+    /// The same, but what the step did to its node is given to nobody, and the keys of the open rows follow it. Where memory is wanting, the shard and the keys
+    /// are as they were.
+    pub fn step<R: Wait>(
+        &mut self,
+        rt: &R,
+        alloc: Global,
+        keys: &mut OpenKeys,
+        ticket: u64,
+        event: NodeEvent,
+    ) -> Result<ShardOut, Memory>
+        requires ticket { self.old.last < ticket }
+        requires event { IsNodeEvent event }
+        ensures letters { IfOk result (λ out. out.letters ≡ (node_step self.old.part event).letters) }
+        ensures replies { IfOk result (λ out. out.replies ≡ replies_of (node_step self.old.part event)) }
+        ensures applied { OnOk result (IsApplied self.old ticket event self.new) }
+        ensures followed { OnOk result (Follows ticket self.old.part.rows self.new.part.rows keys.old keys.new) }
+        ensures err { OnErr result (self.new ≡ self.old) }
+        ensures unfollowed { OnErr result (keys.new ≡ keys.old) }
+    {
+        let call = call_of(&event);
+        self.replaced.reserve(1)?;
+        let out = make_noted(alloc, &mut self.part, &mut self.journal, ticket, event)?;
+        let rows = out.report.rows.as_slice();
+        show_rows(rt, &mut self.writer, keys, &self.part, ticket, call, rows);
+        self.keeper
+            .raise(rt, lease_end(&self.part), self.part.now());
+        let_go(&mut self.spent);
+        self.last = ticket;
+        Ok(move_in(&mut self.replaced, out))
     }
 
     /// Hands out the journal, and begins a new one with room for as many entries: the base becomes the part. It looks at no row and at no entry.

@@ -1,6 +1,6 @@
 //! Steps of a node that are kept in a journal, and what they replaced, by which they are undone.
 
-ghost use Rattle.std.specs.Prelude.{◌≡◌, ◌∷◌, ◌++◌, [], true, IfOk, OnOk, OnErr};
+ghost use Rattle.std.specs.Prelude.{◌≡◌, ◌<◌, ◌∷◌, ◌++◌, [], true, vec_len, vec_capacity, IfOk, OnOk, OnErr};
 ghost use Rattle.hk_node.specs.Node.{NodeState};
 ghost use Rattle.hk_node.specs.Outs.{IsOutOf};
 ghost use Rattle.hk_node.specs.Steps.{node_step};
@@ -11,10 +11,19 @@ ghost use Rattle.hk_shard.specs.Shard.{step_entry};
 ghost use Rattle.hk_shard.specs.Replaced.{replaced_of, before_all, AreKept, AreReplaced};
 
 use crate::replaced::{Replaced, replaced_of, share_all};
-use hk_base::Memory;
+use hk_base::{Letters, Memory, Replies};
 use hk_journal::{Journal, entry};
 use hk_node::{Node, NodeEvent, NodeOut, Undo};
 use std::alloc::Global;
+
+/// What a step gave to whoever asked for it. What it replaced stays with the shard.
+#[derive(Drop)]
+pub struct ShardOut {
+    /// The letters to send, in the order of their keys, and for one key in rising order of the addressees.
+    pub letters: Letters,
+    /// The calls that are answered, in key order.
+    pub replies: Replies,
+}
 
 // Whether the step left its node as it was.
 fn changed_nothing(out: &NodeOut) -> bool
@@ -85,6 +94,51 @@ fn record(
         return Err(fault);
     }
     Ok(())
+}
+
+/// Makes the step of an event, and adds its entry to the journal. Where memory is wanting, both are as they were.
+pub(crate) fn make_noted(
+    alloc: Global,
+    part: &mut Node,
+    journal: &mut Journal,
+    ticket: u64,
+    event: NodeEvent,
+) -> Result<NodeOut, Memory>
+    requires event { IsNodeEvent event }
+    requires node { IsNode part.old }
+    ensures out { IfOk result (λ out. IsOutOf out part.old (node_step part.old event)) }
+    ensures part { OnOk result (part.new ≡ (node_step part.old event).node) }
+    ensures journal { OnOk result (journal.new ≡ journal.old ++ step_entry ticket part.old event ∷ []) }
+    ensures part_stays { OnErr result (part.new ≡ part.old) }
+    ensures journal_stays { OnErr result (journal.new ≡ journal.old) }
+{
+    let out = part.step(alloc, &event)?;
+    if let Err(fault) = note(alloc, journal, ticket, event, &out) {
+        part.undo(out.report, out.undo);
+        return Err(fault);
+    }
+    Ok(out)
+}
+
+/// Keeps what a step replaced, if it replaced anything, and gives the rest of what the step gave. There is room for it.
+pub(crate) fn move_in(replaced: &mut Vec<Replaced>, out: NodeOut) -> ShardOut
+    requires room { vec_len replaced.old < vec_capacity replaced.old }
+    ensures kept { AreKept out replaced.old.items replaced.new.items }
+    ensures letters { result.letters ≡ out.letters }
+    ensures replies { result.replies ≡ out.replies }
+{
+    let is_nothing = changed_nothing(&out);
+    let NodeOut {
+        letters,
+        replies,
+        report,
+        undo,
+        ..
+    } = out;
+    if !is_nothing {
+        replaced.push_reserved(Replaced { report, undo });
+    }
+    ShardOut { letters, replies }
 }
 
 /// Makes the step of an event, adds its entry to the journal, and keeps what it replaced. Where memory is wanting, all is as it was.
