@@ -14,7 +14,7 @@ use hk_locked::Places;
 use hk_outside::{Begun, Clock, Desk, DeskReply};
 use hk_shard::shard_of;
 use hk_snap::LeaseCell;
-use hk_worker::{Changes, ClockDesk, OpenAsk, Patience, Post, Shards};
+use hk_worker::{ClockDesk, OpenAsk, Patience, Post};
 use std::sync::{Arc, Wait};
 
 // So long, in milliseconds, a desk waits at least for a lease that serves.
@@ -83,14 +83,21 @@ impl<C: Clock + Drop> Ringing<C> {
     // Has the workers ask for a lease where so much of it is left.
     fn ask_if_short<R: Wait>(&self, rt: &R, left: Option<u64>) {
         if self.terms.is_short(left.unwrap_or(0)) {
-            self.bell.ring(rt);
+            self.bell.ring(rt, 1);
         }
     }
 
     // Waits until the lease of the shard serves, behind each step that is made there, and gives whether it does. Whoever waited in vain waits no more until it does.
-    fn wait_for_lease<R: Wait>(&mut self, rt: &R, shard: u8, steps: &Changes) -> bool
+    // Before it waits it rings for the letters of asks that were begun.
+    fn wait_for_lease<R: Wait, P: Places>(
+        &mut self,
+        rt: &R,
+        post: &Post<Unheard, P>,
+        shard: u8,
+    ) -> bool
         requires { shard < 8 }
     {
+        let steps = post.shards().steps_at(shard);
         let mut patience = self.terms.patience();
         let mut asks = true;
         for _ in rt.forever() {
@@ -102,6 +109,7 @@ impl<C: Clock + Drop> Ringing<C> {
             if left.is_some() || self.is_out || patience.is_over() {
                 return left.is_some();
             }
+            post.ring(rt);
             patience.wait(rt, steps, seen);
             asks = patience.is_to_ask();
         }
@@ -109,12 +117,11 @@ impl<C: Clock + Drop> Ringing<C> {
     }
 
     // Has the lease of the key's shard asked for where it is near its end, and waits a while where it serves no longer.
-    fn keep_lease<R: Wait, P: Places>(&mut self, rt: &R, shards: &Shards<Unheard, P>, key: &Key) {
+    fn keep_lease<R: Wait, P: Places>(&mut self, rt: &R, post: &Post<Unheard, P>, key: &Key) {
         if !self.terms.asked || self.terms.serves() == 0 {
             return;
         }
-        let shard = shard_of(key);
-        let serves = self.wait_for_lease(rt, shard, shards.steps_at(shard));
+        let serves = self.wait_for_lease(rt, post, shard_of(key));
         self.is_out = !serves;
     }
 
@@ -126,7 +133,7 @@ impl<C: Clock + Drop> Ringing<C> {
         }
         self.load.add(self.bytes);
         self.bytes = 0;
-        self.bell.ring(rt);
+        self.bell.ring(rt, 1);
     }
 
     // Counts what was asked, and gives whether the desk is to look at the journals now. Reads fill none.
@@ -158,14 +165,14 @@ fn is_ready<C: Clock + Drop, R: Wait, P: Places>(
     rt: &R,
     reserve: &mut Reserve,
     ringing: &mut Ringing<C>,
-    shards: &Shards<Unheard, P>,
+    post: &Post<Unheard, P>,
     key: &Key,
     op: &Op,
 ) -> bool {
     if !reserve.is_left(data_in(op)) {
         return false;
     }
-    ringing.keep_lease(rt, shards, key);
+    ringing.keep_lease(rt, post, key);
     true
 }
 
@@ -195,12 +202,11 @@ impl<C: Clock + Drop, R: Wait + Drop, P: Places> Desk for GroupDesk<C, R, P> {
         ensures suits { Suits op.now result }
         ensures told { AsksByClock (C.reading self.old.desk.clock.value) key.now op.now self.old.desk.desk.post self.new.desk.desk.post result }
     {
-        let shards = self.desk.desk.post.shards();
         if !is_ready(
             &self.rt,
             &mut self.reserve,
             &mut self.ringing,
-            shards,
+            &self.desk.desk.post,
             key,
             op,
         ) {
@@ -216,12 +222,11 @@ impl<C: Clock + Drop, R: Wait + Drop, P: Places> Desk for GroupDesk<C, R, P> {
         ensures suits { BeginSuits (λ waits. waits.op) op.now result }
         ensures told { BeginsByClock (C.reading self.old.desk.clock.value) key.now op.now self.old.desk.desk.post self.new.desk.desk.post result }
     {
-        let shards = self.desk.desk.post.shards();
         if !is_ready(
             &self.rt,
             &mut self.reserve,
             &mut self.ringing,
-            shards,
+            &self.desk.desk.post,
             key,
             op,
         ) {

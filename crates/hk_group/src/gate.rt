@@ -33,8 +33,8 @@ impl Ending {
 // So often a loop tries to claim a ring that others claim too.
 const TRIES: u32 = 64;
 
-/// The rings of a bell, each of which is claimed once, by one of the loops that wait at it. A parcel is put before its ring, so as many turns as there were rings
-/// take all parcels.
+/// The rings of a bell, each of which is claimed once, by one of the loops that wait at it. The bell is rung once for each parcel, behind its put or behind the last
+/// of several, so as many turns as there were rings take all parcels.
 #[derive(Drop)]
 pub(crate) struct Rings {
     bell: Arc<Bell>,

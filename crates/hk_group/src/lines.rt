@@ -9,7 +9,7 @@ use std::sync::{Arc, Wait};
 /// A link has room for so many parcels.
 pub(crate) const ROOM: usize = 1_024;
 
-/// For each node and manager an outlet that leads there, and the bell that each parcel rings.
+/// For each node and manager an outlet that leads there, and the bell that its parcels ring.
 #[derive(Drop)]
 pub(crate) struct Lines {
     outlets: Vec<(Actor, Outlet)>,
@@ -55,7 +55,7 @@ impl Lines {
     /// Wakes whoever sleeps at one of the bells.
     pub(crate) fn ring_all<R: Wait>(&self, rt: &R) {
         for bell in &self.bells {
-            bell.ring(rt);
+            bell.wake_all(rt);
         }
     }
 }

@@ -24,7 +24,7 @@ use std::sync::{Arc, Wait};
 pub struct Way {
     pub node: NodeId,
     pub inlet: Inlet,
-    /// Each put rings it.
+    /// What is put rings it.
     pub bell: Arc<Bell>,
 }
 

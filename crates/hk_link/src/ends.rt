@@ -13,6 +13,7 @@ use crossbeam_queue::Pass;
 use hk_base::Memory;
 use std::alloc::Global;
 use std::marker::Model;
+use std::sync::atomic::{AtomicU64, Ordering};
 use std::sync::{Arc, Wait};
 
 /// An end of a link that puts. Contracts see which link it is, its room, and what the end knows of what was put and taken.
@@ -21,6 +22,8 @@ pub struct Outlet {
     line: Arc<Line>,
     pass: Pass<Parcel, Known>,
     bell: Option<Arc<Bell>>,
+    // So many parcels were put for which the bell was not rung yet.
+    unrung: AtomicU64,
 }
 
 impl Model for Outlet {
@@ -80,20 +83,27 @@ pub fn link(alloc: Global, room: usize) -> Result<(Outlet, Inlet), Memory>
         line,
         pass,
         bell: None,
+        unrung: AtomicU64::new(0),
     };
     Ok((outlet, inlet))
 }
 
 impl Outlet {
-    /// The same outlet, which rings the bell after each put. Its splits ring it too. It takes no memory.
+    /// The same outlet, which rings the bell once for each parcel. Its splits ring it too. It takes no memory.
     pub fn with_bell(self, bell: Arc<Bell>) -> Outlet
         ensures { result ≡ self }
     {
-        let Outlet { line, pass, .. } = self;
+        let Outlet {
+            line,
+            pass,
+            unrung,
+            ..
+        } = self;
         Outlet {
             line,
             pass,
             bell: Some(bell),
+            unrung,
         }
     }
 
@@ -102,16 +112,42 @@ impl Outlet {
         ensures link { IsSameLink self.new self.old }
         ensures put { MatchResult result (λ _. IsPut self.old.known parcel self.new.known) (λ full. (full.0 ≡ parcel) × (self.new ≡ self.old) × WasFull self.old) }
     {
-        match steps::put(rt, &self.line, &mut self.pass, parcel) {
+        match self.put_quietly(rt, parcel) {
             Ok(()) => {
                 self.ring(rt);
+                Ok(())
+            }
+            Err(full) => Err(full),
+        }
+    }
+
+    /// The same, but the bell is not rung. Whoever puts so calls `ring` behind the last of several puts, before it waits for anything and before it lets the outlet go:
+    /// who takes may sleep until then.
+    pub fn put_quietly<R: Wait>(&mut self, rt: &R, parcel: Parcel) -> Result<(), Full>
+        ensures link { IsSameLink self.new self.old }
+        ensures put { MatchResult result (λ _. IsPut self.old.known parcel self.new.known) (λ full. (full.0 ≡ parcel) × (self.new ≡ self.old) × WasFull self.old) }
+    {
+        match steps::put(rt, &self.line, &mut self.pass, parcel) {
+            Ok(()) => {
+                self.unrung.fetch_add(1, Ordering::SeqCst);
                 Ok(())
             }
             Err(parcel) => Err(Full(parcel)),
         }
     }
 
-    /// The bell that each put rings, if there is one.
+    /// Rings the bell once for each parcel that was put quietly since the last call. Where there is none, or no bell, it does nothing.
+    pub fn ring<R: Wait>(&self, rt: &R) {
+        if self.unrung.load(Ordering::SeqCst) == 0 {
+            return;
+        }
+        let parcels = self.unrung.swap(0, Ordering::SeqCst);
+        if let Some(bell) = &self.bell {
+            bell.ring(rt, parcels);
+        }
+    }
+
+    /// The bell that its puts ring, if there is one.
     pub fn bell(&self) -> Option<&Arc<Bell>> {
         self.bell.as_ref()
     }
@@ -121,13 +157,6 @@ impl Outlet {
         match &self.bell {
             Some(bell) => bell.is_closed(),
             None => false,
-        }
-    }
-
-    // Rings the bell, if there is one.
-    fn ring<R: Wait>(&self, rt: &R) {
-        if let Some(bell) = &self.bell {
-            bell.ring(rt);
         }
     }
 
@@ -143,15 +172,22 @@ impl Outlet {
             None => None,
         };
         let pass = steps::halve(&line, &mut self.pass);
-        Ok(Outlet { line, pass, bell })
+        Ok(Outlet {
+            line,
+            pass,
+            bell,
+            unrung: AtomicU64::new(0),
+        })
     }
 
-    /// Takes in another outlet of the same link. It takes no memory.
+    /// Takes in another outlet of the same link, and rings later for what that put quietly. It takes no memory.
     pub fn join(&mut self, other: Outlet)
         requires { IsSameLink other self.old }
         ensures { self.new ≡ with_known self.old (joined self.old.known other.known) }
     {
-        let Outlet { pass, .. } = other;
+        let Outlet { pass, unrung, .. } = other;
+        self.unrung
+            .fetch_add(unrung.load(Ordering::SeqCst), Ordering::SeqCst);
         steps::join(&self.line, &mut self.pass, pass);
     }
 }

@@ -6,7 +6,8 @@
 //! [`Full`] only where the link held as many parcels as it has room for, a take `None` only where it was empty, each at a moment of that call.
 //! That a thread which waits is ever served is no part of this.
 //!
-//! A [`Bell`] lets whoever takes sleep until something was put.
+//! A [`Bell`] lets whoever takes sleep until something was put. A put rings it, or several quiet ones and one `ring` behind them. The caller owes that `ring`, before
+//! it waits for anything: a parcel that is not rung for waits for the next one that is.
 #![tactic(auto)]
 
 mod bell;

@@ -5,7 +5,10 @@
 //! most is taken by the manager of its shard number, and what that sends goes on for the same shard number. What a turn may do is a definition,
 //! `specs/Turns.antt`. A letter for which there is no room is lost, as is one that comes while memory is wanting.
 //!
-//! The caller owes what `hk_manager` asks of whoever makes the steps, and that a post's outlets lead to whom they are named for.
+//! Letters are put quietly, and [`ring_all`] rings for all that were put: `oversee` does so behind each turn.
+//!
+//! The caller owes what `hk_manager` asks of whoever makes the steps, and that a post's outlets lead to whom they are named for. Whoever calls [`send`] itself owes
+//! that [`ring_all`] follows before it waits for anything.
 #![tactic(auto)]
 
 mod gate;
@@ -14,6 +17,6 @@ mod post;
 mod turns;
 
 pub use gate::Gate;
-pub use outlets::{Outlets, send, send_all};
+pub use outlets::{Outlets, ring_all, send, send_all};
 pub use post::ManagerPost;
 pub use turns::oversee;

@@ -29,7 +29,7 @@ fn place_of(to: Actor, outlets: &[(Actor, Outlet)]) -> Option<usize>
     outlets.iter().position(|outlet| is_same(to, outlet.0))
 }
 
-// Puts the letter, unless the link is full.
+// Puts the letter, unless the link is full. Who takes it is not rung for yet.
 fn offer<R: Wait>(rt: &R, outlet: &mut Outlet, shard: u8, letter: Letter)
     requires shard { shard < 8 }
     requires letter { IsLetter letter }
@@ -37,14 +37,14 @@ fn offer<R: Wait>(rt: &R, outlet: &mut Outlet, shard: u8, letter: Letter)
     ensures { IsOffered shard letter outlet.old outlet.new }
 {
     let parcel = Parcel { shard, letter };
-    match outlet.put(rt, parcel) {
+    match outlet.put_quietly(rt, parcel) {
         Ok(()) => {}
         Err(Full(_lost)) => {}
     }
 }
 
 /// Sends a letter to a shard of its addressee, by the first outlet to that actor. It is lost where there is none, where the link is full, or where it fits no
-/// frame. It takes no memory.
+/// frame. It takes no memory. Whoever sends calls [`ring_all`] behind the last of several letters, before it waits for anything.
 pub fn send<R: Wait>(rt: &R, outlets: &mut Vec<(Actor, Outlet)>, shard: u8, letter: Letter)
     requires shard { shard < 8 }
     requires letter { IsLetter letter }
@@ -59,7 +59,7 @@ pub fn send<R: Wait>(rt: &R, outlets: &mut Vec<(Actor, Outlet)>, shard: u8, lett
     offer(rt, &mut outlets[place].1, shard, letter);
 }
 
-/// Sends these letters, one after the other.
+/// Sends these letters, one after the other, as [`send`] does.
 pub fn send_all<R: Wait>(rt: &R, outlets: &mut Vec<(Actor, Outlet)>, shard: u8, letters: Letters)
     requires shard { shard < 8 }
     requires letters { AllByRecursion IsLetter letters }
@@ -67,5 +67,12 @@ pub fn send_all<R: Wait>(rt: &R, outlets: &mut Vec<(Actor, Outlet)>, shard: u8, 
 {
     for letter in letters.into_vec() {
         send(rt, outlets, shard, letter);
+    }
+}
+
+/// Rings for all that was sent by these outlets. Where nothing was sent since the last call it does nothing.
+pub fn ring_all<R: Wait>(rt: &R, outlets: &[(Actor, Outlet)]) {
+    for (_actor, outlet) in outlets {
+        outlet.ring(rt);
     }
 }

@@ -5,7 +5,7 @@ ghost use Rattle.hk_base.specs.declared.time.TheConstants.{MAX_TIME};
 ghost use Rattle.hk_overseer.specs.Turns.{with_clocks, IsReceived, IsLetGo, IsTurn, AreTurns};
 
 use crate::gate::Gate;
-use crate::outlets::send_all;
+use crate::outlets::{ring_all, send_all};
 use crate::post::{ManagerPost, step_at, tick_all};
 use hk_base::MAX_TIME;
 use hk_link::Parcel;
@@ -34,6 +34,7 @@ impl ManagerPost {
             return;
         };
         send_all(rt, &mut self.outlets, shard, letters);
+        ring_all(rt, self.outlets.as_slice());
     }
 
     // One turn.

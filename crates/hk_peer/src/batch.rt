@@ -2,14 +2,14 @@
 
 ghost use Rattle.std.specs.Prelude.{◌≡◌, ◌≤◌, Err, IfOk};
 ghost use Rattle.hk_outside.specs.Causes.{Rose};
-ghost use Rattle.hk_peer.specs.Sending.{Sends, IsWritten, Forwards, DialsFor};
+ghost use Rattle.hk_peer.specs.Sending.{Sends, IsWritten};
 ghost use Rattle.hk_peer.specs.Parcels.{frames_of};
 
 use crate::send::{ForwardFault, SendFault};
 use hk_base::Memory;
 use hk_frame::print_letter;
 use hk_link::Parcel;
-use hk_outside::{Connection, Dial, Sink, write_all};
+use hk_outside::{Connection, Sink, write_all};
 use std::alloc::Global;
 
 // The frames of these parcels, one behind the other.
@@ -42,7 +42,8 @@ pub fn send_parcels<K: Sink>(
     }
 }
 
-fn write_parcels<C: Connection>(
+/// Sends these parcels on a connection that there is, in their order and in one write where it takes them, as [`crate::forward`] sends one.
+pub fn write_parcels<C: Connection>(
     alloc: Global,
     conn: &mut C,
     parcels: &[Parcel],
@@ -54,28 +55,4 @@ fn write_parcels<C: Connection>(
         Err(SendFault::Memory) => Err(ForwardFault::Memory),
         Err(SendFault::WriteFault) => Err(ForwardFault::WriteFault),
     }
-}
-
-/// Sends these parcels, in their order and in one write where the connection takes them, as [`crate::forward`] sends one.
-pub fn forward_all<D: Dial>(
-    alloc: Global,
-    dialer: &mut D,
-    port: u16,
-    conn: &mut Option<D::Conn>,
-    parcels: &[Parcel],
-) -> Result<(), ForwardFault>
-    ensures forwarded { Forwards D.Conn.Sink.held D.Conn.Source.faults D.Conn.Sink.faults result (frames_of parcels.now) conn.old conn.new }
-    ensures port { DialsFor conn.old (D.ports dialer.old) (D.ports dialer.new) port }
-    ensures later { D.faults dialer.old ≤ D.faults dialer.new }
-    ensures dial_fault { result ≡ Err ForwardFault.DialFault → Rose (D.faults dialer.old) (D.faults dialer.new) }
-{
-    if let Some(held) = conn {
-        return write_parcels(alloc, held, parcels);
-    }
-    let Ok(mut dialled) = dialer.dial(port) else {
-        return Err(ForwardFault::DialFault);
-    };
-    let result = write_parcels(alloc, &mut dialled, parcels);
-    *conn = Some(dialled);
-    result
 }

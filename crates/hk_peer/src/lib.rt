@@ -19,7 +19,7 @@ mod step;
 
 ghost use Rattle.hk_peer.specs.Laws.{CutInOneWay, StepsStay, PutsAddUp};
 
-pub use batch::{forward_all, send_parcels};
+pub use batch::{send_parcels, write_parcels};
 pub use cutter::PeerCutter;
 pub use ends::PeerEnd;
 pub use send::{ForwardFault, SendFault, forward, send_parcel};

@@ -51,7 +51,7 @@ impl Waiting {
     }
 }
 
-// Puts the parcel, as often as the link is full, unless nobody takes from it any more.
+// Puts the parcel, as often as the link is full, unless nobody takes from it any more. Before it waits it rings for what was put.
 fn put<R: Wait>(rt: &R, outlet: &mut Outlet, parcel: Parcel) -> Result<(), Untaken>
     ensures link { IsSameLink outlet.new outlet.old }
     ensures put { OnOk result (IsPut outlet.old.known parcel outlet.new.known) }
@@ -60,13 +60,14 @@ fn put<R: Wait>(rt: &R, outlet: &mut Outlet, parcel: Parcel) -> Result<(), Untak
     let mut unput = parcel;
     let mut waiting = Waiting::new();
     for _ in rt.forever() {
-        match outlet.put(rt, unput) {
+        match outlet.put_quietly(rt, unput) {
             Ok(()) => return Ok(()),
             Err(Full(back)) => {
                 if outlet.is_closed() {
                     return Err(Untaken);
                 }
                 unput = back;
+                outlet.ring(rt);
                 waiting.wait(rt);
             }
         }
@@ -96,8 +97,8 @@ fn pass_on<R: Wait>(rt: &R, me: NodeId, outlet: &mut Outlet, parcel: Parcel) -> 
     Ok(())
 }
 
-/// Puts the parcels to this node whose frames are there, in their order.
-pub fn pass<R: Wait>(
+// Puts the parcels to this node whose frames are there, in their order. They are rung for later.
+fn put_all<R: Wait>(
     rt: &R,
     alloc: Global,
     cutter: &mut PeerCutter,
@@ -119,4 +120,21 @@ pub fn pass<R: Wait>(
             Err(_) => return Err(PeerEnd::Memory),
         }
     }
+}
+
+/// Puts the parcels to this node whose frames are there, in their order, and rings once for all of them.
+pub fn pass<R: Wait>(
+    rt: &R,
+    alloc: Global,
+    cutter: &mut PeerCutter,
+    me: NodeId,
+    outlet: &mut Outlet,
+) -> Result<(), PeerEnd>
+    ensures link { IsSameLink outlet.new outlet.old }
+    ensures passed { PassesUnlessEnded result me cutter.old.unread cutter.new.unread outlet.old.known outlet.new.known }
+    ensures stop { IsStop result cutter.new.unread }
+{
+    let ends = put_all(rt, alloc, cutter, me, outlet);
+    outlet.ring(rt);
+    ends
 }

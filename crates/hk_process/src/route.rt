@@ -28,7 +28,7 @@ pub(crate) struct Route<D: Dial + Drop> {
 }
 
 impl<D: Dial + Drop> Forward for Route<D> {
-    // What `hk_peer::forward_all` does. A job can't call what is generic in a dialer, since the dialer's connections may change threads.
+    // What `hk_peer::forward` does, of several. A job can't call what is generic in a dialer, since the dialer's connections may change threads.
     fn forward(&mut self, batch: &[Parcel])
         ensures whole { HasWhole D.Conn.Sink.held D.Conn.Source.faults D.Conn.Sink.faults (frames_of batch.now) self.old.conn self.new.conn }
         ensures port { DialsFor self.old.conn (D.ports self.old.dialer) (D.ports self.new.dialer) self.old.port }

@@ -61,7 +61,7 @@ impl Sending {
         } = self;
         ending.tell();
         for bell in &bells {
-            bell.ring(rt);
+            bell.wake_all(rt);
         }
         jobs.wait(rt);
     }

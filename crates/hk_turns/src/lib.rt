@@ -5,6 +5,9 @@
 //! which someone waits, or of the next key, in the order of shards and keys, that was open at the call of `work` before. What the step sends goes on for the same shard, each letter asked of the
 //! gate. A turn that has nothing to do yields. One that finds no memory, or whose letter the shard refuses, loses its parcel. What turns do is a definition, `specs/Turns.antt`.
 //!
+//! Letters are put quietly, and who waits for a step is not woken by it: behind its last turn, before one that finds no parcel, and behind each sixteenth [`work`] rings
+//! for all that was put, and wakes all. So whoever sleeps between calls of it owes nobody anything.
+//!
 //! Where the steps are made is behind a trait ([`Workplace`]), so that this crate knows of no lock. The caller owes that all workers of a node share its shards.
 #![tactic(auto)]
 

@@ -14,9 +14,12 @@ use crate::workplace::Workplace;
 use hk_base::{Actor, Letter, Letters, NodeId};
 use hk_link::{Outlet, Parcel};
 use hk_node::NodeEvent;
-use hk_overseer::{Gate, send};
+use hk_overseer::{Gate, ring_all, send};
 use std::alloc::Global;
 use std::sync::Wait;
+
+// Behind so many turns at most others go on with what they made and sent.
+const BATCH: u64 = 16;
 
 // Sends the letter if the gate keeps it.
 fn put<G: Gate, R: Wait>(
@@ -100,6 +103,24 @@ fn receive<W: Workplace, G: Gate, R: Wait>(
     }
 }
 
+// Others go on with what the turns so far made and sent.
+fn hand_on<W: Workplace, R: Wait>(rt: &R, place: &W, outlets: &[(Actor, Outlet)]) {
+    place.wake(rt);
+    ring_all(rt, outlets);
+}
+
+// The same behind the last turn of a batch.
+fn hand_on_behind<W: Workplace, R: Wait>(
+    rt: &R,
+    place: &W,
+    outlets: &[(Actor, Outlet)],
+    turn: u64,
+) {
+    if turn % BATCH == BATCH - 1 {
+        hand_on(rt, place, outlets);
+    }
+}
+
 // What a turn does once there is no parcel.
 fn go_on<W: Workplace, G: Gate, R: Wait>(
     rt: &R,
@@ -145,11 +166,12 @@ fn make_turn<W: Workplace, G: Gate, R: Wait>(
         receive(rt, alloc, place, worker.node(), gate, outlets, parcel);
         return;
     }
+    hand_on(rt, place, outlets.as_slice());
     go_on(rt, alloc, place, worker, outlets, gate);
 }
 
-/// Makes so many turns, and fewer only where `pass` answered false. It gives the turns made.
-pub fn work<W: Workplace, G: Gate, R: Wait>(
+// Makes so many turns, and fewer only where `pass` answered false.
+fn make_turns<W: Workplace, G: Gate, R: Wait>(
     rt: &R,
     alloc: Global,
     place: &W,
@@ -168,6 +190,27 @@ pub fn work<W: Workplace, G: Gate, R: Wait>(
             return turn;
         }
         make_turn(rt, alloc, place, worker, outlets, gate);
+        hand_on_behind(rt, place, outlets.as_slice(), turn);
     }
     turns
+}
+
+/// Makes so many turns, and fewer only where `pass` answered false. It gives the turns made. Who waits for its steps and its letters is woken behind the last turn,
+/// before one that finds no parcel, and behind each sixteenth.
+pub fn work<W: Workplace, G: Gate, R: Wait>(
+    rt: &R,
+    alloc: Global,
+    place: &W,
+    worker: &mut Worker,
+    outlets: &mut Vec<(Actor, Outlet)>,
+    gate: &mut G,
+    turns: u64,
+) -> u64
+    ensures made { Works (W.applies place.now) (W.finds place.now) (W.owes place.now) (W.lacks place.now) G.answers G.closed result (record { worker = worker.old; way = record { gate = gate.old; outlets = outlets.old.items } }) (record { worker = worker.new; way = record { gate = gate.new; outlets = outlets.new.items } }) }
+    ensures most { result ≤ turns }
+    ensures fewer { result < turns → G.closed gate.new ≡ true }
+{
+    let made = make_turns(rt, alloc, place, worker, outlets, gate, turns);
+    hand_on(rt, place, outlets.as_slice());
+    made
 }

@@ -80,4 +80,7 @@ pub trait Workplace {
     fn take_wanted<R: Wait>(&self, rt: &R) -> Option<(u8, Due)>
         ensures owed { IfSome result (λ due. owes self.now due.0 due.1) }
         ensures below { IfSome result (λ due. due.0 < 8) };
+
+    /// Wakes who waits for what steps made since the last call.
+    fn wake<R: Wait>(&self, rt: &R);
 }

@@ -13,9 +13,9 @@ use Rattle.hk_snap.specs.declared.rule.Publication.{Publication}
 use Rattle.hk_told.specs.Shown.{Shown, NotEnded}
 use Rattle.hk_locked.specs.Places.{NodeNames}
 use Rattle.hk_locked.specs.Locked.{ReaderState}
-use Rattle.hk_locked.specs.Steps.{StartsAt}
+use Rattle.hk_locked.specs.Steps.{StartsAt, LooksOften}
 use Rattle.hk_worker.specs.declared.opening.OpenAsk.{OpenAsk}
-use Rattle.hk_worker.specs.Asking.{PostState, LooksOften, Tells, HasAsked, AsksAtPost, call_number, reader_of}
+use Rattle.hk_worker.specs.Asking.{PostState, Tells, HasAsked, AsksAtPost, call_number, reader_of}
 use Rattle.hk_worker.specs.Turns.{IsUnasked, seen_of, IsShownIn, Rise}
 use Rattle.hk_worker.specs.Reading.{HasLooked, HasRisen, AsksByClock, IsShownByClock}
 use Rattle.hk_worker.specs.Sending.{SendsNextCall, SendsByClock}

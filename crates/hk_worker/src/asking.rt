@@ -1,13 +1,13 @@
 //! An ask of one operation at the shards of a node.
 
-ghost use Rattle.std.specs.Prelude.{◌≡◌, ◌<◌, ℕ, None, IfOk, OnErr};
+ghost use Rattle.std.specs.Prelude.{◌≡◌, ◌≤◌, ◌<◌, ℕ, None, IfOk, OnErr};
 ghost use Rattle.std.specs.List.{AllByRecursion};
 ghost use Rattle.hk_base.specs.Range.{IsLetter};
 ghost use Rattle.hk_outside.specs.Desk.{Suits};
 ghost use Rattle.hk_locked.specs.Makes.{CallsAt};
-ghost use Rattle.hk_locked.specs.Steps.{IsGrown, IsLeft, StartsAt, LooksFor};
+ghost use Rattle.hk_locked.specs.Steps.{IsGrown, IsLeft, StartsAt, LooksOften, LooksOftenFor};
 ghost use Rattle.hk_worker.specs.Moments.{WasCalled};
-ghost use Rattle.hk_worker.specs.Asking.{LooksOften, Tells};
+ghost use Rattle.hk_worker.specs.Asking.{Tells};
 ghost use Rattle.hk_worker.specs.Opening.{FinishesAt, OpensAt, OpenedSuits};
 ghost use Rattle.hk_worker.specs.Sending.{SendsOrFails};
 
@@ -19,13 +19,16 @@ use hk_callback::Completion;
 use hk_link::Outlet;
 use hk_locked::{LockedShard, Places, ShardReader, Started};
 use hk_outside::{Begun, DeskReply};
-use hk_overseer::send_all;
+use hk_overseer::{ring_all, send_all};
 use hk_told::AskState;
 use std::alloc::Global;
 use std::sync::{MutexGuard, Wait};
 
 /// After so many looks the outcome of an update is told as unknown.
 pub const TURNS: u64 = 100_000;
+
+// Once the patience is over, so many looks follow under one lock.
+const BURST: u64 = 1_000;
 
 // Whether the key's row is Valid now, or there is none.
 fn is_settled<F: Completion + Copy + Drop, P: Places, R: Wait>(
@@ -41,6 +44,7 @@ fn is_settled<F: Completion + Copy + Drop, P: Places, R: Wait>(
 fn settle<F: Completion + Copy + Drop, P: Places, R: Wait>(
     rt: &R,
     shards: &Shards<F, P>,
+    outlets: &[(Actor, Outlet)],
     shard: u8,
     key: &Key,
 ) {
@@ -51,7 +55,7 @@ fn settle<F: Completion + Copy + Drop, P: Places, R: Wait>(
         if patience.is_over() || is_settled(rt, shards, shard, key) {
             return;
         }
-        wait_for(rt, shards, key, steps, seen, &mut patience);
+        wait_for(rt, shards, outlets, key, steps, seen, &mut patience);
     }
 }
 
@@ -59,6 +63,7 @@ fn settle<F: Completion + Copy + Drop, P: Places, R: Wait>(
 fn lock_settled<'a, F: Completion + Copy + Drop, P: Places, R: Wait>(
     rt: &R,
     shards: &'a Shards<F, P>,
+    outlets: &[(Actor, Outlet)],
     shard: u8,
     key: &Key,
 ) -> MutexGuard<'a, LockedShard<F, P>> {
@@ -67,7 +72,7 @@ fn lock_settled<'a, F: Completion + Copy + Drop, P: Places, R: Wait>(
         return held;
     }
     drop(held);
-    settle(rt, shards, shard, key);
+    settle(rt, shards, outlets, shard, key);
     shards.lock_of(shard).lock(rt)
 }
 
@@ -97,19 +102,21 @@ fn start<F: Completion + Copy + Drop, P: Places, R: Wait>(
     Ok(started)
 }
 
-// One look at the ask. Where no memory was found, nobody waits for what it is told.
+// So many looks at the ask. Where no memory was found, nobody waits for what it is told.
 fn look<F: Completion + Copy + Drop, P: Places>(
     held: &mut LockedShard<F, P>,
     reader: &mut ShardReader<P>,
     key: &Key,
     call: CallNo,
     ticket: u64,
+    looks: u64,
 ) -> Result<AskState, Memory>
-    ensures looks { IfOk result (λ look. LooksFor key.now ticket reader.old reader.new look) }
+    requires { 1 ≤ looks }
+    ensures looks { IfOk result (λ look. LooksOftenFor looks key.now ticket reader.old reader.new look) }
     ensures grown { IsGrown key.now reader.old reader.new }
     ensures left { OnErr result (IsLeft call held.new) }
 {
-    let Ok(look) = held.look(reader, key, call, ticket) else {
+    let Ok(look) = held.look_on(reader, key, call, ticket, looks) else {
         held.give_up(call);
         return Err(Memory);
     };
@@ -122,6 +129,7 @@ fn begin<F: Completion + Copy + Drop, P: Places, R: Wait>(
     alloc: Global,
     shards: &Shards<F, P>,
     reader: &mut ShardReader<P>,
+    outlets: &[(Actor, Outlet)],
     call: CallNo,
     key: &Key,
     op: &Op,
@@ -132,12 +140,12 @@ fn begin<F: Completion + Copy + Drop, P: Places, R: Wait>(
     ensures letters { IfOk result (λ started. AllByRecursion IsLetter started.letters) }
     ensures grown { IsGrown key.now reader.old reader.new }
 {
-    let mut held = lock_settled(rt, shards, reader.number(), key);
+    let mut held = lock_settled(rt, shards, outlets, reader.number(), key);
     let ticket = shards.tickets().draw_above(rt, held.last_ticket());
     start(rt, alloc, &mut *held, reader, ticket, call, key, op, tell)
 }
 
-// One look, under the shard's lock.
+// So many looks, under the shard's lock.
 fn turn<F: Completion + Copy + Drop, P: Places, R: Wait>(
     rt: &R,
     shards: &Shards<F, P>,
@@ -145,12 +153,26 @@ fn turn<F: Completion + Copy + Drop, P: Places, R: Wait>(
     key: &Key,
     call: CallNo,
     ticket: u64,
+    looks: u64,
 ) -> Result<AskState, Memory>
-    ensures looks { IfOk result (λ look. LooksFor key.now ticket reader.old reader.new look) }
+    requires { 1 ≤ looks }
+    ensures looks { IfOk result (λ look. LooksOftenFor looks key.now ticket reader.old reader.new look) }
     ensures grown { IsGrown key.now reader.old reader.new }
 {
     let mut held = shards.lock_of(reader.number()).lock(rt);
-    look(&mut *held, reader, key, call, ticket)
+    look(&mut *held, reader, key, call, ticket, looks)
+}
+
+// How many of the looks that are left are made now.
+fn looks_now(patience: &Patience, left: u64) -> u64
+    requires { 1 ≤ left }
+    ensures some { 1 ≤ result }
+    ensures most { result ≤ left }
+{
+    if patience.is_over() {
+        return BURST.min(left);
+    }
+    1
 }
 
 // Looks until the ask of the call was told something, 100,000 times at most. Those that are left once its patience is over follow at once.
@@ -158,6 +180,7 @@ fn wait<F: Completion + Copy + Drop, P: Places, R: Wait>(
     rt: &R,
     shards: &Shards<F, P>,
     reader: &mut ShardReader<P>,
+    outlets: &[(Actor, Outlet)],
     key: &Key,
     call: CallNo,
     ticket: u64,
@@ -167,13 +190,16 @@ fn wait<F: Completion + Copy + Drop, P: Places, R: Wait>(
     ensures grown { IsGrown key.now reader.old reader.new }
 {
     let told = shards.told_to(call);
-    for _looked in 0..TURNS {
+    let mut looked = 0;
+    while looked < TURNS {
         let seen = told.seen();
-        match turn(rt, shards, reader, key, call, ticket)? {
+        let looks = looks_now(patience, TURNS - looked);
+        match turn(rt, shards, reader, key, call, ticket, looks)? {
             AskState::Told(answer) => return Ok(Some(answer)),
-            AskState::Waits => wait_for(rt, shards, key, told, seen, patience),
+            AskState::Waits => wait_for(rt, shards, outlets, key, told, seen, patience),
             AskState::Gone => return Err(Memory),
         }
+        looked += looks;
     }
     Ok(None)
 }
@@ -208,25 +234,46 @@ pub(crate) fn ask<F: Completion + Copy + Drop, P: Places, R: Wait>(
     ensures grown { IsGrown key.now reader.old reader.new }
 {
     let shard = reader.number();
-    let started = begin(rt, alloc, shards, reader, call, key, op, tell)?;
+    let started = begin(
+        rt,
+        alloc,
+        shards,
+        reader,
+        outlets.as_slice(),
+        call,
+        key,
+        op,
+        tell,
+    )?;
     let Started {
         ticket,
         answer,
         letters,
     } = started;
     send_all(rt, outlets, shard, letters);
+    ring_all(rt, outlets.as_slice());
     if let Some(answer) = answer {
         return Ok(DeskReply::Told(answer));
     }
     let mut patience = Patience::new(ANSWER);
-    if let Some(answer) = wait(rt, shards, reader, key, call, ticket, &mut patience)? {
+    if let Some(answer) = wait(
+        rt,
+        shards,
+        reader,
+        outlets.as_slice(),
+        key,
+        call,
+        ticket,
+        &mut patience,
+    )? {
         return Ok(DeskReply::Told(answer));
     }
     give_up(rt, shards, shard, call);
     Ok(DeskReply::Unknown { turns: TURNS })
 }
 
-/// Begins to ask an operation: waits a while until the key is Valid, makes the call and sends its letters. Where it waits, it waits since `since`.
+/// Begins to ask an operation: waits a while until the key is Valid, makes the call and sends its letters. Where it waits, it waits since `since`, and its letters
+/// are not rung for yet.
 pub(crate) fn begin_ask<F: Completion + Copy + Drop, P: Places, R: Wait>(
     rt: &R,
     alloc: Global,
@@ -247,7 +294,17 @@ pub(crate) fn begin_ask<F: Completion + Copy + Drop, P: Places, R: Wait>(
 {
     let waits = OpenAsk::new(key, op, call, since)?;
     let number = reader.number();
-    let started = begin(rt, alloc, shards, reader, call, key, op, tell)?;
+    let started = begin(
+        rt,
+        alloc,
+        shards,
+        reader,
+        outlets.as_slice(),
+        call,
+        key,
+        op,
+        tell,
+    )?;
     let Started {
         ticket,
         answer,
@@ -255,16 +312,20 @@ pub(crate) fn begin_ask<F: Completion + Copy + Drop, P: Places, R: Wait>(
     } = started;
     send_all(rt, outlets, number, letters);
     match answer {
-        Some(answer) => Ok(Begun::Told(DeskReply::Told(answer))),
+        Some(answer) => {
+            ring_all(rt, outlets.as_slice());
+            Ok(Begun::Told(DeskReply::Told(answer)))
+        }
         None => Ok(Begun::Waits(waits.under(ticket))),
     }
 }
 
-/// Looks until an update that waits was told, or the patience is over.
+/// Rings for what was sent, and looks until an update that waits was told, or the patience is over.
 pub(crate) fn finish_ask<F: Completion + Copy + Drop, P: Places, R: Wait>(
     rt: &R,
     shards: &Shards<F, P>,
     reader: &mut ShardReader<P>,
+    outlets: &[(Actor, Outlet)],
     key: &Key,
     call: CallNo,
     ticket: u64,
@@ -273,8 +334,9 @@ pub(crate) fn finish_ask<F: Completion + Copy + Drop, P: Places, R: Wait>(
     ensures finishes { IfOk result (λ reply. FinishesAt key.now ticket reader.old reader.new reply) }
     ensures grown { IsGrown key.now reader.old reader.new }
 {
+    ring_all(rt, outlets);
     let shard = reader.number();
-    if let Some(answer) = wait(rt, shards, reader, key, call, ticket, patience)? {
+    if let Some(answer) = wait(rt, shards, reader, outlets, key, call, ticket, patience)? {
         return Ok(DeskReply::Told(answer));
     }
     give_up(rt, shards, shard, call);

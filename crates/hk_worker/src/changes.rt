@@ -80,3 +80,43 @@ impl Changes {
         self.seen() != seen
     }
 }
+
+/// Which of 64 were marked since that was taken.
+#[derive(Drop)]
+pub(crate) struct Marks {
+    bits: AtomicU64,
+}
+
+impl Marks {
+    /// None is marked.
+    pub(crate) fn new() -> Marks {
+        Marks {
+            bits: AtomicU64::new(0),
+        }
+    }
+
+    // Marks those whose bits are set.
+    fn mark_bits(&self, bits: u64) {
+        if self.bits.load(Ordering::SeqCst) & bits != bits {
+            self.bits.fetch_or(bits, Ordering::SeqCst);
+        }
+    }
+
+    /// Marks that of this number, modulo 64.
+    pub(crate) fn mark(&self, number: u64) {
+        self.mark_bits(1 << (number % 64));
+    }
+
+    /// Marks all.
+    pub(crate) fn mark_all(&self) {
+        self.mark_bits(u64::MAX);
+    }
+
+    /// Takes what is marked, as bits; none is marked then.
+    pub(crate) fn take(&self) -> u64 {
+        if self.bits.load(Ordering::SeqCst) == 0 {
+            return 0;
+        }
+        self.bits.swap(0, Ordering::SeqCst)
+    }
+}

@@ -48,6 +48,7 @@ impl<F: Completion + Copy + Drop, P: Places> Post<F, P> {
             self.alloc,
             &self.shards,
             &mut self.readers[shard],
+            self.outlets.as_slice(),
             clock,
             key,
         )
@@ -103,7 +104,8 @@ impl<F: Completion + Copy + Drop, P: Places> Post<F, P> {
         self.ask(rt, key, op)
     }
 
-    /// Begins to ask one operation by a clock, as `ask_by` asks it. An update may wait, and others may be asked before it is finished.
+    /// Begins to ask one operation by a clock, as `ask_by` asks it. An update may wait, and others may be asked before it is finished. Its letters are rung for as those
+    /// of `begin` are.
     pub fn begin_by<C: Clock, R: Wait>(
         &mut self,
         rt: &R,

@@ -19,7 +19,7 @@ use hk_callback::Completion;
 use hk_link::Outlet;
 use hk_locked::{Doubt, Places, ShardReader};
 use hk_outside::{Begun, DeskReply, suits};
-use hk_overseer::{Gate, Outlets};
+use hk_overseer::{Gate, Outlets, ring_all};
 use hk_shard::{SHARDS, shard_of};
 use hk_turns::{Inlets, Worker};
 use std::alloc::Global;
@@ -40,7 +40,7 @@ pub struct Post<F: Completion + Copy + Drop, P: Places> {
     pub(crate) shards: Arc<Shards<F, P>>,
     pub(crate) readers: Vec<ShardReader<P>>,
     worker: Worker,
-    outlets: Vec<(Actor, Outlet)>,
+    pub(crate) outlets: Vec<(Actor, Outlet)>,
     tell: F,
     // So many milliseconds updates that waited have been waited for, one behind the other.
     waited: u64,
@@ -144,6 +144,8 @@ impl<F: Completion + Copy + Drop, P: Places> Post<F, P> {
     }
 
     /// Begins to ask one operation. It is told at once, or its update waits, and others may be asked before it is finished. Just the letters of the call's step are sent.
+    /// Where it waits they are rung for by the next call that finishes, that waits or that is told at once, or by `ring`: one of these has to follow before the post
+    /// is left alone.
     pub fn begin<R: Wait>(&mut self, rt: &R, key: &Key, op: &Op) -> Result<Begun<OpenAsk>, Memory>
         ensures suits { OpenedSuits op.now result }
         ensures told { BeginsAtPost key.now op.now self.old self.new result }
@@ -171,7 +173,7 @@ impl<F: Completion + Copy + Drop, P: Places> Post<F, P> {
         )
     }
 
-    /// Looks until an update that waits was told. What is told is shown by what the post's reader of the key's shard has seen. Nothing is sent.
+    /// Rings for all that was sent, and looks until an update that waits was told. What is told is shown by what the post's reader of the key's shard has seen. Nothing is sent.
     pub fn finish<R: Wait>(&mut self, rt: &R, waits: OpenAsk) -> Result<DeskReply, Memory>
         ensures suits { Suits waits.op result }
         ensures settled { IsSettled result }
@@ -184,6 +186,7 @@ impl<F: Completion + Copy + Drop, P: Places> Post<F, P> {
             rt,
             &self.shards,
             &mut self.readers[shard],
+            self.outlets.as_slice(),
             &waits.key,
             waits.call,
             waits.ticket,
@@ -228,6 +231,11 @@ impl<F: Completion + Copy + Drop, P: Places> Post<F, P> {
             gate,
             turns,
         )
+    }
+
+    /// Rings for the letters of asks that were begun, if it was not done yet.
+    pub fn ring<R: Wait>(&self, rt: &R) {
+        ring_all(rt, self.outlets.as_slice());
     }
 
     /// How many requests for leases are due.

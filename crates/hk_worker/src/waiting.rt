@@ -2,11 +2,13 @@
 //!
 //! | Who waits | for what | looks | and goes on |
 //! |---|---|---|---|
-//! | an ask whose update other nodes have to acknowledge | what it is told | under the shard's lock, behind each answer to an ask of its post | behind 100,000 looks, and not before 2 s since it began ([`ANSWER`]), of which 0.2 are its own: its outcome is unknown then |
+//! | an ask whose update other nodes have to acknowledge | what it is told | under the shard's lock, behind each answer to an ask of its post | behind 100,000 looks, and not before 2 s since it began ([`ANSWER`]), of which 0.2 are its own: its outcome is unknown then. The looks that are left then are made at once, a thousand under one lock |
 //! | a desk that is to make a call | the key's row to be Valid | under the lock, behind each step of a worker at the shard | after 32 ms ([`SETTLE`]): the call is made then, and told Busy of the row |
 //! | a read | the same | at the key's cell, with no lock, behind each step | after 32 ms: it is told Busy of the row then |
 //! | a desk whose node's lease has run out (`hk_group`) | one that serves | at the lease's cell, behind each step at the key's shard | after two lengths of a lease, and not before 1 s; until there is one again it waits no more |
 //! | a worker, a manager's loop | a ring of its bell (`hk_link`) | at its inlets | when it is rung |
+//!
+//! Whoever waits may wait for what it sent itself, so each wait of an ask rings for the post's letters first ([`wait_for`]), and a desk without a lease does too.
 //!
 //! All but the last look again also where nothing has changed for a millisecond, and once they waited for long, for ten: a wake-up that is lost costs that, and
 //! no answer. A connection asks again what was told Busy, 64 times in all (`hk_conn`): so `busy` of a row comes after 2 s.
@@ -20,9 +22,11 @@
 
 use crate::changes::Changes;
 use crate::shards::Shards;
-use hk_base::Key;
+use hk_base::{Actor, Key};
 use hk_callback::Completion;
+use hk_link::Outlet;
 use hk_locked::Places;
+use hk_overseer::ring_all;
 use std::sync::Wait;
 use std::sync::atomic::AtomicU64;
 use std::time::Duration;
@@ -30,7 +34,7 @@ use std::time::Duration;
 /// So long, in milliseconds, an ask waits for what it is told at least, before its outcome is unknown.
 pub(crate) const ANSWER: u64 = 2_000;
 
-// So long, in milliseconds, each is waited for at least: the looks that are left behind that follow at once, and take some ten milliseconds of a processor.
+// So long, in milliseconds, each is waited for at least: the looks that are left behind that follow at once, a thousand under one lock.
 const STILL: u64 = 200;
 
 /// So long, in milliseconds, whoever finds a row that is not Valid waits for it to become so.
@@ -125,15 +129,17 @@ impl Patience {
     }
 }
 
-/// What is done between two looks at the row of a key.
+/// What is done between two looks at the row of a key. Whoever waits may wait for what it sent itself, so it rings for that first.
 pub(crate) fn wait_for<F: Completion + Copy + Drop, P: Places, R: Wait>(
     rt: &R,
     shards: &Shards<F, P>,
+    outlets: &[(Actor, Outlet)],
     key: &Key,
     changes: &Changes,
     seen: u64,
     patience: &mut Patience,
 ) {
+    ring_all(rt, outlets);
     patience.wait(rt, changes, seen);
     if patience.is_to_ask() {
         shards.want(rt, key);

@@ -2,7 +2,7 @@ use Rattle.std.proofs.Common.{◌≡◌, true, false}
 use Rattle.hk_link.specs.Ends.{IsPut}
 use Rattle.hk_peer.specs.Parcels.{is_to}
 use Rattle.hk_peer.proofs.Framing.{passes_one, passes_on, same_link}
-use Rattle.hk_peer.proofs.pass.pass.Goals as goal
+use Rattle.hk_peer.proofs.pass.put_all.Goals as goal
 
 pub loop-parcel-preserved : goal.loop-parcel-preserved
 loop-parcel-preserved g c =

@@ -1,6 +1,6 @@
 use Rattle.std.proofs.Common.{ℕ, ◌≤◌}
 use Rattle.hk_turns.specs.Turns.{AreTurns, begins}
-use Rattle.hk_turns.proofs.turning.work.Given as goal
+use Rattle.hk_turns.proofs.turning.make_turns.Given as goal
 
 -- the turns so far
 abbrev pub invariant-loop-turn : goal.invariant-loop-turn

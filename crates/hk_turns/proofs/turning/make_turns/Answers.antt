@@ -1,7 +1,7 @@
 use Rattle.std.proofs.Common.{rules, ◌≡◌, ◌<◌, true, false, not, ap, arith}
 use Rattle.hk_turns.specs.Workers.{WorkerState}
 use Rattle.hk_turns.proofs.Making.{let_pass, shut_out, turned, works_to, works_until}
-use Rattle.hk_turns.proofs.turning.work.Goals as goal
+use Rattle.hk_turns.proofs.turning.make_turns.Goals as goal
 
 pub loop-turn-init : goal.loop-turn-init
 loop-turn-init g c = (
