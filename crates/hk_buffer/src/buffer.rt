@@ -9,17 +9,17 @@ use hk_base::Memory;
 use std::alloc::Global;
 use std::marker::Model;
 
-// Room beyond so many bytes goes back once few bytes are unread. Below that it is not worth the time to take it again.
-const MOST_KEPT: usize = 262_144;
+// Room beyond so many times what is asked for goes back once few bytes are unread. Below that it is not worth the time to take it again.
+const MOST_TIMES: usize = 4;
 
-// So much is kept then: as much as there is at first.
-const FIRST_ROOM: usize = 16_384;
+// So much is asked for where a piece is fed.
+const FEED_ROOM: usize = 65_536;
 
 // So much more than was asked for is made room at most, so that long bytes come in few reads.
 const MOST_BESIDE: usize = 65_536;
 
-/// The bytes that came and were not given yet, those that were given last, and room for those that come. Once few bytes are unread no more than 256 KiB are held,
-/// unless the memory has no smaller place: then the buffer stays where it is.
+/// The bytes that came and were not given yet, those that were given last, and room for those that come. Once few bytes are unread no more than four times the
+/// room that is asked for is held, unless the memory has no smaller place: then the buffer stays where it is.
 #[derive(Drop)]
 pub struct Buffer {
     bytes: Vec<u8>,
@@ -61,7 +61,7 @@ impl Buffer {
         ensures ok { OnOk result (self.new ≡ fed self.old piece.now) }
         ensures err { OnErr result (self.new ≡ with_room self.old []) }
     {
-        self.compact();
+        self.compact(FEED_ROOM);
         self.bytes.truncate(self.end);
         self.bytes.extend_from_slice(piece)?;
         self.end = self.bytes.len();
@@ -75,7 +75,7 @@ impl Buffer {
         ensures same { self.new ≡ with_room self.old self.new.room }
         ensures enough { OnOk result (count ≤ length self.new.room) }
     {
-        self.compact();
+        self.compact(count);
         let needed = self.end + count;
         if self.bytes.len() < needed {
             self.bytes.reserve(needed - self.bytes.len())?;
@@ -106,12 +106,12 @@ impl Buffer {
         self.end += count;
     }
 
-    // Nothing is given any more, and what was taken goes.
-    fn compact(&mut self)
+    // Nothing is given any more, and what was taken goes, with room that is far beyond what is asked for.
+    fn compact(&mut self, asked: usize)
         ensures { self.new ≡ with_room self.old self.new.room }
     {
         self.move_up();
-        self.give_back();
+        self.give_back(asked);
     }
 
     // Once more than half of what is held was taken, what is left moves to the front. So less is moved than was taken.
@@ -130,13 +130,13 @@ impl Buffer {
         }
     }
 
-    // Gives back room that is beyond what is kept, once few bytes are left.
-    fn give_back(&mut self)
+    // Gives back room that is far beyond what is asked for, once few bytes are left.
+    fn give_back(&mut self, asked: usize)
         ensures { self.new ≡ record self.old { room = self.new.room } }
     {
-        if self.end <= FIRST_ROOM && self.bytes.capacity() > MOST_KEPT {
-            self.bytes.truncate(FIRST_ROOM);
-            self.bytes.shrink_to(FIRST_ROOM);
+        if self.end <= asked && self.bytes.capacity() / MOST_TIMES > asked {
+            self.bytes.truncate(asked);
+            self.bytes.shrink_to(asked);
         }
     }
 

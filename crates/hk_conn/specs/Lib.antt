@@ -10,4 +10,4 @@ pub mod Answering
 pub mod Serving
 pub mod Responding
 pub mod Moments
-pub mod Late
+pub mod Pending

@@ -3,10 +3,10 @@
 ghost use Rattle.std.specs.Prelude.{◌≡◌, ◌≤◌, ◌-◌, []};
 ghost use Rattle.hk_conn.specs.Turns.{IsReader};
 ghost use Rattle.hk_conn.specs.Serving.{place_of, Passes, stop_at};
-ghost use Rattle.hk_conn.specs.Late.{AnswersLate, PassesLate, RepliesLate};
+ghost use Rattle.hk_conn.specs.Pending.{AnswersPending, PassesPending, RepliesPending};
 
 use crate::answer::{put_plain, put_values};
-use crate::late::{Late, finish_all, hold_up, update};
+use crate::pending::{PendingUpdate, finish_all, hold_up, update};
 use crate::reader::Reader;
 use crate::said::{ReaderStep, Said, Stop};
 use hk_base::Memory;
@@ -31,19 +31,19 @@ pub fn pass<D: Desk>(
     requires reader { IsReader reader.old.cutter reader.old.pending }
     ensures { Passes result (patience - 1) (D.asks desk.old) (D.asks desk.new) out.old.items out.new.items (place_of reader.old.pending reader.old.cutter) (place_of reader.new.pending reader.new.cutter) }
 {
-    let mut lates = VecDeque::new(alloc);
-    let stopped = pass_on(alloc, reader, desk, patience, &mut lates, out);
-    match finish_all(alloc, desk, &mut lates, out) {
+    let mut updates = VecDeque::new(alloc);
+    let stopped = pass_on(alloc, reader, desk, patience, &mut updates, out);
+    match finish_all(alloc, desk, &mut updates, out) {
         Ok(()) => stopped,
         Err(memory) => Err(memory),
     }
 }
 
 // Whether the replies so far pass the size of a write.
-fn is_full<W>(lates: &VecDeque<Late<W>>, out: &Vec<u8>) -> bool {
+fn is_full<W>(updates: &VecDeque<PendingUpdate<W>>, out: &Vec<u8>) -> bool {
     let mut length = out.len();
-    for late in lates.iter() {
-        length = length.saturating_add(late.front.len());
+    for pending in updates.iter() {
+        length = length.saturating_add(pending.front.len());
     }
     length > WRITE_SIZE
 }
@@ -54,25 +54,25 @@ fn pass_on<D: Desk>(
     reader: &mut Reader,
     desk: &mut D,
     patience: u32,
-    lates: &mut VecDeque<Late<D::Waits>>,
+    updates: &mut VecDeque<PendingUpdate<D::Waits>>,
     out: &mut Vec<u8>,
 ) -> Result<Stop, Memory>
     requires patience { 1 ≤ patience }
     requires reader { IsReader reader.old.cutter reader.old.pending }
-    requires none { lates.old.items ≡ [] }
-    ensures { PassesLate D.will result (patience - 1) (D.asks desk.old) (D.asks desk.new) lates.new.items out.old.items out.new.items (place_of reader.old.pending reader.old.cutter) (place_of reader.new.pending reader.new.cutter) }
+    requires none { updates.old.items ≡ [] }
+    ensures { PassesPending D.will result (patience - 1) (D.asks desk.old) (D.asks desk.new) updates.new.items out.old.items out.new.items (place_of reader.old.pending reader.old.cutter) (place_of reader.new.pending reader.new.cutter) }
 {
     loop {
         match reader.turn(alloc) {
             Ok(ReaderStep::Need) => return Ok(Stop::Need),
             Ok(ReaderStep::Head) => {}
             Ok(ReaderStep::Says(said)) => {
-                match reply(alloc, desk, patience, said, lates, out) {
+                match reply(alloc, desk, patience, said, updates, out) {
                     Ok(None) => {}
                     Ok(Some(stop)) => return Ok(stop),
                     Err(memory) => return Err(memory),
                 }
-                if is_full(lates, out) {
+                if is_full(updates, out) {
                     return Ok(Stop::Full);
                 }
             }
@@ -87,14 +87,14 @@ fn reply<D: Desk>(
     desk: &mut D,
     patience: u32,
     said: Said,
-    lates: &mut VecDeque<Late<D::Waits>>,
+    updates: &mut VecDeque<PendingUpdate<D::Waits>>,
     out: &mut Vec<u8>,
 ) -> Result<Option<Stop>, Memory>
     requires { 1 ≤ patience }
-    ensures { RepliesLate D.will result (patience - 1) (D.asks desk.old) (D.asks desk.new) lates.old.items lates.new.items out.old.items out.new.items said }
+    ensures { RepliesPending D.will result (patience - 1) (D.asks desk.old) (D.asks desk.new) updates.old.items updates.new.items out.old.items out.new.items said }
 {
-    match hold_up(alloc, desk, &said, lates, out) {
-        Ok(()) => reply_on(alloc, desk, patience, &said, lates, out),
+    match hold_up(alloc, desk, &said, updates, out) {
+        Ok(()) => reply_on(alloc, desk, patience, &said, updates, out),
         Err(memory) => Err(memory),
     }
 }
@@ -105,13 +105,13 @@ fn reply_on<D: Desk>(
     desk: &mut D,
     patience: u32,
     said: &Said,
-    lates: &mut VecDeque<Late<D::Waits>>,
+    updates: &mut VecDeque<PendingUpdate<D::Waits>>,
     out: &mut Vec<u8>,
 ) -> Result<Option<Stop>, Memory>
     requires { 1 ≤ patience }
-    ensures { RepliesLate D.will result (patience - 1) (D.asks desk.old) (D.asks desk.new) lates.old.items lates.new.items out.old.items out.new.items said.now }
+    ensures { RepliesPending D.will result (patience - 1) (D.asks desk.old) (D.asks desk.new) updates.old.items updates.new.items out.old.items out.new.items said.now }
 {
-    match answer(alloc, desk, patience, said, lates, out) {
+    match answer(alloc, desk, patience, said, updates, out) {
         Ok(()) => Ok(stop_at(said)),
         Err(memory) => Err(memory),
     }
@@ -123,18 +123,18 @@ fn answer<D: Desk>(
     desk: &mut D,
     patience: u32,
     said: &Said,
-    lates: &mut VecDeque<Late<D::Waits>>,
+    updates: &mut VecDeque<PendingUpdate<D::Waits>>,
     out: &mut Vec<u8>,
 ) -> Result<(), Memory>
     requires { 1 ≤ patience }
-    ensures { AnswersLate D.will result (patience - 1) (D.asks desk.old) (D.asks desk.new) lates.old.items lates.new.items out.old.items out.new.items said.now }
+    ensures { AnswersPending D.will result (patience - 1) (D.asks desk.old) (D.asks desk.new) updates.old.items updates.new.items out.old.items out.new.items said.now }
 {
     match said {
         Said::Asked(Request::Get { keys, tags }) => {
             put_values(desk, patience, keys.as_slice(), *tags, out)
         }
         Said::Asked(Request::Update { key, op, noreply }) => {
-            update(alloc, desk, patience, key, op, *noreply, lates, out)
+            update(alloc, desk, patience, key, op, *noreply, updates, out)
         }
         Said::Asked(Request::Version) => put_plain(out, said),
         Said::Asked(Request::Quit) => put_plain(out, said),

@@ -21,14 +21,30 @@ use std::alloc::Global;
 // The longest line, without the two bytes that end it.
 const LINE_LIMIT: usize = 65_536;
 
-// How much room there is at least for what is read.
-const PIECE: usize = 16_384;
+// How much room there is at least for what is read: little at a connection that sends little, which most connections are.
+const LEAST_ROOM: usize = 1_024;
+
+// How much room there is at least where much is read at once.
+const MOST_ROOM: usize = 65_536;
 
 /// The unread bytes of a client, and the head of the store whose block is due.
 #[derive(Drop)]
 pub struct Reader {
     pub cutter: Cutter,
     pub pending: Option<StoreHead>,
+    // how much room there is at least for the next read
+    room: usize,
+}
+
+// How much room the read behind one is given, which read so much into so much room: more where it was filled, and less where most of it was not.
+fn next_room(room: usize, count: usize) -> usize {
+    if count >= room {
+        room.saturating_mul(2)
+    } else if count < room / 4 {
+        room / 2
+    } else {
+        room
+    }
 }
 
 impl Reader {
@@ -39,6 +55,7 @@ impl Reader {
         Ok(Reader {
             cutter: Cutter::new(alloc, LINE_LIMIT)?,
             pending: None,
+            room: LEAST_ROOM,
         })
     }
 
@@ -53,7 +70,8 @@ impl Reader {
         ensures held { C.held conn.new ≡ C.held conn.old }
         ensures writes { C.Sink.faults conn.new ≡ C.Sink.faults conn.old }
     {
-        if self.cutter.make_room(PIECE).is_err() {
+        let room = self.room.clamp(LEAST_ROOM, MOST_ROOM);
+        if self.cutter.make_room(room).is_err() {
             return Err(ConnEnd::Memory);
         }
         let count = match read_some(conn, self.cutter.room()) {
@@ -61,6 +79,7 @@ impl Reader {
             Err(_) => return Err(ConnEnd::ReadFault),
         };
         self.cutter.filled(count);
+        self.room = next_room(room, count);
         Ok(count)
     }
 
@@ -70,6 +89,10 @@ impl Reader {
         ensures reader { IfOk result (λ t. GoesOn t self.new.cutter self.new.pending) }
         ensures turns { IfOk result (λ t. Turns t self.old.pending self.old.cutter self.new.pending self.new.cutter) }
     {
+        // A line, most often: then no head is moved.
+        if self.pending.is_none() {
+            return self.line_turn(alloc);
+        }
         match self.pending.take() {
             None => self.line_turn(alloc),
             Some(head) => self.block_turn(alloc, head),

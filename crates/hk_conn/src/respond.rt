@@ -15,7 +15,7 @@ use hk_outside::{Connection, Desk, Sink, Source};
 use std::alloc::Global;
 
 // How much room for replies is kept between writes.
-const KEPT_ROOM: usize = 16_384;
+const KEPT_ROOM: usize = 4_096;
 
 // Lets go what was written, and the room that a large reply took.
 fn give_back(out: &mut Vec<u8>) {

@@ -1,6 +1,6 @@
 //! The text of replies.
 
-ghost use Rattle.std.specs.Prelude.{◌≡◌, ◌++◌, OnOk, OnErr, decimal, codes};
+ghost use Rattle.std.specs.Prelude.{◌≡◌, ◌<◌, ◌++◌, OnOk, OnErr, decimal, codes};
 ghost use Rattle.hk_reply.specs.Texts.{IsKept, text_of, value_text, values_text, server_text, spaced_text, tag_text, head_text};
 
 use crate::opening::{client_text, server_text};
@@ -16,10 +16,23 @@ fn put(out: &mut Vec<u8>, text: &[u8]) -> Result<(), Memory>
     Ok(())
 }
 
+// The number, which is below 10.
+fn put_digit(out: &mut Vec<u8>, n: u64) -> Result<(), Memory>
+    requires { n < 10 }
+    ensures printed { OnOk result (out.new.items ≡ out.old.items ++ decimal n) }
+    ensures unchanged { OnErr result (out.new.items ≡ out.old.items) }
+{
+    out.push(b'0' + n as u8)?;
+    Ok(())
+}
+
 fn put_number(out: &mut Vec<u8>, n: u64) -> Result<(), Memory>
     ensures printed { OnOk result (out.new.items ≡ out.old.items ++ decimal n) }
     ensures unchanged { OnErr result (out.new.items ≡ out.old.items) }
 {
+    if n < 10 {
+        return put_digit(out, n);
+    }
     let mut buffer = Buffer::new();
     put(out, buffer.format(n).as_bytes())
 }

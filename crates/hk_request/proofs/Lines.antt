@@ -356,7 +356,7 @@ line_found line head h = words_found (words_of line) head (unskipped (head_of_wo
     unskipped (Ok x) h = cc
     unskipped (Err e) h = absurd (cc)
 
-line_read : (line : List ℕ) (head : Head) → IsHead (words_of line) head → head_of line ≡ Ok head
+pub line_read : (line : List ℕ) (head : Head) → IsHead (words_of line) head → head_of line ≡ Ok head
 unfolding head_of
 line_read line head w = rw (words_read (words_of line) head w) refl
 

@@ -42,7 +42,7 @@ tests_pass false true n p h = absurd (cc)
 tests_pass false false n (Some x) h = absurd (cc)
 tests_pass false false n None h = (refl, refl, refl)
 
-is_key : (w : List ℕ) → is_some (key_fault w) ≡ false → IsKey w
+pub is_key : (w : List ℕ) → is_some (key_fault w) ≡ false → IsKey w
 is_key w h =
     let t = tests_pass (length w == 0) (nat_lt MAX_KEY_LEN (length w)) (length w) (position is_bad_byte w) h in
     let some : (length w == 0) ≡ false = t.0 in

@@ -22,6 +22,7 @@ mod block;
 mod command;
 mod fields;
 mod line;
+mod lone;
 mod numbers;
 mod request;
 mod words;

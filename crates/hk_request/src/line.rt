@@ -12,6 +12,7 @@ use crate::command::{Command, find_command, has_block};
 use crate::fields::{
     number_at, read_expiry, read_flags, read_key, read_noreply, read_size, read_tag,
 };
+use crate::lone::read_lone_get;
 use crate::numbers::number;
 use crate::request::{Head, Keys, Request, RequestCause, RequestFault, StoreHead, Verb};
 use crate::words::{Words, split};
@@ -38,6 +39,9 @@ fn read_line(alloc: Global, line: &[u8]) -> Result<Head, RequestFault>
     ensures exact { ReadsHead result (head_of line.now) }
     ensures within { IsWithin result }
 {
+    if let Some(head) = read_lone_get(alloc, line) {
+        return Ok(head);
+    }
     let mut words = Words::new(alloc);
     if split(&mut words, line).is_err() {
         return Err(RequestFault {

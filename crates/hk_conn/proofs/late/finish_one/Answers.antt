@@ -1,5 +1,0 @@
-use Rattle.hk_conn.proofs.Holding.{one_finishes}
-use Rattle.hk_conn.proofs.late.finish_one.Goals as goal
-
-pub returns : goal.returns
-returns g c = one_finishes g.D.Desk.will c.args.late (g.D.Desk.asks c.args.desk.now) (g.D.Desk.asks c.finish-heard.new.self) c.finish-heard.result c.put_late.result c.args.out.now.items c.put_late.new.out.items c.finish-heard.ensures.listed c.finish-heard.ensures.settled c.put_late.ensures

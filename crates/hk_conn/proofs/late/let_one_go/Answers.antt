@@ -1,5 +1,0 @@
-use Rattle.hk_conn.proofs.Holding.{one_goes}
-use Rattle.hk_conn.proofs.late.let_one_go.Goals as goal
-
-pub returns : goal.returns
-returns g c = one_goes g.D.Desk.will c.args.late (g.D.Desk.asks c.args.desk.now) (g.D.Desk.asks c.finish.new.self) c.finish.result c.finish.ensures.listed c.finish.ensures.settled
