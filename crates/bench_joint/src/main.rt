@@ -53,7 +53,7 @@ fn read_together<R: Wait>(
 
 // What the key holds, by its row.
 fn content_of(writer: &KeysWriter, key: &Key) -> Result<Option<Content>, Memory> {
-    match writer.shard.part().row(key) {
+    match writer.shard().part().row(key) {
         Some(row) => share_content(&row.content),
         None => Ok(None),
     }
@@ -109,7 +109,7 @@ fn reader_behind<R: Wait>(
     for key in keys {
         held.write(rt, alloc, key)?;
     }
-    held.shard.reader(rt, alloc)
+    held.reader(rt, alloc)
 }
 
 // How often all keys are found, as the plan says.

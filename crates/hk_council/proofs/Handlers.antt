@@ -11,7 +11,6 @@ use Rattle.hk_base.specs.declared.view.Voted.{Voted}
 use Rattle.hk_base.specs.declared.letter.Actor.{Actor}
 use Rattle.hk_base.specs.declared.letter.Actor.TheVariants.{Node, Manager}
 use Rattle.hk_base.specs.declared.letter.Body.{Body}
-use Rattle.hk_base.specs.declared.letter.Body.TheVariants as Body
 use Rattle.hk_base.specs.declared.letter.Letter.{Letter}
 use Rattle.hk_paxos.specs.declared.acceptor.Promise.{Promise}
 use Rattle.hk_paxos.specs.declared.proposer.Proposer.{Proposer}
@@ -38,9 +37,9 @@ use Rattle.hk_manager.specs.Steps.{ManagerStepped, sends, idle, learns, promise_
 use Rattle.hk_council.specs.Council.{Council, WasSent}
 use Rattle.hk_council.specs.Agreed.{IsOneOf}
 use Rattle.hk_council.proofs.Chains.{change_epoch}
-use Rattle.hk_council.proofs.Instances.{ballot_of, instance_same, instance_other, Moves}
+use Rattle.hk_council.proofs.Instances.{IsSaid, IsBacked, ballot_of, instance_same, instance_other, Moves}
 use Rattle.hk_council.proofs.Learning.{Sound, Outcome}
-use Rattle.hk_council.proofs.Steps.{put_here, put_there, all_say, others_say, members_say, Spoken, spoken_at, one_of, told, quiet, moving, acceptor_outcome, proposed_views, proposer_moves}
+use Rattle.hk_council.proofs.Steps.{put_here, put_there, all_hear, told_backs, some_managers, all_say, others_say, members_say, Spoken, spoken_at, one_of, told, quiet, moving, acceptor_outcome, proposed_views, proposer_moves}
 
 -- ---- a proposal keeps its epoch
 promise_epoch : (p : Proposer) (from : ℕ) (promise : Promise) → (proposer_on_promise p from promise).after.epoch ≡ p.epoch
@@ -93,12 +92,12 @@ module _ (managers : ℕ) (c : Council) (sound : Sound managers c) (m : ℕ) (kn
   prepare_fine : (e : ℕ) (ballot : Ballot) → In (sound.runs e).state.sent (PrepareLetter ballot) → Fine (prepares M e ballot)
   prepare_fine e ballot h =
       acceptor_outcome managers c sound m known e (PrepareLetter ballot) (λ a. acceptor_on_prepare a ballot) (λ promise. PromiseLetter m promise) promise_body ballot.round h
-      (λ st. refl) (λ a b is. absurd cc) (λ a sent k. k) (λ a v is. absurd cc) (λ a v is. absurd cc)
+      (λ st. refl) (λ a b is. absurd cc) (λ a sent k. k) (λ a v is. absurd cc) (λ a v is. absurd cc) (λ a sent k. k)
 
   accept_fine : (e : ℕ) (ballot : Ballot) (view : View) → In (sound.runs e).state.sent (AcceptLetter ballot view) → Fine (accepts M e ballot view)
   accept_fine e ballot view h =
       acceptor_outcome managers c sound m known e (AcceptLetter ballot view) (λ a. acceptor_on_accept a ballot view) (λ at. AcceptedLetter m (record { ballot = at; view = view })) (λ at. Body.Accepted at) ballot.round h
-      (λ st. refl) (λ a b is. absurd cc) (λ a sent k. (view, k)) (λ a v is. absurd cc) (λ a v is. absurd cc)
+      (λ st. refl) (λ a b is. absurd cc) (λ a sent k. (view, k)) (λ a v is. absurd cc) (λ a v is. absurd cc) (λ a sent k. k)
 
   module _ (e : ℕ) (p : Proposer) (is : M.proposal ≡ Some p) (of : p.epoch ≡ e) where
     module _ (from : ℕ) (promise : Promise) (sent : In (sound.runs e).state.sent (PromiseLetter from promise)) where
@@ -116,12 +115,16 @@ module _ (managers : ℕ) (c : Council) (sound : Sound managers c) (m : ℕ) (kn
       offers_none None l v k says = k
       offers_none (Some view) l v k says = let s = all_say M p.epoch (Body.Accept p.ballot view) l k in let b : Body.Accept p.ballot view ≡ Body.Chosen v = ap (λ (x : Letter). x.body) (sym s.1) ∙ says in absurd cc
 
+      offers_backed : (q : PaxosLetter) → In offered q → IsBacked offers e q
+      offers_backed q k = subst (λ (x : ℕ). IsBacked offers x q) of
+          (told_backs M p.epoch m (proposer_on_promise p from promise).answer (λ view. Body.Accept p.ballot view) (λ view. AcceptLetter p.ballot view) (sound.ids m) (some_managers managers c sound m known) (λ a sent g. (m, g)) q k)
+
       offer_moves : Moves managers c.manager c.sent c.learned m (record M { proposal = Some (proposer_on_promise p from promise).after }) offers e (sound.runs e).state
       offer_moves =
           proposer_moves managers c sound m known e (PromiseLetter from promise) p (proposer_on_promise p from promise).after offered sent is of (promise_epoch p from promise)
           (ap (λ (o : Option Proposer). on_promise (sound.runs e).state m o from promise) ((sound.runs e).proposals m p is of))
           (no_prepare (proposer_on_promise p from promise).answer (λ view. AcceptLetter p.ballot view) (λ v b k. absurd cc))
-          (record M { proposal = Some (proposer_on_promise p from promise).after }) offers refl refl offers_spoken
+          (record M { proposal = Some (proposer_on_promise p from promise).after }) offers refl refl offers_spoken offers_backed
 
       promise_fine : Fine (takes_promise p M from promise)
       promise_fine =
@@ -141,9 +144,16 @@ module _ (managers : ℕ) (c : Council) (sound : Sound managers c) (m : ℕ) (kn
       made : on_accepted (sound.runs e).state m ((sound.runs e).state.proposer m) from voted.ballot ≡ on_accepted (sound.runs e).state m (Some p) from voted.ballot
       made = ap (λ (o : Option Proposer). on_accepted (sound.runs e).state m o from voted.ballot) ((sound.runs e).proposals m p is of)
 
+      -- a report stands for itself
+      reports_only : (answer : Option View) (letters : List Letter) (q : PaxosLetter) → In (option_to_list (option_map (λ view. ChosenLetter view) answer)) q → IsBacked letters e q
+      reports_only None letters q h = absurd h
+      reports_only (Some v) letters q (inl says) = subst (λ (x : PaxosLetter). IsBacked letters e x) (sym says) tt
+      reports_only (Some v) letters q (inr h) = absurd h
+
       abbrev moves_to : (then : ManagerState) (letters : List Letter) → then.instances ≡ M.instances → then.proposal ≡ Some (proposer_on_accepted p from voted.ballot).after →
           ((l : Letter) → In letters l → Spoken e m (new ++ (sound.runs e).state.sent) l) → Moves managers c.manager c.sent c.learned m then letters e (sound.runs e).state
-      moves_to = proposer_moves managers c sound m known e (AcceptedLetter from voted) p (proposer_on_accepted p from voted.ballot).after new sent is of (acceptance_epoch p from voted.ballot) made asks_none
+      moves_to then letters instances proposal spoken = proposer_moves managers c sound m known e (AcceptedLetter from voted) p (proposer_on_accepted p from voted.ballot).after new sent is of (acceptance_epoch p from voted.ballot) made asks_none
+          then letters instances proposal spoken (reports_only (proposer_on_accepted p from voted.ballot).answer letters)
 
       -- a view that is chosen is reported
       module _ (view : View) (answers : (proposer_on_accepted p from voted.ballot).answer ≡ Some view) where
@@ -310,6 +320,9 @@ module _ (managers : ℕ) (c : Council) (sound : Sound managers c) (m : ℕ) (kn
     asks_report_none : (l : Letter) (v : View) → In asks l → l.body ≡ Body.Chosen v → ⊥
     asks_report_none l v k says = let s = all_say M e (Body.Prepare ballot) l k in let b : Body.Prepare ballot ≡ Body.Chosen v = ap (λ (x : Letter). x.body) (sym s.1) ∙ says in absurd cc
 
+    asks_said : IsSaid asks e m (Body.Prepare own)
+    asks_said = subst (λ (b : Ballot). IsSaid asks e m (Body.Prepare b)) same_ballot (all_hear M e m (Body.Prepare ballot) (sound.ids m) (some_managers managers c sound m known))
+
     numbers : (r n k j : ℕ) → ballot_of r n ≡ ballot_of k j → (n ≡ j) × (r ≡ k)
     numbers r n k j h = let b = same_prepared (record { round = r; manager = n }) (record { round = k; manager = j }) h in (ap (λ (x : Ballot). x.manager) b, ap (λ (x : Ballot). x.round) b)
 
@@ -331,6 +344,7 @@ module _ (managers : ℕ) (c : Council) (sound : Sound managers c) (m : ℕ) (kn
           (λ (is : ballot_of r n ≡ PrepareLetter own). let x = numbers r n own.round m is in inr (x.0, rw (instance_same M.instances e instance, x.1) (le_refl own.round)))
           (λ (s : In st.sent (ballot_of r n)). inl s) h;
       said = λ l n h by. one_of e m n (PrepareLetter own ∷ st.sent) l (asks_spoken l h) by;
+      backs = λ q h. ⊎_elim (λ (is : q ≡ PrepareLetter own). inr (subst (λ (x : PaxosLetter). IsBacked asks e x) (sym is) asks_said)) (λ (s : In st.sent q). inl s) h;
       sender = λ l h. (asks_spoken l h).sender;
       instances = λ f d. instance_other M.instances e instance f d;
       proposal = λ q h d. absurd (d (ap (λ (x : Proposer). x.epoch) (sym (same_some proposer q h))));

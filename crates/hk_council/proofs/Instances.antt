@@ -13,14 +13,15 @@ use Rattle.hk_base.specs.declared.letter.Body.TheVariants.{Inv, Ack, Val, CopyAs
 use Rattle.hk_base.specs.declared.letter.Letter.{Letter}
 use Rattle.hk_paxos.specs.declared.proposer.Proposer.{Proposer}
 use Rattle.hk_paxos.specs.Run.{PaxosLetter, PaxosState, PaxosEvent, In, put, next, MayHappen, IsPaxosRun, last_state, IsChosen, Agrees, paxos_start}
-use Rattle.hk_paxos.specs.Run.PaxosLetter.{PrepareLetter}
-use Rattle.hk_paxos.proofs.Quorums.{in_either}
+use Rattle.hk_paxos.specs.Run.PaxosLetter.{PrepareLetter, PromiseLetter, AcceptLetter, AcceptedLetter, ChosenLetter}
+use Rattle.hk_paxos.proofs.Quorums.{in_either, in_right}
 use Rattle.hk_paxos.proofs.Runs.{last_with, run_with}
 use Rattle.hk_paxos.proofs.Events.{agreement}
 use Rattle.hk_manager.specs.declared.instance.Instance.{Instance}
 use Rattle.hk_manager.specs.Manager.{ManagerState, fresh, instance_at}
 use Rattle.hk_council.specs.Chain.{Follows}
 use Rattle.hk_council.specs.Agreed.{IsOneOf}
+use Rattle.hk_council.proofs.Chains.{in_left}
 use Rattle.hk_paxos.proofs.Values.{put_cases, OfEvent, AllViews, event_keeps, all_weaker}
 
 -- ---- what is known of instances, after one is put
@@ -76,6 +77,32 @@ one_grows old new n (LeaseAsk asked) grows h = tt
 one_grows old new n (LeaseGive end) grows h = tt
 one_grows old new n (Activate view) grows h = tt
 
+-- among the letters is one of this epoch in which the manager says this
+pub record IsSaid (sent : List Letter) (epoch manager : ℕ) (body : Body) : Type 0 where
+  pub letter : Letter
+  pub ever : In sent letter
+  pub of_epoch : letter.epoch ≡ epoch
+  pub sender : letter.from ≡ Manager manager
+  pub says : letter.body ≡ body
+
+pub said_on : (sent more : List Letter) (epoch m : ℕ) (body : Body) → ((l : Letter) → In sent l → In more l) → IsSaid sent epoch m body → IsSaid more epoch m body
+said_on sent more epoch m body grows h = record { letter = h.letter; ever = grows h.letter h.ever; of_epoch = h.of_epoch; sender = h.sender; says = h.says }
+
+-- a letter of Paxos is one that a manager sent; the report of a chosen view goes to the others alone, if there are any
+abbrev pub IsBacked : List Letter → ℕ → PaxosLetter → Type 0
+IsBacked sent epoch (PrepareLetter ballot) = IsSaid sent epoch ballot.manager (Prepare ballot)
+IsBacked sent epoch (PromiseLetter m promise) = IsSaid sent epoch m (Promise promise.ballot promise.accepted)
+IsBacked sent epoch (AcceptLetter ballot view) = (m : ℕ) × IsSaid sent epoch m (Accept ballot view)
+IsBacked sent epoch (AcceptedLetter m voted) = IsSaid sent epoch m (Accepted voted.ballot)
+IsBacked sent epoch (ChosenLetter view) = Unit
+
+pub backed_on : (sent more : List Letter) (epoch : ℕ) → ((l : Letter) → In sent l → In more l) → (p : PaxosLetter) → IsBacked sent epoch p → IsBacked more epoch p
+backed_on sent more epoch grows (PrepareLetter ballot) h = said_on sent more epoch ballot.manager (Prepare ballot) grows h
+backed_on sent more epoch grows (PromiseLetter m promise) h = said_on sent more epoch m (Promise promise.ballot promise.accepted) grows h
+backed_on sent more epoch grows (AcceptLetter ballot view) h = (h.0, said_on sent more epoch h.0 (Accept ballot view) grows h.1)
+backed_on sent more epoch grows (AcceptedLetter m voted) h = said_on sent more epoch m (Accepted voted.ballot) grows h
+backed_on sent more epoch grows (ChosenLetter view) h = tt
+
 abbrev pub ballot_of : ℕ → ℕ → PaxosLetter
 ballot_of round n = PrepareLetter (record { round = round; manager = n })
 
@@ -90,6 +117,7 @@ module _ (managers : ℕ) where
     pub acceptors : (n : ℕ) → state.acceptor n ≡ (instance_at epoch (manager n).instances).acceptor
     pub proposals : (n : ℕ) (p : Proposer) → (manager n).proposal ≡ Some p → p.epoch ≡ epoch → state.proposer n ≡ Some p
     pub letters : (l : Letter) (n : ℕ) → In sent l → l.epoch ≡ epoch → l.from ≡ Manager n → IsOneOf state.sent n l.body
+    pub backed : (p : PaxosLetter) → In state.sent p → IsBacked sent epoch p
     -- a manager's rounds are not above what it noted
     pub rounds : (n round : ℕ) → In state.sent (ballot_of round n) → round ≤ (instance_at epoch (manager n).instances).round
     pub views : AllViews (Follows learned epoch) state
@@ -120,6 +148,7 @@ module _ (managers : ℕ) where
           (λ (e : (n ≡ m) × (put m after manager n ≡ after)). rw e.0 (r.proposals m p (proposal p (ap (λ (x : ManagerState). x.proposal) (sym e.1) ∙ is) of) of))
           (λ (d : (n ≢ m) × (put m after manager n ≡ manager n)). r.proposals n p (ap (λ (x : ManagerState). x.proposal) (sym d.1) ∙ is) of) (put_cases m after manager n);
       letters = λ l n h of by. ⊎_elim (λ (was : In sent l). r.letters l n was of by) (λ (new : In letters l). said l n new of by) (in_either sent letters l h);
+      backed = λ p h. backed_on sent (sent ++ letters) f (in_left sent letters) p (r.backed p h);
       rounds = λ n round h. rw (instances n) (r.rounds n round h);
       views = r.views;
       chosen = r.chosen;
@@ -146,6 +175,7 @@ module _ (managers : ℕ) where
       pub round : (instance_at e (manager m).instances).round ≤ (instance_at e after.instances).round
       pub prepares : (n round : ℕ) → In state.sent (ballot_of round n) → In before.sent (ballot_of round n) ⊎ ((n ≡ m) × (round ≤ (instance_at e after.instances).round))
       pub said : (l : Letter) (n : ℕ) → In letters l → l.from ≡ Manager n → (l.epoch ≡ e) × IsOneOf state.sent n l.body
+      pub backs : (p : PaxosLetter) → In state.sent p → In before.sent p ⊎ IsBacked letters e p
       pub sender : (l : Letter) → In letters l → l.from ≡ Manager m
       -- and nothing of the other instances
       pub instances : (f : ℕ) → f ≢ e → instance_at f after.instances ≡ instance_at f (manager m).instances
@@ -167,6 +197,9 @@ module _ (managers : ℕ) where
       letters = λ l n h of by. ⊎_elim
           (λ (was : In sent l). one_grows r.state.sent moves.state.sent n l.body moves.grows (r.letters l n was of by))
           (λ (new : In letters l). (moves.said l n new by).1) (in_either sent letters l h);
+      backed = λ p h. ⊎_elim
+          (λ (was : In r.state.sent p). backed_on sent (sent ++ letters) e (in_left sent letters) p (r.backed p was))
+          (λ (new : IsBacked letters e p). backed_on letters (sent ++ letters) e (in_right sent letters) p new) (moves.backs p h);
       rounds = λ n round h. ⊎_elim
           (λ (i : (n ≡ m) × (put m after manager n ≡ after)). ⊎_elim
           (λ (was : In r.state.sent (ballot_of round n)). rw i.1 (le_trans (r.rounds n round was) (rw i.0 moves.round)))
@@ -206,6 +239,7 @@ module _ (managers : ℕ) where
     acceptors = r.acceptors;
     proposals = r.proposals;
     letters = r.letters;
+    backed = r.backed;
     rounds = r.rounds;
     views = all_weaker (Follows learned f) (Follows more f) (λ v h. record { before = h.before; among = keeps h.before h.among; earlier = h.earlier; change = h.change }) r.state r.views;
     chosen = chosen;

@@ -7,8 +7,8 @@ use Rattle.hk_base.specs.declared.letter.Actor.TheVariants.{Node, Manager}
 use Rattle.hk_base.specs.declared.letter.Body.{Body}
 use Rattle.hk_base.specs.declared.letter.Body.TheVariants.{Inv, Ack, Val, CopyAsk, CopyGive, LeaseAsk, LeaseGive, Prepare, Promise, Accept, Accepted, Chosen, Activate}
 use Rattle.hk_base.specs.declared.letter.Letter.{Letter}
-use Rattle.hk_paxos.specs.Run.{PaxosState, In, IsChosen, paxos_start}
-use Rattle.hk_paxos.specs.Run.PaxosLetter.{AcceptedLetter}
+use Rattle.hk_paxos.specs.Run.{PaxosLetter, PaxosState, In, IsChosen, paxos_start}
+use Rattle.hk_paxos.specs.Run.PaxosLetter.{PrepareLetter, PromiseLetter, AcceptLetter, AcceptedLetter, ChosenLetter}
 use Rattle.hk_paxos.proofs.Quorums.{in_either}
 use Rattle.hk_manager.specs.declared.fault.ManagerFault.{ManagerFault}
 use Rattle.hk_manager.specs.Laws.{OfStep}
@@ -16,8 +16,9 @@ use Rattle.hk_manager.specs.Steps.{ManagerStepped, manager_step}
 use Rattle.hk_council.specs.Chain.{Follows}
 use Rattle.hk_council.specs.Council.{Council, Event, IsNode, stepped_by, next, MayHappen, IsRun, last_council, start}
 use Rattle.hk_council.specs.Council.Event.{Step, Post, Stop}
-use Rattle.hk_council.specs.Agreed.{HasSaid, Tells, IsOneOf, HasPaxosRun, IsAgreed, Agreement}
-use Rattle.hk_council.proofs.Chains.{one_view, epoch_at}
+use Rattle.hk_council.specs.Agreed.{HasSaid, Tells, IsOneOf, IsOfManagers, HasPaxosRun, IsAgreed, Agreement}
+use Rattle.hk_council.proofs.Chains.{one_view, epoch_at, in_left}
+use Rattle.hk_council.proofs.Instances.{IsSaid, IsBacked, backed_on}
 use Rattle.hk_paxos.proofs.Values.{none_at_start}
 use Rattle.hk_council.proofs.Learning.{Sound, Outcome, outcome_sound, its_epoch}
 use Rattle.hk_council.proofs.Handlers.{step_fine}
@@ -47,6 +48,7 @@ module _ (managers : ℕ) where
       acceptors = r.acceptors;
       proposals = r.proposals;
       letters = λ l n h of by. ⊎_elim (λ (was : In c.sent l). r.letters l n was of by) (λ (new : In letters l). absurd (no_manager l.from n (nodes l new) by)) (in_either c.sent letters l h);
+      backed = λ p h. backed_on c.sent (c.sent ++ letters) f (in_left c.sent letters) p (r.backed p h);
       rounds = r.rounds;
       views = r.views;
       chosen = r.chosen;
@@ -80,6 +82,7 @@ module _ (managers : ℕ) where
       acceptors = λ n. refl;
       proposals = λ n p is of. let e : None ≡ Some p = is in absurd cc;
       letters = λ l n h of by. absurd h;
+      backed = λ p h. absurd h;
       rounds = λ n round h. absurd h;
       views = none_at_start (Follows (first ∷ []) f);
       chosen = λ v h of other. ⊎_elim (λ (is : v ≡ first). absurd (other (sym of ∙ ap (λ (x : View). x.epoch) is ∙ one))) (λ (none : ⊥). absurd none) h;
@@ -115,11 +118,22 @@ module _ (managers : ℕ) where
     chosen_epoch : (epoch m : ℕ) (view : View) → HasSaid c epoch m (Chosen view) → view.epoch ≡ epoch
     chosen_epoch epoch m view said = its_epoch managers c.manager c.sent c.learned sound.chain sound.runs epoch view (one_of epoch m (Chosen view) said)
 
+    said_in : (epoch m : ℕ) (body : Body) → IsSaid c.sent epoch m body → HasSaid c epoch m body
+    said_in epoch m body h = record { letter = h.letter; ever = h.ever; of_epoch = h.of_epoch; sender = h.sender; says = h.says }
+
+    was_sent : (epoch : ℕ) (p : PaxosLetter) → IsBacked c.sent epoch p → IsOfManagers c epoch p
+    was_sent epoch (PrepareLetter ballot) h = said_in epoch ballot.manager (Prepare ballot) h
+    was_sent epoch (PromiseLetter m promise) h = said_in epoch m (Promise promise.ballot promise.accepted) h
+    was_sent epoch (AcceptLetter ballot view) h = (h.0, said_in epoch h.0 (Accept ballot view) h.1)
+    was_sent epoch (AcceptedLetter m voted) h = said_in epoch m (Accepted voted.ballot) h
+    was_sent epoch (ChosenLetter view) h = tt
+
     paxos_run : (epoch : ℕ) → HasPaxosRun managers c epoch
     paxos_run epoch = let r = sound.runs epoch in record {
       events = r.events;
       run = r.run;
       letters = λ m body said. subst (λ (st : PaxosState). IsOneOf st.sent m body) (sym r.last) (one_of epoch m body said);
+      sent = λ p h. was_sent epoch p (r.backed p (subst (λ (st : PaxosState). In st.sent p) r.last h));
       acceptors = λ m known. ap (λ (st : PaxosState). st.acceptor m) r.last ∙ r.acceptors m;
       proposals = λ m p known is of. ap (λ (st : PaxosState). st.proposer m) r.last ∙ r.proposals m p is of;
       votes = λ m voted h. r.views.letters (AcceptedLetter m voted) (subst (λ (st : PaxosState). In st.sent (AcceptedLetter m voted)) r.last h);

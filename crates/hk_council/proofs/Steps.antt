@@ -1,5 +1,5 @@
 -- What is known of each step of a manager.
-use Rattle.std.proofs.Common.{◌≡◌, ◌≢◌, ◌⊎◌, ℕ, ◌<◌, ◌≤◌, ◌==◌, not, List, [], ◌∷◌, ◌++◌, map, Option, None, Some, max, refl, sym, ap, subst, ◌∙◌, inl, inr, ⊎_elim, arith, le_refl}
+use Rattle.std.proofs.Common.{◌≡◌, ◌≢◌, ◌⊎◌, ℕ, zero, suc, ◌<◌, ◌≤◌, ◌==◌, not, List, [], ◌∷◌, ◌++◌, map, Option, None, Some, max, refl, sym, ap, subst, ◌∙◌, inl, inr, ⊎_elim, arith, le_refl}
 use Rattle.std.specs.Option.{option_map, option_to_list}
 use Rattle.std.specs.List.{range_with_len, filter}
 use Rattle.std.proofs.lemmas.Bool.{eq-eqb}
@@ -9,7 +9,6 @@ use Rattle.hk_base.specs.declared.view.View.{View}
 use Rattle.hk_base.specs.declared.letter.Actor.{Actor}
 use Rattle.hk_base.specs.declared.letter.Actor.TheVariants.{Node, Manager}
 use Rattle.hk_base.specs.declared.letter.Body.{Body}
-use Rattle.hk_base.specs.declared.letter.Body.TheVariants as Body
 use Rattle.hk_base.specs.declared.letter.Letter.{Letter}
 use Rattle.hk_paxos.specs.declared.acceptor.Acceptor.{Acceptor}
 use Rattle.hk_paxos.specs.declared.proposer.Proposer.{Proposer}
@@ -26,7 +25,7 @@ use Rattle.hk_council.specs.Chain.{Follows}
 use Rattle.hk_council.specs.Council.{Council}
 use Rattle.hk_council.specs.Agreed.{IsOneOf}
 use Rattle.hk_paxos.proofs.Values.{put_cases, AllViews, event_keeps}
-use Rattle.hk_council.proofs.Instances.{ballot_of, instance_same, instance_other, Moves, kept, moved}
+use Rattle.hk_council.proofs.Instances.{IsSaid, IsBacked, ballot_of, instance_same, instance_other, Moves, kept, moved}
 use Rattle.hk_council.proofs.Learning.{Sound, Outcome}
 
 pub put_here : {X : Type 0} (m : ℕ) (x : X) (f : ℕ → X) → put m x f m ≡ x
@@ -54,6 +53,25 @@ others_say s epoch body l h = let x = in_map (λ (to : ℕ). letter_to s epoch b
 pub members_say : (s : ManagerState) (epoch : ℕ) (body : Body) (l : Letter) → In (to_members s epoch body) l → Says s epoch body l
 members_say s epoch body l h = let x = in_map (λ (member : NodeId). letter_to s epoch body (Node member)) s.held.members l h in (Node x.0, x.1)
 
+-- what is said to all is said to somebody, since there is a manager
+pub all_hear : (s : ManagerState) (e m : ℕ) (body : Body) → s.id ≡ m → 1 ≤ s.managers → IsSaid (to_all s e body) e m body
+all_hear s e m body id some = at s.managers some
+  where
+    first : Letter
+    first = letter_to s e body (Manager 0)
+
+    at : (k : ℕ) → 1 ≤ k → IsSaid (map (λ (to : ℕ). letter_to s e body (Manager to)) (range_with_len 0 k)) e m body
+    at zero none = absurd (omega (arith, none))
+    at (suc k) one = record { letter = first; ever = inl refl; of_epoch = refl; sender = ap Manager id; says = refl }
+
+-- so a letter of Paxos that is sent is backed, where it is told to all
+pub told_backs : {Answer : Type 0} (s : ManagerState) (e m : ℕ) (answer : Option Answer) (body : Answer → Body) (letter : Answer → PaxosLetter) → s.id ≡ m → 1 ≤ s.managers →
+    ((a : Answer) (sent : List Letter) → IsSaid sent e m (body a) → IsBacked sent e (letter a)) →
+    (p : PaxosLetter) → In (option_to_list (option_map letter answer)) p → IsBacked (told_all s e (option_map body answer)) e p
+told_backs s e m None body letter id some one p h = absurd h
+told_backs s e m (Some a) body letter id some one p (inl is) = subst (λ (q : PaxosLetter). IsBacked (to_all s e (body a)) e q) (sym is) (one a (to_all s e (body a)) (all_hear s e m (body a) id some))
+told_backs s e m (Some a) body letter id some one p (inr h) = absurd h
+
 -- what is known of a letter that a step sends in the instance of an epoch
 pub record Spoken (e m : ℕ) (sent : List PaxosLetter) (l : Letter) : Type 0 where
   pub of_epoch : l.epoch ≡ e
@@ -76,6 +94,9 @@ pub told : {Answer : Type 0} (s : ManagerState) (e m : ℕ) (answer : Option Ans
     (l : Letter) → In (told_all s e (option_map body answer)) l → Spoken e m (option_to_list (option_map letter answer) ++ rest) l
 told s e m None body letter rest id one none l h = absurd h
 told s e m (Some a) body letter rest id one none l h = spoken_at s e m (letter a ∷ rest) (body a) l id (all_say s e (body a) l h) (one a (letter a ∷ rest) (inl refl)) (none a)
+
+pub some_managers : (managers : ℕ) (c : Council) → Sound managers c → (m : ℕ) → m < managers → 1 ≤ (c.manager m).managers
+some_managers managers c sound m known = let all = sound.counts m in omega (arith, all, known)
 
 module _ (managers : ℕ) (c : Council) (sound : Sound managers c) (m : ℕ) (known : m < managers) where
   abbrev pub M : ManagerState
@@ -124,7 +145,7 @@ module _ (managers : ℕ) (c : Council) (sound : Sound managers c) (m : ℕ) (kn
       (was_sent : In (sound.runs e).state.sent paxos) (makes : (st : PaxosState) → delivered st m paxos ≡ with_acceptor st m (step (st.acceptor m)) letter)
       (asks_none : (a : Answer) (ballot : Ballot) → letter a ≡ PrepareLetter ballot → ⊥)
       (one : (a : Answer) (sent : List PaxosLetter) → In sent (letter a) → IsOneOf sent m (body a)) (none : (a : Answer) (v : View) → body a ≡ Body.Activate v → ⊥)
-      (no_report : (a : Answer) (v : View) → body a ≡ Body.Chosen v → ⊥) where
+      (no_report : (a : Answer) (v : View) → body a ≡ Body.Chosen v → ⊥) (backed : (a : Answer) (sent : List Letter) → IsSaid sent e m (body a) → IsBacked sent e (letter a)) where
     abbrev known_instance : Instance
     known_instance = instance_at e M.instances
 
@@ -146,6 +167,10 @@ module _ (managers : ℕ) (c : Council) (sound : Sound managers c) (m : ℕ) (kn
     spoken : (l : Letter) → In letters_now l → Spoken e m sent_now l
     spoken l h = subst (λ (a : Acceptor). Spoken e m (option_to_list (option_map letter (step a).answer) ++ st.sent) l) (sym its)
         (told M e m (step known_instance.acceptor).answer body letter st.sent (sound.ids m) one none l h)
+
+    is_backed : (q : PaxosLetter) → In (option_to_list (option_map letter (step (st.acceptor m)).answer)) q → IsBacked letters_now e q
+    is_backed q h = told_backs M e m (step known_instance.acceptor).answer body letter (sound.ids m) (some_managers managers c sound m known) backed q
+        (subst (λ (a : Acceptor). In (option_to_list (option_map letter (step a).answer)) q) its h)
 
     no_ballot : (answer : Option Answer) (ballot : Ballot) → In (option_to_list (option_map letter answer)) (PrepareLetter ballot) → ⊥
     no_ballot None ballot h = h
@@ -172,6 +197,7 @@ module _ (managers : ℕ) (c : Council) (sound : Sound managers c) (m : ℕ) (kn
       round = rw (instance_same M.instances e instance_now) (omega arith);
       prepares = λ n r h. ⊎_elim (λ (a : In (option_to_list (option_map letter (step (st.acceptor m)).answer)) (ballot_of r n)). absurd (no_ballot _ _ a)) (λ (s : In st.sent (ballot_of r n)). inl s) (in_either _ st.sent (ballot_of r n) h);
       said = λ l n h by. one_of e m n sent_now l (spoken l h) by;
+      backs = λ q h. ⊎_elim (λ (a : In (option_to_list (option_map letter (step (st.acceptor m)).answer)) q). inr (is_backed q a)) (λ (s : In st.sent q). inl s) (in_either _ st.sent q h);
       sender = λ l h. (spoken l h).sender;
       instances = λ f d. instance_other M.instances e instance_now f d;
       proposal = λ p is d. is;
@@ -197,8 +223,8 @@ module _ (managers : ℕ) (c : Council) (sound : Sound managers c) (m : ℕ) (kn
     same_some x y h = cc
 
     abbrev pub proposer_moves : (now : ManagerState) (letters : List Letter) → now.instances ≡ M.instances → now.proposal ≡ Some after → ((l : Letter) → In letters l → Spoken e m (new ++ (sound.runs e).state.sent) l) →
-        Moves managers c.manager c.sent c.learned m now letters e (sound.runs e).state
-    proposer_moves now letters instances proposal spoken = record {
+        ((q : PaxosLetter) → In new q → IsBacked letters e q) → Moves managers c.manager c.sent c.learned m now letters e (sound.runs e).state
+    proposer_moves now letters instances proposal spoken backed = record {
       event = Deliver m paxos;
       may = (record { known = known; running = (sound.runs e).up m }, was_sent);
       proposes = tt;
@@ -213,6 +239,7 @@ module _ (managers : ℕ) (c : Council) (sound : Sound managers c) (m : ℕ) (kn
       round = rw instances (le_refl (instance_at e M.instances).round);
       prepares = λ n r h. ⊎_elim (λ (a : In new (ballot_of r n)). absurd (asks_none _ a)) (λ (s : In (sound.runs e).state.sent (ballot_of r n)). inl s) (in_either new (sound.runs e).state.sent (ballot_of r n) h);
       said = λ l n h by. one_of e m n (new ++ (sound.runs e).state.sent) l (spoken l h) by;
+      backs = λ q h. ⊎_elim (λ (a : In new q). inr (backed q a)) (λ (s : In (sound.runs e).state.sent q). inl s) (in_either new (sound.runs e).state.sent q h);
       sender = λ l h. (spoken l h).sender;
       instances = λ f d. ap (λ (x : List (ℕ × Instance)). instance_at f x) instances;
       proposal = λ q h d. absurd (d (ap (λ (x : Proposer). x.epoch) (sym (same_some after q (sym proposal ∙ h))) ∙ same_epoch ∙ of));

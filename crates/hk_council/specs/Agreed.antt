@@ -38,14 +38,24 @@ IsOneOf letters m (Accepted ballot) = (view : View) × In letters (AcceptedLette
 IsOneOf letters m (Chosen view) = In letters (ChosenLetter view)
 IsOneOf letters m body = ⊤
 
--- In the instance of an epoch the managers make a run of Paxos: there is one that sends the letters of that epoch, in which each
--- manager has the acceptor that it has, and the proposal too, where its latest one is of that instance. Each view that was accepted in
--- it, by however few, is a change of the learned view of the epoch before; and the learned view of its own epoch is chosen in it, but
--- for the first view, on which nobody had to agree.
+-- And a letter of Paxos is one that a manager sent in this epoch: a promise and an acceptance that of the very acceptor. A report of a
+-- chosen view stands for itself, since it goes to the other managers alone, if there are any.
+abbrev pub IsOfManagers : Council → ℕ → PaxosLetter → Type 0
+IsOfManagers c epoch (PrepareLetter ballot) = HasSaid c epoch ballot.manager (Prepare ballot)
+IsOfManagers c epoch (PromiseLetter m promise) = HasSaid c epoch m (Promise promise.ballot promise.accepted)
+IsOfManagers c epoch (AcceptLetter ballot view) = (m : ℕ) × HasSaid c epoch m (Accept ballot view)
+IsOfManagers c epoch (AcceptedLetter m voted) = HasSaid c epoch m (Accepted voted.ballot)
+IsOfManagers c epoch (ChosenLetter view) = ⊤
+
+-- In the instance of an epoch the managers make a run of Paxos: there is one that sends the letters of that epoch and no others, in
+-- which each manager has the acceptor that it has, and the proposal too, where its latest one is of that instance. Each view that was
+-- accepted in it, by however few, is a change of the learned view of the epoch before; and the learned view of its own epoch is chosen
+-- in it, but for the first view, on which nobody had to agree. So a majority of the managers sent the acceptances by which it is chosen.
 pub record HasPaxosRun (managers : ℕ) (c : Council) (epoch : ℕ) : Type 0 where
   pub events : List PaxosEvent
   pub run : IsPaxosRun epoch managers paxos_start events
   pub letters : (m : ℕ) (body : Body) → HasSaid c epoch m body → IsOneOf (last_state epoch managers paxos_start events).sent m body
+  pub sent : (letter : PaxosLetter) → In (last_state epoch managers paxos_start events).sent letter → IsOfManagers c epoch letter
   pub acceptors : (m : ℕ) → m < managers → (last_state epoch managers paxos_start events).acceptor m ≡ (instance_at epoch (c.manager m).instances).acceptor
   pub proposals : (m : ℕ) (proposal : Proposer) → m < managers → (c.manager m).proposal ≡ Some proposal → proposal.epoch ≡ epoch → (last_state epoch managers paxos_start events).proposer m ≡ Some proposal
   pub votes : (m : ℕ) (voted : Voted) → In (last_state epoch managers paxos_start events).sent (AcceptedLetter m voted) → Follows c.learned epoch voted.view

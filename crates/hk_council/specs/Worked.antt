@@ -6,7 +6,6 @@ use Rattle.hk_base.specs.declared.view.View.{View}
 use Rattle.hk_base.specs.declared.view.Voted.{Voted}
 use Rattle.hk_base.specs.declared.letter.Actor.TheVariants.{Node, Manager}
 use Rattle.hk_base.specs.declared.letter.Body.{Body}
-use Rattle.hk_base.specs.declared.letter.Body.TheVariants as Body
 use Rattle.hk_paxos.specs.Run.{In}
 use Rattle.hk_manager.specs.declared.event.ManagerEvent.TheVariants.{Propose, Receive, Activate, Tick}
 use Rattle.hk_council.specs.Council.{Council, Event, IsRun, last_council, start}

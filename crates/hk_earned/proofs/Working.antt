@@ -1,25 +1,40 @@
 -- The worked run is one.
-use Rattle.std.proofs.Common.{◌≡◌, Bool, true, false, nat_le, nat_eq, ◌||◌, refl, sym, ◌∙◌, inl, arith}
+use Rattle.std.proofs.Common.{◌≡◌, Bool, true, false, nat_le, nat_eq, ◌||◌, refl, sym, ◌∙◌, inl, inr, arith}
 use Rattle.std.proofs.lemmas.Bool.{false≢true, leb-true, le-leb}
 use Rattle.hk_base.specs.declared.stamp.NodeId.{NodeId}
 use Rattle.hk_earned.specs.Machine.{IsRun, start, member}
 use Rattle.hk_earned.specs.Earned.{NeverReturns}
-use Rattle.hk_earned.specs.Worked.{setting, events, WorkedRun}
+use Rattle.hk_earned.specs.Worked.{of_three, events, WorkedRun}
 
-runs : IsRun setting (start setting) events
+runs : IsRun of_three (start of_three) events
 runs = (
   refl,
   (
-    (refl, inl refl, refl),
+    refl,
     (
-      (refl, inl refl),
-      ((refl, omega arith), ((omega arith, tt), ((refl, refl), ((refl, inl refl, omega arith), ((refl, omega arith), tt))))),
+      (refl, inr (inl refl), refl),
+      (
+        (refl, inl refl, refl),
+        (
+          (refl, inr (inl refl)),
+          (
+            (refl, inl refl),
+            (
+              (refl, omega arith),
+              (
+                (refl, omega arith),
+                ((omega arith, tt), ((refl, refl), ((refl, refl), ((refl, inr (inl refl), omega arith), ((refl, inl refl, omega arith), ((refl, omega arith), tt)))))),
+              ),
+            ),
+          ),
+        ),
+      ),
     ),
   ),
 )
 
 -- by which of the two views each is
-stays : NeverReturns setting
+stays : NeverReturns of_three
 stays e f g n low high = at (nat_le e 1) (nat_le f 1) (nat_le g 1) refl refl refl
   where
     both : NodeId → Bool
@@ -32,7 +47,7 @@ stays e f g n low high = at (nat_le e 1) (nat_le f 1) (nat_le g 1) refl refl ref
     more true u h = refl
     more false u h = absurd (false≢true h)
 
-    at : (t u v : Bool) → nat_le e 1 ≡ t → nat_le f 1 ≡ u → nat_le g 1 ≡ v → member setting e n ≡ true → member setting g n ≡ true → member setting f n ≡ true
+    at : (t u v : Bool) → nat_le e 1 ≡ t → nat_le f 1 ≡ u → nat_le g 1 ≡ v → member of_three e n ≡ true → member of_three g n ≡ true → member of_three f n ≡ true
     at t true true p q r was is = rw q (rw r at is)
     at t true false p q r was is = rw q (more (nat_eq 0 n.0) (nat_eq 1 n.0) (rw r at is))
     at t false false p q r was is = rw q (rw r at is)
@@ -44,4 +59,6 @@ worked_run = record {
   stays = stays;
   installed = inl refl;
   left_out = record { before = 1; first = omega arith; lower = omega arith; was = refl; out = refl; live = refl };
+  granted = refl;
+  by_majority = omega arith;
 }

@@ -89,7 +89,7 @@ by_shown key a b (Some s) None front rises first last told m = by_key (bytes_eq 
 by_shown key a b (Some s) (Some t) front rises first last told m = by_second (bytes_eq s.key key) (bytes_eq t.key key) key a b s t front rises first last refl refl told m
 
 -- ---- all keys
-or_none : (a b : Option Joint) → option_or a b ≡ None → (a ≡ None) × (b ≡ None)
+pub or_none : (a b : Option Joint) → option_or a b ≡ None → (a ≡ None) × (b ≡ None)
 or_none None b e = (refl, e)
 or_none (Some j) b e = some_none j e
 
@@ -149,14 +149,14 @@ other_large : (key : List ℕ) (shown : Option Snapshot) → Other (large_by key
 other_large key None = tt
 other_large key (Some s) = when (is_large s.shape) (Large key) None (λ f. f) tt
 
-other_all : (looks : List KeyLoads) (end now skew : ℕ) → Other (unfound looks end now skew)
+pub other_all : (looks : List KeyLoads) (end now skew : ℕ) → Other (unfound looks end now skew)
 other_all looks end now skew =
     other_or (first_told elsewhere looks) _ (other_first elsewhere (λ l. unless (is_some l.first && is_some l.second) (Elsewhere l.key) (λ f. f)) looks)
     (other_or (first_told moved looks) _ (other_first moved (λ l. other_moved l.key l.first l.second) looks)
     (other_or (first_told (busy end now skew) looks) (first_told large looks) (other_first (busy end now skew) (λ l. when _ _ _ (λ f. f) (other_shown l.second)) looks)
     (other_first large (λ l. other_large l.key l.second) looks)))
 
-none_told : (o : Option Joint) (x : Joint) → Other o → IsFound (unwrap_or o x) → o ≡ None
+pub none_told : (o : Option Joint) (x : Joint) → Other o → IsFound (unwrap_or o x) → o ≡ None
 none_told None x other found = refl
 none_told (Some j) x other found = absurd (other found)
 

@@ -1,10 +1,12 @@
 -- What was concluded by the journal of a shard ends a storm.
-use Rattle.std.proofs.Common.{ℕ, List, Option}
+use Rattle.std.proofs.Common.{◌≡◌, ℕ, List, Option}
+use Rattle.hk_base.specs.declared.time.TheConstants.{MAX_TIME}
 use Rattle.hk_outside.specs.declared.status.Status.{Status}
 use Rattle.hk_outside.specs.declared.status.Status.TheVariants as Status
 use Rattle.hk_snap.specs.declared.snapshot.Snapshot.{Snapshot}
 use Rattle.hk_place.specs.Past.{Past}
-use Rattle.hk_joint_storm.specs.Concluded.{IsPast, IsConcluded, HasConcluded, IsJointStorm, EndsJointStorm}
+use Rattle.hk_lone.specs.Lone.{lone_node}
+use Rattle.hk_joint_storm.specs.Concluded.{IsPast, AreFounds, IsConcluded, HasConcluded, IsJointStorm, EndsJointStorm}
 
 module _ (workers reads : ℕ) (past : Past) (founds : List (List Snapshot)) (held held' : Option (List ℕ)) where
   pub ends_of : (status : Status) → IsConcluded status workers reads past founds held held' → EndsJointStorm status
@@ -19,10 +21,16 @@ module _ (workers reads : ℕ) (past : Past) (founds : List (List Snapshot)) (he
   ends_of Status.DoorFault told = absurd told
   ends_of Status.SpawnFault told = absurd told
 
-  has : (status : Status) → IsPast past → IsConcluded status workers reads past founds held held' → HasConcluded status workers reads held held'
-  has status is told = record { past = past; is = is; founds = founds; told = told }
+  -- reads of the keys at a shard of a group of one
+  pub record OfStorm : Type 0 where
+    pub is : IsPast past
+    pub lone : past.base ≡ lone_node MAX_TIME 0
+    pub are : AreFounds reads founds
 
-  pub storm_of : (status : Status) → IsPast past → IsConcluded status workers reads past founds held held' → IsJointStorm status workers reads held held'
+  has : (status : Status) → OfStorm → IsConcluded status workers reads past founds held held' → HasConcluded status workers reads held held'
+  has status of told = record { past = past; is = of.is; lone = of.lone; founds = founds; are = of.are; told = told }
+
+  pub storm_of : (status : Status) → OfStorm → IsConcluded status workers reads past founds held held' → IsJointStorm status workers reads held held'
   storm_of Status.Done is told = has Status.Done is told
   storm_of Status.Memory is told = told
   storm_of Status.Usage is told = has Status.Usage is told

@@ -1,13 +1,16 @@
 -- What a storm of joint reads comes to.
-use Rattle.std.specs.Prelude.{◌≡◌, ℕ, List, [], length, take, Option, None, Some, ⊤}
+use Rattle.std.specs.Prelude.{◌≡◌, ◌≤◌, ℕ, List, [], length, take, Option, None, Some, ⊤}
 use Rattle.std.specs.List.{AllByRecursion}
 use Rattle.std.specs.Io.KnownBytes.{Appends}
 use Rattle.hk_outside.specs.declared.status.Status.{Status}
 use Rattle.hk_outside.specs.declared.status.Status.TheVariants as Status
+use Rattle.hk_base.specs.declared.time.TheConstants.{MAX_TIME}
 use Rattle.hk_node.specs.Sound.{IsNodeEvent}
 use Rattle.hk_journal.specs.Journal.{IsReplay}
 use Rattle.hk_snap.specs.declared.snapshot.Snapshot.{Snapshot}
 use Rattle.hk_place.specs.Past.{Past}
+use Rattle.hk_lone.specs.Lone.{lone_node}
+use Rattle.hk_joint_storm.specs.Keys.{IsOfKeys}
 use Rattle.hk_joint_storm.specs.declared.gaps.JointGap.{JointGap}
 use Rattle.hk_joint_storm.specs.Gaps.{first_gap}
 use Rattle.hk_joint_storm.specs.Text.{text_of}
@@ -34,11 +37,19 @@ IsConcluded Status.WriteFault workers reads past founds held held' = (count : �
 IsConcluded Status.Memory workers reads past founds held held' = Appends held held' []
 IsConcluded status workers reads past founds held held' = ⊥
 
--- what some reads come to by the journal of a shard
+-- What so many reads of the keys found: one list for each read at most, of a snapshot of each key in turn. So those that found nothing
+-- are just the others.
+pub record AreFounds (reads : ℕ) (founds : List (List Snapshot)) : Type 0 where
+  pub few : length founds ≤ reads
+  pub keys : AllByRecursion IsOfKeys founds
+
+-- what these reads come to, by the base and journal of a shard of a group of one
 pub record HasConcluded (status : Status) (workers reads : ℕ) (held held' : Option (List ℕ)) : Type 0 where
   pub past : Past
   pub is : IsPast past
+  pub lone : past.base ≡ lone_node MAX_TIME 0
   pub founds : List (List Snapshot)
+  pub are : AreFounds reads founds
   pub told : IsConcluded status workers reads past founds held held'
 
 -- or memory was wanting, and nothing was written

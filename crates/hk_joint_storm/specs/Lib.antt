@@ -1,3 +1,5 @@
+pub mod Keys
+pub mod Kept
 pub mod Gaps
 pub mod Text
 pub mod Concluded

@@ -1,8 +1,9 @@
 //! The command: writers beside a reader of several keys.
 
-ghost use Rattle.std.specs.Prelude.{◌≡◌, ◌≤◌};
+ghost use Rattle.std.specs.Prelude.{◌≡◌, ◌≤◌, IfOk};
 ghost use Rattle.hk_outside.specs.Causes.{Rose};
-ghost use Rattle.hk_joint_storm.specs.Concluded.{IsJointStorm, EndsJointStorm};
+ghost use Rattle.hk_joint_storm.specs.Keys.{storm_keys};
+ghost use Rattle.hk_joint_storm.specs.Concluded.{AreFounds, IsJointStorm, EndsJointStorm};
 
 use crate::ending::conclude_joint;
 use crate::gaps::JointFounds;
@@ -10,7 +11,6 @@ use crate::keys::{KEYS, KeysWriter, storm_keys};
 use crate::reading::JointReader;
 use hk_base::{Key, Memory};
 use hk_outside::{Clock, Sink, Status};
-use hk_shard::Shard;
 use std::alloc::Global;
 use std::sync::{Mutex, Wait};
 use std::thread;
@@ -71,7 +71,7 @@ fn write_in_threads<R: Threads + Wait + Sync>(
     all_written(written)
 }
 
-// Reads beside the writers, and once more when all of them have ended.
+// Reads beside the writers, and once more when all of them have ended. What was found is given.
 fn read_beside<R: Threads + Wait + Sync, C: Clock + Sync>(
     rt: &R,
     alloc: Global,
@@ -81,21 +81,32 @@ fn read_beside<R: Threads + Wait + Sync, C: Clock + Sync>(
     workers: u8,
     reads: u32,
     clock: &C,
-) -> Result<(), Memory> {
-    let (read, written) = thread::join(
+) -> Result<JointFounds, Memory>
+    requires { keys.now ≡ storm_keys }
+    ensures { IfOk result (λ founds. AreFounds reads founds) }
+{
+    let Some(beside) = reads.checked_sub(1) else {
+        return Ok(JointFounds::new(alloc));
+    };
+    let read = || -> Result<JointFounds, Memory>
+        requires { keys.now ≡ storm_keys }
+        ensures { IfOk result (λ founds. AreFounds beside founds) }
+    { reader.read_often(rt, alloc, clock, keys, beside) };
+    let (founds, written) = thread::join(
         rt,
-        || reader.read_often(rt, alloc, clock, keys, reads.saturating_sub(1)),
+        read,
         || write_in_threads(rt, alloc, writer, keys, workers, reads),
     );
-    read?;
+    let mut founds = founds?;
     written?;
-    reader.read(rt, alloc, clock, keys)
+    reader.read(rt, alloc, clock, keys, &mut founds)?;
+    Ok(founds)
 }
 
 // What is left when the threads have ended.
 #[derive(Drop)]
 struct Left {
-    shard: Shard,
+    writer: KeysWriter,
     founds: JointFounds,
 }
 
@@ -109,12 +120,15 @@ fn run<R: Threads + Wait + Sync, C: Clock + Sync>(
     workers: u8,
     reads: u32,
     clock: &C,
-) -> Result<Left, Memory> {
+) -> Result<Left, Memory>
+    requires { keys.now ≡ storm_keys }
+    ensures { IfOk result (λ left. AreFounds reads left.founds) }
+{
     let writer = Mutex::new(writer);
     match read_beside(rt, alloc, &writer, &mut reader, keys, workers, reads, clock) {
-        Ok(()) => Ok(Left {
-            shard: writer.into_inner().shard,
-            founds: reader.founds,
+        Ok(founds) => Ok(Left {
+            writer: writer.into_inner(),
+            founds,
         }),
         Err(_) => Err(Memory),
     }
@@ -129,7 +143,10 @@ fn run_writer<R: Threads + Wait + Sync, C: Clock + Sync>(
     workers: u8,
     reads: u32,
     clock: &C,
-) -> Result<Left, Memory> {
+) -> Result<Left, Memory>
+    requires { keys.now ≡ storm_keys }
+    ensures { IfOk result (λ left. AreFounds reads left.founds) }
+{
     let begun = begin(rt, alloc, &mut writer, keys);
     match begun {
         Ok(reader) => run(rt, alloc, writer, reader, keys, workers, reads, clock),
@@ -145,7 +162,8 @@ fn begin<R: Wait>(
     keys: &[Key],
 ) -> Result<JointReader, Memory> {
     write_once(rt, alloc, writer, keys)?;
-    writer.reader(rt, alloc)
+    let (cells, lease) = writer.reader(rt, alloc)?;
+    Ok(JointReader { cells, lease })
 }
 
 // What the threads leave of a new shard.
@@ -155,7 +173,9 @@ fn run_all<R: Threads + Wait + Sync, C: Clock + Sync>(
     workers: u8,
     reads: u32,
     clock: &C,
-) -> Result<Left, Memory> {
+) -> Result<Left, Memory>
+    ensures { IfOk result (λ left. AreFounds reads left.founds) }
+{
     let keys = storm_keys(alloc)?;
     match KeysWriter::new(rt, alloc) {
         Ok(writer) => run_writer(rt, alloc, writer, keys.as_slice(), workers, reads, clock),
@@ -168,15 +188,17 @@ fn conclude<K: Sink>(
     alloc: Global,
     workers: u8,
     reads: u32,
-    shard: &Shard,
+    writer: &KeysWriter,
     founds: &JointFounds,
     sink: &mut K,
 ) -> Status
+    requires { AreFounds reads founds.now }
     ensures ends { EndsJointStorm result }
     ensures exact { IsJointStorm result workers reads (K.held sink.old) (K.held sink.new) }
     ensures write_fault { result ≡ Status.WriteFault → Rose (K.faults sink.old) (K.faults sink.new) }
     ensures later { K.faults sink.old ≤ K.faults sink.new }
 {
+    let shard = writer.shard();
     let Ok(base) = shard.base(alloc) else {
         return Status::Memory;
     };
@@ -205,5 +227,5 @@ pub fn joint_storm<R: Threads + Wait + Copy + Send + Sync + 'static, C: Clock + 
     let Ok(left) = run_all(&rt, alloc, workers, reads, clock) else {
         return Status::Memory;
     };
-    conclude(alloc, workers, reads, &left.shard, &left.founds, sink)
+    conclude(alloc, workers, reads, &left.writer, &left.founds, sink)
 }

@@ -51,6 +51,7 @@ module _ (w : WorldState) (sound : IsWorld w) (council : IsCouncil w) (e : IsEar
       upto = e.mirrors.upto;
       letters = λ l h. stands_on e.state after (record { asks = λ y h. h; gives = λ y h. h; activates = λ y h. h }) l (e.mirrors.letters l h);
     };
+    first = e.first;
   }
 
   pub managers_after : (m : ℕ) → ManagerIn after m (manager_at m w.managers)

@@ -1,10 +1,11 @@
 -- The world of founders is mirrored by the start of the machine, and none of its nodes heard anything yet.
-use Rattle.std.proofs.Common.{◌≡◌, ◌≢◌, ◌⊎◌, ◌<◌, ◌≤◌, ◌+◌, ℕ, zero, suc, map, length, Bool, true, false, cond, nat_lt, Option, Some, None, is_some, unwrap_or, replicate, refl, sym, ap, subst, ◌∙◌, inl, inr, ⊎_elim, arith}
+use Rattle.std.proofs.Common.{◌≡◌, ◌≢◌, ◌⊎◌, ◌<◌, ◌≤◌, ◌+◌, ℕ, zero, suc, map, length, Bool, true, false, cond, ◌||◌, nat_lt, Option, Some, None, is_some, unwrap_or, replicate, refl, sym, ap, subst, ◌∙◌, inl, inr, ⊎_elim, arith}
 use Rattle.std.specs.List.{fold, range_with_len}
-use Rattle.std.proofs.lemmas.Bool.{false≢true, cases_lt, cases_eq, lt-ltb, ltb-true, le-ltb}
+use Rattle.std.proofs.lemmas.Bool.{false≢true, cases_lt, cases_eq, lt-ltb, ltb-true, le-ltb, ne_eqb}
 use Rattle.std.proofs.lemmas.List.FromFn.{length-map-range_with_len}
 use Rattle.hk_base.specs.declared.stamp.NodeId.{NodeId}
 use Rattle.hk_base.specs.declared.letter.Actor.TheVariants.{Node, Manager}
+use Rattle.hk_base.specs.View.{is_member}
 use Rattle.hk_lease.specs.Grants.{until_of, with_grant}
 use Rattle.hk_lease.specs.Wait.{wait}
 use Rattle.hk_clocks.specs.Clocks.{clock_of}
@@ -30,6 +31,12 @@ noted lease a (suc k) =
     let one : a + 1 ≡ suc a = omega arith in
     let all : suc a + k ≡ a + suc k = omega arith in
     ap (λ (n : ℕ). fold (λ untils node. with_grant untils node (wait lease)) (first_untils lease (suc a)) (counted n k)) one ∙ (noted lease (suc a) k ∙ ap (first_untils lease) all)
+
+counted_none : (a k : ℕ) (n : NodeId) → a + k ≤ n.0 → is_member n (counted a k) ≡ false
+counted_none a zero n past = refl
+counted_none a (suc k) n past =
+    ap (λ (b : Bool). b || is_member n (counted (a + 1) k)) (ne_eqb a n.0 (λ e. absurd (omega (arith, e, past))))
+    ∙ counted_none (a + 1) k n (omega (arith, past))
 
 module _ (h : Header) (is : IsHeader h) (sound : IsWorld (start h)) (some : 1 ≤ h.managers) where
   -- ---- founders
@@ -146,6 +153,12 @@ module _ (h : Header) (is : IsHeader h) (sound : IsWorld (start h)) (some : 1 �
         begun = inl (omega arith);
       }
 
+  -- the first view has the founders alone
+  first : (n : NodeId) → is_member n (counted 0 h.nodes) ≡ true → nat_lt n.0 h.nodes ≡ true
+  first n member = ⊎_elim
+      (λ (low : n.0 < h.nodes). lt-ltb n.0 h.nodes low)
+      (λ (past : h.nodes ≤ n.0). absurd (false≢true (sym (counted_none 0 h.nodes n (omega (arith, past))) ∙ member))) (cases_lt n.0 h.nodes)
+
   pub start_kept : IsKept w
   start_kept = record {
     some = let m = many in omega (arith, m, some);
@@ -154,6 +167,7 @@ module _ (h : Header) (is : IsHeader h) (sound : IsWorld (start h)) (some : 1 �
       state = state;
       parts = parts;
       mirrors = record { clocks = refl; nodes = node_in; managers = manager_in; upto = λ m. omega arith; letters = λ l i. absurd i };
+      first = first;
     };
     heard = heard_in;
   }

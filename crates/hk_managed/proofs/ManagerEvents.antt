@@ -16,6 +16,7 @@ use Rattle.hk_clocks.specs.Runs.{seen}
 use Rattle.hk_manager.specs.Manager.{ManagerState}
 use Rattle.hk_manager.specs.Sends.{letter_to, to_members}
 use Rattle.hk_manager.specs.Steps.{ManagerStepped, sends, receives}
+use Rattle.hk_council.specs.Chain.{IsChain}
 use Rattle.hk_earned.specs.Machine.{Setting, State, Ask, Give, Activate, In, member, clock, next, put}
 use Rattle.hk_earned.specs.Machine.Event.{Learn, TakeAsk, SendActivate}
 use Rattle.hk_earned.proofs.Places.{by_put}
@@ -38,6 +39,10 @@ learned_kept views held e low = at (nat_lt (last_view views).epoch held.epoch)
     at : (b : Bool) → view_in (cond b (views ++ held ∷ []) views) e ≡ view_in views e
     at true = view_kept views (held ∷ []) e low
     at false = refl
+
+some_view : (views : List View) → IsChain views → 1 ≤ length views
+some_view [] chain = absurd chain
+some_view (view ∷ views) chain = omega arith
 
 longer : {X : Type 0} (xs ys : List X) → length xs ≤ length (xs ++ ys)
 longer [] ys = omega arith
@@ -92,6 +97,7 @@ module _ (w : WorldState) (sound : IsWorld w) (council : IsCouncil w) (e : IsEar
         upto = upto;
         letters = more_stand e.state after wide w.letters s.letters e.mirrors.letters letters;
       };
+      first = λ n h. e.first n (subst (λ (v : View). is_member n v.members ≡ true) (learned_kept w.views s.manager.held 1 (some_view w.views council.chain)) h);
     }
 
     upto_then : (j : ℕ) → e.state.held j ≤ length then_world.views

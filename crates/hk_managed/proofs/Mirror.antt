@@ -1,6 +1,6 @@
 -- A state of the machine of leases that mirrors a world: its clocks, the ends of each node, what each manager holds and noted, and
 -- every letter that bears on leases.
-use Rattle.std.proofs.Common.{◌≡◌, ◌≢◌, ◌≤◌, ℕ, List, [], ◌∷◌, ◌++◌, length, true, false, Option, Some, None, Result, Ok, is_some, unwrap_or, sym, ap, subst, ◌∙◌, inl, inr, ⊎_elim}
+use Rattle.std.proofs.Common.{◌≡◌, ◌≢◌, ◌≤◌, ℕ, List, [], ◌∷◌, ◌++◌, length, true, false, nat_lt, Option, Some, None, Result, Ok, is_some, unwrap_or, sym, ap, subst, ◌∙◌, inl, inr, ⊎_elim}
 use Rattle.std.specs.List.{AllByRecursion}
 use Rattle.std.proofs.lemmas.Bool.{cases_eq}
 use Rattle.hk_base.specs.declared.stamp.NodeId.{NodeId}
@@ -9,6 +9,7 @@ use Rattle.hk_base.specs.declared.letter.Actor.TheVariants.{Node, Manager}
 use Rattle.hk_base.specs.declared.letter.Letter.{Letter}
 use Rattle.hk_base.specs.declared.letter.Body.{Body}
 use Rattle.hk_base.specs.declared.letter.Body.TheVariants as Body
+use Rattle.hk_base.specs.View.{is_member}
 use Rattle.hk_clocks.specs.Clocks.{ClockState, clock_of}
 use Rattle.hk_clocks.specs.Steps.{ClockEvent, clock_step}
 use Rattle.hk_clocks.specs.Runs.{made_or, seen}
@@ -212,6 +213,8 @@ pub record IsEarned (w : WorldState) : Type 0 where
   pub state : State
   pub parts : Parts (setting_of w founders) state
   pub mirrors : Mirrors w state
+  -- the members of the first view are the founders
+  pub first : (n : NodeId) → is_member n (view_in w.views 1).members ≡ true → nat_lt n.0 founders ≡ true
 
 -- ---- clocks
 pub as_clocks : (c : ClockState) (skew : ℕ) → c.skew ≡ skew → c ≡ record { skew = skew; paces = c.paces }

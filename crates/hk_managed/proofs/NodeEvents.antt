@@ -41,6 +41,7 @@ module _ (w : WorldState) (sound : IsWorld w) (council : IsCouncil w) (e : IsEar
       upto = λ m. subst (λ (h : ℕ). h ≤ length w.views) (sym (by m).held) (e.mirrors.upto m);
       letters = more_stand e.state after wide w.letters s.letters e.mirrors.letters letters;
     };
+    first = e.first;
   }
 
   -- no lease is asked for, and none is given

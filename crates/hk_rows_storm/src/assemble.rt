@@ -7,7 +7,7 @@ use hk_base::{
 };
 use hk_event::Header;
 use hk_journal::JournalEntry;
-use hk_merge::{Journals, Note, Notes};
+use hk_merge::{Journals, Note, Notes, same_letter};
 use hk_node::NodeEvent;
 use hk_safety::{Run, order_of};
 use hk_script::print_event;
@@ -238,6 +238,57 @@ fn a_letter_that_nobody_sent_is_told(rt: HostRuntime) {
     let journals = lone(&rt, alloc, 3, NodeEvent::Receive(ack(&rt, alloc)));
     match assembled(&rt, alloc, &journals, &Notes::new(alloc)) {
         Err(Gap::Letter { taken, sent }) => assert_eq!(rt; (taken, sent), (3, None)),
+        _ => assert!(rt; false),
+    }
+}
+
+// Node 0 writes `a`, and its INV has `b`.
+fn altered(rt: &impl Abort, alloc: Global) -> Journals {
+    let event = NodeEvent::Call {
+        call: CallNo(1),
+        key: key(rt, alloc),
+        op: Op::Write(content(rt, alloc, b"a")),
+    };
+    let body = Body::Inv {
+        key: key(rt, alloc),
+        stamp: stamp(),
+        kind: Kind::Write,
+        content: Some(content(rt, alloc, b"b")),
+    };
+    let mut first = Sequence::new(alloc);
+    first
+        .push(entry(rt, alloc, 1, event, Some(letter(0, 1, body))))
+        .expect(rt, "memory");
+    let mut journals = Sequence::new(alloc);
+    journals.push(first).expect(rt, "memory");
+    journals.push(Sequence::new(alloc)).expect(rt, "memory");
+    journals
+}
+
+// Whether the letters are just this one.
+fn is_just(letters: &Letters, letter: &Letter) -> bool {
+    match letters.as_slice() {
+        [only] => same_letter(only, letter),
+        _ => false,
+    }
+}
+
+#[test]
+fn a_letter_that_its_step_did_not_send_is_told(rt: HostRuntime) {
+    let alloc = rt.alloc();
+    let journals = altered(&rt, alloc);
+    match assembled(&rt, alloc, &journals, &Notes::new(alloc)) {
+        Err(
+            Gap::Entry {
+                node,
+                ticket,
+                given: Some(given),
+            },
+        ) => {
+            assert_eq!(rt; (node, ticket), (NodeId(0), 1));
+            assert!(rt; is_just(&given.letters, &inv(&rt, alloc)));
+            assert!(rt; given.replies.is_empty());
+        }
         _ => assert!(rt; false),
     }
 }

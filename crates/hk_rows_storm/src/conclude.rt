@@ -44,8 +44,8 @@ fn read_of(rt: &impl Abort, alloc: Global, ticket: u64, bytes: &[u8]) -> Journal
     entry(alloc, ticket, event, told_missing(rt, alloc, ticket))
 }
 
-// A VAL, which comes to node 0 though nobody sent it.
-fn forged(rt: &impl Abort, alloc: Global) -> JournalEntry {
+// A VAL of node 0 to itself.
+fn val(rt: &impl Abort, alloc: Global) -> Letter {
     let stamp = Stamp {
         version: 2,
         node: 0,
@@ -54,13 +54,18 @@ fn forged(rt: &impl Abort, alloc: Global) -> JournalEntry {
         key: key(rt, alloc, b"k1"),
         stamp,
     };
-    let letter = Letter {
+    Letter {
         epoch: 1,
         from: Actor::Node(NodeId(0)),
         to: Actor::Node(NodeId(0)),
         body,
-    };
-    entry(alloc, 3, NodeEvent::Receive(letter), Replies::new(alloc))
+    }
+}
+
+// A VAL, which comes to node 0 though nobody sent it.
+fn forged(rt: &impl Abort, alloc: Global) -> JournalEntry {
+    let event = NodeEvent::Receive(val(rt, alloc));
+    entry(alloc, 3, event, Replies::new(alloc))
 }
 
 // Nothing is waiting there, so nothing is sent.
@@ -192,4 +197,15 @@ fn a_letter_that_nobody_sent_is_told(rt: HostRuntime) {
     let forged = forged(&rt, alloc);
     let group = lone(&rt, alloc, forged);
     comes_to(&rt, alloc, group, Status::Gap, b"gap letter 3 none\n");
+}
+
+// A letter stands beside the read, which sent none.
+#[test]
+fn a_letter_that_its_step_did_not_send_is_told(rt: HostRuntime) {
+    let alloc = rt.alloc();
+    let mut read = read_of(&rt, alloc, 1, b"k1");
+    let letter = val(&rt, alloc);
+    read.letters.push(letter).expect(&rt, "memory");
+    let group = lone(&rt, alloc, read);
+    comes_to(&rt, alloc, group, Status::Gap, b"gap entry 0 1\n");
 }
