@@ -1,0 +1,4 @@
+pub mod Stages
+pub mod Opening
+pub mod Laws
+pub mod Group
