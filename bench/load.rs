@@ -1,4 +1,4 @@
-// Asks a server that speaks the memcached text protocol, or redis, and prints requests a second, the microseconds of processor time that
+// Asks a server that speaks the memcached text protocol, or redis or etcd, and prints requests a second, the microseconds of processor time that
 // the server spent on each, and the 50th and 99th percentile of the time to an answer, in microseconds.
 //
 // `load PORT PROCESSES CONNECTIONS DEPTH REQUESTS SETS` asks over so many connections, each a thread that has DEPTH requests on their way,
@@ -8,7 +8,9 @@
 // `load redis PORT PROCESSES ..` does the same at redis, where each batch with a set ends with a `WAIT 2 0`: it is answered once two replicas
 // have what was set.
 //
-// `load PORT KEYS` sets so many keys, each with such a value, and prints nothing.
+// `load etcd PORT PROCESSES CONNECTIONS 1 ..` does the same at a member of etcd, by the JSON gateway of its third version, whose reads are linearizable too.
+//
+// `load PORT KEYS` sets so many keys, each with such a value, or with one of BYTES bytes by `load PORT KEYS BYTES`, and prints nothing.
 use std::io::{self, BufRead, BufReader, Read, Write};
 use std::net::TcpStream;
 use std::time::{Duration, Instant};
@@ -30,17 +32,31 @@ impl Draws {
 enum Protocol {
     Memcached,
     Redis,
+    Etcd,
 }
 
 impl Protocol {
-    fn put_request(self, out: &mut Vec<u8>, key: u64, is_set: bool) -> io::Result<()> {
-        match (self, is_set) {
-            (Protocol::Memcached, true) => write!(out, "set key:{key:08} 0 0 {}\r\n", VALUE.len())?,
-            (Protocol::Memcached, false) => return write!(out, "get key:{key:08}\r\n"),
-            (Protocol::Redis, true) => write!(out, "*3\r\n$3\r\nSET\r\n$12\r\nkey:{key:08}\r\n${}\r\n", VALUE.len())?,
-            (Protocol::Redis, false) => return write!(out, "*2\r\n$3\r\nGET\r\n$12\r\nkey:{key:08}\r\n"),
+    /// The protocol of this name.
+    fn named(name: &str) -> Option<Protocol> {
+        match name {
+            "redis" => Some(Protocol::Redis),
+            "etcd" => Some(Protocol::Etcd),
+            _ => None,
         }
-        out.extend_from_slice(&VALUE);
+    }
+
+    /// A set of this value, or a get where there is none.
+    fn put_request(self, out: &mut Vec<u8>, key: u64, value: Option<&[u8]>) -> io::Result<()> {
+        let key = format!("key:{key:08}");
+        match (self, value) {
+            (Protocol::Memcached, Some(value)) => write!(out, "set {key} 0 0 {}\r\n", value.len())?,
+            (Protocol::Memcached, None) => return write!(out, "get {key}\r\n"),
+            (Protocol::Redis, Some(value)) => write!(out, "*3\r\n$3\r\nSET\r\n$12\r\n{key}\r\n${}\r\n", value.len())?,
+            (Protocol::Redis, None) => return write!(out, "*2\r\n$3\r\nGET\r\n$12\r\n{key}\r\n"),
+            (Protocol::Etcd, Some(value)) => return put_post(out, "put", &format!("{{\"key\":\"{}\",\"value\":\"{}\"}}", base64(key.as_bytes()), base64(value))),
+            (Protocol::Etcd, None) => return put_post(out, "range", &format!("{{\"key\":\"{}\"}}", base64(key.as_bytes()))),
+        }
+        out.extend_from_slice(value.unwrap_or_default());
         out.extend_from_slice(b"\r\n");
         Ok(())
     }
@@ -58,8 +74,26 @@ impl Protocol {
         match self {
             Protocol::Memcached => b"quit\r\n",
             Protocol::Redis => b"*1\r\n$4\r\nQUIT\r\n",
+            Protocol::Etcd => b"GET /health HTTP/1.1\r\nHost: localhost\r\nConnection: close\r\n\r\n",
         }
     }
+}
+
+/// A request of HTTP to etcd's gateway.
+fn put_post(out: &mut Vec<u8>, call: &str, body: &str) -> io::Result<()> {
+    write!(out, "POST /v3/kv/{call} HTTP/1.1\r\nHost: localhost\r\nContent-Length: {}\r\n\r\n{body}", body.len())
+}
+
+fn base64(bytes: &[u8]) -> String {
+    const DIGITS: &[u8; 64] = b"ABCDEFGHIJKLMNOPQRSTUVWXYZabcdefghijklmnopqrstuvwxyz0123456789+/";
+    let mut text = String::new();
+    for group in bytes.chunks(3) {
+        let bits = (0..3).fold(0, |bits, at| bits << 8 | usize::from(*group.get(at).unwrap_or(&0)));
+        for at in 0..4 {
+            text.push(if at <= group.len() { DIGITS[bits >> (18 - 6 * at) & 63] as char } else { '=' });
+        }
+    }
+    text
 }
 
 struct Client {
@@ -89,13 +123,35 @@ impl Client {
         Ok(())
     }
 
+    /// Reads one reply of HTTP, and gives its body.
+    fn read_body(&mut self) -> io::Result<String> {
+        self.read_line()?;
+        assert_eq!(self.line, b"HTTP/1.1 200 OK\r\n");
+        let mut length = 0;
+        while self.line != b"\r\n" {
+            self.read_line()?;
+            let line = String::from_utf8_lossy(&self.line).to_ascii_lowercase();
+            if let Some(word) = line.strip_prefix("content-length: ") {
+                length = number(word.trim_end()) as usize;
+            }
+        }
+        let mut body = vec![0; length];
+        self.reader.read_exact(&mut body)?;
+        Ok(String::from_utf8_lossy(&body).into_owned())
+    }
+
     /// Reads one reply, and panics where it is none that is due.
     fn reply(&mut self, is_set: bool) -> io::Result<()> {
-        self.read_line()?;
         let (stored, found, end): (&[u8], &[u8], &[u8]) = match self.protocol {
             Protocol::Memcached => (b"STORED\r\n", b"VALUE ", b"END\r\n"),
             Protocol::Redis => (b"+OK\r\n", b"$100\r\n", b""),
+            Protocol::Etcd => {
+                let body = self.read_body()?;
+                assert!(is_set || body.contains(&base64(&VALUE)), "{}", body);
+                return Ok(());
+            }
         };
+        self.read_line()?;
         if is_set {
             assert_eq!(self.line, stored);
             return Ok(());
@@ -110,30 +166,33 @@ impl Client {
     }
 }
 
-/// Whether the server has this key.
-fn is_there(client: &mut Client, key: u64) -> io::Result<bool> {
+/// Whether the server has this key, with a value of so many bytes.
+fn is_there(client: &mut Client, key: u64, bytes: usize) -> io::Result<bool> {
     let mut out = Vec::new();
-    client.protocol.put_request(&mut out, key, false)?;
+    client.protocol.put_request(&mut out, key, None)?;
     client.stream.write_all(&out)?;
+    if client.protocol == Protocol::Etcd {
+        return Ok(client.read_body()?.contains("\"value\""));
+    }
     client.read_line()?;
     if client.line == b"END\r\n" || client.line == b"$-1\r\n" {
         return Ok(false);
     }
     let end = if client.protocol == Protocol::Redis { 0 } else { 5 };
-    let mut rest = vec![0; VALUE.len() + 2 + end];
+    let mut rest = vec![0; bytes + 2 + end];
     client.reader.read_exact(&mut rest)?;
     Ok(true)
 }
 
-/// Sets so many keys, unless the last of them is there.
-fn fill(protocol: Protocol, port: u16, keys: u64) -> io::Result<()> {
+/// Sets so many keys to this value, unless the last of them is there.
+fn fill(protocol: Protocol, port: u16, keys: u64, value: &[u8]) -> io::Result<()> {
     let mut client = Client::new(protocol, port)?;
-    if is_there(&mut client, keys - 1)? {
+    if is_there(&mut client, keys - 1, value.len())? {
         return Ok(());
     }
     let (mut out, mut sets) = (Vec::new(), 0);
     for key in 0..keys {
-        protocol.put_request(&mut out, key, true)?;
+        protocol.put_request(&mut out, key, Some(value))?;
         sets += 1;
         if out.len() > 8192 || key + 1 == keys {
             client.stream.write_all(&out)?;
@@ -157,7 +216,7 @@ fn ask(protocol: Protocol, port: u16, start: u64, depth: u64, requests: u64, set
         kinds.clear();
         for _ in 0..depth {
             let is_set = draws.below(100) < sets;
-            protocol.put_request(&mut out, draws.below(KEYS), is_set)?;
+            protocol.put_request(&mut out, draws.below(KEYS), is_set.then_some(&VALUE[..]))?;
             kinds.push(is_set);
         }
         let waits = protocol.put_end(&mut out, kinds.iter().filter(|is_set| **is_set).count());
@@ -196,21 +255,23 @@ fn main() -> io::Result<()> {
     let words: Vec<String> = std::env::args().skip(1).collect();
     let mut words: Vec<&str> = words.iter().map(String::as_str).collect();
     let mut protocol = Protocol::Memcached;
-    if words.first() == Some(&"redis") {
+    if let Some(named) = words.first().and_then(|name| Protocol::named(name)) {
         words.remove(0);
-        protocol = Protocol::Redis;
+        protocol = named;
     }
-    if let [port, keys] = words[..] {
-        return fill(protocol, number(port) as u16, number(keys));
+    match words[..] {
+        [port, keys] => return fill(protocol, number(port) as u16, number(keys), &VALUE),
+        [port, keys, bytes] => return fill(protocol, number(port) as u16, number(keys), &vec![b'v'; number(bytes) as usize]),
+        _ => {}
     }
     let [port, processes, connections, depth, requests, sets] = words[..] else {
-        eprintln!("usage: load [redis] PORT PROCESSES CONNECTIONS DEPTH REQUESTS SETS | load [redis] PORT KEYS");
+        eprintln!("usage: load [redis | etcd] PORT PROCESSES CONNECTIONS DEPTH REQUESTS SETS | load [redis | etcd] PORT KEYS [BYTES]");
         std::process::exit(2);
     };
     let port = number(port) as u16;
     let processes: Vec<u64> = processes.split(',').map(number).collect();
     let (connections, depth, requests, sets) = (number(connections), number(depth), number(requests), number(sets));
-    fill(protocol, port, KEYS)?;
+    fill(protocol, port, KEYS, &VALUE)?;
     let (spent_before, begun) = (spent(&processes)?, Instant::now());
     let each = requests / connections;
     let asking: Vec<_> = (0..connections).map(|start| std::thread::spawn(move || ask(protocol, port, start, depth, each, sets))).collect();

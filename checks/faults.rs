@@ -1,6 +1,7 @@
 // Makes one call of the C library fail, in a program that is started with this library before it: the environment names a kind of
 // call, `ALLOCATE`, `READ`, `WRITE` or `THREAD`, and the number of the call that fails, counted from 1. With `SHORT` 1 each write takes one byte,
-// with 2 each read gives one, with 3 both. Reads and writes are those of standard input, standard output and sockets.
+// with 2 each read gives one, with 3 both. Reads and writes are those of standard input, standard output and sockets. With `WAKES` N of each N calls
+// that wake all who sleep at a word one is lost.
 // At the end it tells on standard error how many calls of each kind were made.
 use std::ffi::{c_char, c_int, c_void};
 use std::sync::atomic::{AtomicU64, Ordering};
@@ -29,6 +30,11 @@ const EAGAIN: c_int = 11;
 const ENOMEM: c_int = 12;
 const SOL_SOCKET: c_int = 1;
 const SO_REUSEADDR: c_int = 2;
+const SYS_FUTEX: i64 = 202;
+const FUTEX_WAKE: usize = 1;
+/// The other bits of an operation tell which clock it waits by, and whose word it is.
+const FUTEX_COMMANDS: usize = 127;
+const ALL_SLEEPERS: usize = i32::MAX as usize;
 static YES: c_int = 1;
 /// Looks for a name behind this library.
 const NEXT: *const c_void = -1isize as *const c_void;
@@ -65,6 +71,9 @@ static WRITES: Calls = Calls::new();
 static THREADS: Calls = Calls::new();
 static SHORT: AtomicU64 = AtomicU64::new(0);
 static MEETS: AtomicU64 = AtomicU64::new(0);
+/// Of so many wake-ups one is lost, 0 where none is, and how many were called for.
+static LOSES: AtomicU64 = AtomicU64::new(0);
+static WAKES: AtomicU64 = AtomicU64::new(0);
 
 /// A request for memory that is refused. The C library itself looks at the number of the error where it makes a thread.
 unsafe fn refused() -> *mut c_void {
@@ -159,6 +168,24 @@ pub unsafe extern "C" fn connect(socket: c_int, address: *const c_void, size: u3
     }
 }
 
+/// Whether a system call wakes all who sleep at a word. Whoever lets go of a lock wakes one, which must not be lost: nobody would look again.
+fn wakes_all(number: i64, operation: usize, count: usize) -> bool {
+    number == SYS_FUTEX && operation & FUTEX_COMMANDS == FUTEX_WAKE && count == ALL_SLEEPERS
+}
+
+/// The call is made of six words, however many of them it has.
+#[unsafe(no_mangle)]
+pub unsafe extern "C" fn syscall(number: i64, word: usize, operation: usize, count: usize, fourth: usize, fifth: usize, sixth: usize) -> i64 {
+    let loses = LOSES.load(Ordering::Relaxed);
+    if loses != 0 && wakes_all(number, operation, count) && WAKES.fetch_add(1, Ordering::Relaxed) % loses == loses - 1 {
+        return 0;
+    }
+    unsafe {
+        let next: unsafe extern "C" fn(i64, usize, usize, usize, usize, usize, usize) -> i64 = std::mem::transmute(dlsym(NEXT, c"syscall".as_ptr()));
+        next(number, word, operation, count, fourth, fifth, sixth)
+    }
+}
+
 type Begin = extern "C" fn(*mut c_void) -> *mut c_void;
 type Create = unsafe extern "C" fn(*mut c_void, *const c_void, Begin, *mut c_void) -> c_int;
 
@@ -186,6 +213,7 @@ extern "C" fn begin() {
         THREADS.set(asked(c"THREAD"));
         SHORT.store(asked(c"SHORT"), Ordering::Relaxed);
         MEETS.store(asked(c"MEETS"), Ordering::Relaxed);
+        LOSES.store(asked(c"WAKES"), Ordering::Relaxed);
         ALLOCATIONS.set(asked(c"ALLOCATE"));
     }
 }

@@ -76,6 +76,21 @@ def watch_time(seconds):
 # ---- servers
 
 
+def states(process):
+    """How each thread of a process stands: `T` where it is stopped."""
+    return {path.read_text().rsplit(") ", 1)[1][0] for path in Path(f"/proc/{process.pid}/task").glob("*/stat")}
+
+
+def pause(process):
+    """Stops a process, and returns once none of its threads runs: until then it may still answer."""
+    process.send_signal(signal.SIGSTOP)
+    until = time.monotonic() + SECONDS
+    while states(process) != {"T"}:
+        if time.monotonic() > until:
+            raise Fault("a process does not stop")
+        time.sleep(0.001)
+
+
 class Server:
     """A process of the program on a port, and what it tells on standard error."""
 
@@ -140,8 +155,11 @@ class Server:
         words = ["prlimit", f"--pid={self.process.pid}", f"--nproc={soft}:"]
         subprocess.run(words, check=True, stderr=subprocess.PIPE, **owner())
 
-    def send_signal(self, number):
-        self.process.send_signal(number)
+    def pause(self):
+        pause(self.process)
+
+    def go_on(self):
+        self.process.send_signal(signal.SIGCONT)
 
     # what the kernel tells of it
 

@@ -5,7 +5,6 @@ import os
 import random
 import resource
 import shutil
-import signal
 import socket
 import tempfile
 import threading
@@ -350,9 +349,9 @@ def unknown_takes_its_time(room):
         alone = time_to_unknown(client, b"a")
         group.begin(1)
         client.set_till(b"b", b"x")
-        group.servers[1].send_signal(signal.SIGSTOP)
+        group.servers[1].pause()
         stopped = time_to_unknown(client, b"c")
-        group.servers[1].send_signal(signal.SIGCONT)
+        group.servers[1].go_on()
         return f"`outcome unknown` after {alone:.2f} s where node 1 is not there, after {stopped:.2f} s where it is stopped"
 
 
@@ -370,7 +369,7 @@ def a_stopped_peer_costs_no_processor(room):
     with room.group(3) as group, contextlib.ExitStack() as clients:
         meet(group)
         waiting = [clients.enter_context(group.client(0, 2 * SECONDS)) for _ in range(8)]
-        group.servers[2].send_signal(signal.SIGSTOP)
+        group.servers[2].pause()
         shares = []
         for number, client in enumerate(waiting):
             client.begin(b"wait:%d" % number, b"x")
@@ -378,7 +377,7 @@ def a_stopped_peer_costs_no_processor(room):
         for client in waiting:
             client.line()
         shares.append(share_of(group.servers[0], 2))
-        group.servers[2].send_signal(signal.SIGCONT)
+        group.servers[2].go_on()
         asks = [client.set_till(b"wait:%d" % number, b"y") for number, client in enumerate(waiting)]
         figures = f"{shares[0]:.2f} of a processor with eight sets waiting, {shares[1]:.2f} behind that; stored at asks {max(asks)} at most once it went on"
         if shares[0] > 2 * IDLE_SHARE or shares[1] > IDLE_SHARE / 2:
