@@ -81,8 +81,12 @@ fn through_split_ends<R: Wait>(
     requires { IsSameLink ends.1 ends.0 }
 {
     let (mut outlet, mut inlet) = ends;
-    let mut other_outlet = outlet.split().ok()?;
-    let mut other_inlet = inlet.split().ok()?;
+    let Ok(mut other_outlet) = outlet.split() else {
+        return None;
+    };
+    let Ok(mut other_inlet) = inlet.split() else {
+        return None;
+    };
     put(rt, &mut outlet, first);
     put(rt, &mut other_outlet, second);
     let one = taken(rt, &mut other_inlet);
