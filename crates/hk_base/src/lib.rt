@@ -6,6 +6,11 @@
 //!
 //! Data and long keys share their bytes: to `share` one counts an owner and copies no byte. A key of at most 22 bytes has them
 //! in itself.
+//!
+//! What is proved. [`Key::read`] and [`Data::read`] give exactly the bytes, or exactly the first test that they fail
+//! (`exact`). `share` gives an equal value. Keys are equal and ordered as their lists of bytes are. `after_write`,
+//! `after_rmw` and `tag` of a [`Stamp`] are exact. A [`Sequence`] is its list, and a push that finds no memory leaves
+//! it as it was (`err`).
 #![tactic(auto)]
 
 mod block;

@@ -8,6 +8,14 @@
 //!
 //! Times are milliseconds, up to `MAX_TIME`, which the caller owes. That it starts no actor again after a stop is the caller's
 //! matter too: an actor that starts is taken for a new one.
+//!
+//! What is proved. Each call makes exactly the step of `clock_step`, or tells exactly why not, or finds no memory;
+//! after these the clocks are as they were (`IsStepOf`). Where no clock falls the leads decide the rate
+//! (`leads_decide`). The clocks of every run keep it (`run_paced`). What a rise is refused for is exactly what would
+//! not keep it, and the first actor that would be left behind is told (`refused_exactly`, `first_left_told`).
+//!
+//! What no clause says: that a world refuses a rise exactly where the rate would not be kept. A world's step makes a
+//! step of its clocks, and these keep the rate (`hk_managed`); the rest is said of [`Clocks`] alone.
 #![tactic(auto)]
 
 mod clocks;

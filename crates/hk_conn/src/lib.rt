@@ -7,6 +7,18 @@
 //!
 //! The caller gives a connection, a desk that tells its asks, if the clause is to say which were made, and a patience
 //! of at least one.
+//!
+//! What is proved (`Serves`). The asks that were made are those that the bytes read call for. All of the text was
+//! written at a quit, at the end, at a line that is too long, at a read that fails and at the last read that a
+//! connection may make; a front of it where a write fails or memory is wanting. So it is too where updates wait at the
+//! desk together: each reply is of its own request, in their order. `Spent` comes exactly at 4,294,967,295 reads that
+//! each gave something, `End` at a read of nothing before that; where the source records its pieces, these are the
+//! bytes that were served (`AreRead`). Faults come only where the connection's counts rose (`read_fault`,
+//! `write_fault`).
+//!
+//! What no clause says: which updates wait together, and when replies are written. Tests show that all to one read are
+//! written before more is read, that updates of one read wait together until one of their keys comes again, and that 64
+//! do at most.
 #![tactic(auto)]
 
 mod answer;

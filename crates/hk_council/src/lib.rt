@@ -9,6 +9,12 @@
 //! The crate has laws alone, over a machine that makes the steps of `hk_manager`. Whoever uses them owes that all managers begin
 //! with the same view, whose epoch is 1, that a manager's number is its own, that a stopped manager makes no step, and that no
 //! letter bears the name of a manager that did not send it.
+//!
+//! What is proved. `managers_agree`: so it is at the end of every run (`IsAgreed`). Each later view is chosen by a
+//! majority in the instance of its epoch. That is a run of Paxos with the letters of the managers and no others, but
+//! for reports of a chosen view, which stand for themselves (`HasPaxosRun`: `letters`, `sent`): only acceptances that
+//! managers sent count. `held_views_rise`: no manager goes back to an earlier view. `a_node_never_returns`: a node that
+//! a view leaves out is in no later one. `a_rival_is_overtaken` is a run worked by hand.
 #![tactic(auto)]
 
 mod law;

@@ -4,6 +4,16 @@
 //! reads the log, cuts off what is torn, makes sure of the rest, and from then on appends a record at a time. A call that
 //! answered has made its record sure, so what is done behind it is of a record that is never lost. The first call of the
 //! file that fails ends the writer for good, since what the file has is not known from then on.
+//!
+//! What is proved. What `recover` gives is a writer and records, and the file has just these records, made sure
+//! (`IsSureLog`). Once `LogWriter::append` has answered, its record is sure behind those that were (`sure`), for every
+//! list of records. A writer has ended just where its last append told so (`ends`), tells so for ever (`ended`), and
+//! first only where the file's count of faults rose (`cause`).
+//!
+//! What no clause says: that the records are those that stood in the file before; when `recover` refuses, and that it
+//! writes nothing where the log is damaged; that an append which finds no memory, or whose record is too long, leaves
+//! the file as it was. In the code it is so. No test runs this crate, and there is no adapter over the machine's files
+//! yet, and none for the lock.
 #![tactic(auto)]
 
 mod fake;

@@ -7,6 +7,11 @@
 //!
 //! The crate has laws alone, over a machine of managers, nodes and clocks in the words of the crates below. That the views on which
 //! the managers agreed are one for each epoch, and leave a node out for good, is the premise.
+//!
+//! What is proved, as `installed_views_have_ended`: in every run of the machine (`specs/Machine.antt`) each view that
+//! any node has installed leaves out no live node whose lease still runs, by the ends that the node received and by
+//! those that a majority granted it. In a worked run of three managers a view leaves out a node which had a lease by a
+//! majority (`a_view_leaves_out_a_node`).
 #![tactic(auto)]
 
 mod law;

@@ -6,6 +6,11 @@
 //! of a world, and the order that is printed of a key is legal. No premise is left: without managers the world refuses what would
 //! break one, and with managers they agree on the views and let one begin only where leases have ended (`hk_managed`).
 //! `specs/Worked.antt` has worlds worked by hand, in which each effect is seen.
+//!
+//! What is proved. `event_is_effects`; the world's own invariant and the register's hold after every run
+//! (`event_keeps_own`, `runs_keep_parts`); and the order of each key is legal for its history after every run, with no
+//! premise but that the header and the events are within their limits (`orders_are_legal`). `each_effect_shows` has
+//! those worked worlds.
 #![tactic(auto)]
 
 ghost use Rattle.hk_effects.specs.Laws.{EventIsEffects, EventKeepsOwn};

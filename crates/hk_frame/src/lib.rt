@@ -8,6 +8,11 @@
 //!
 //! Its caller owes `print_letter` a letter in range that fits a frame. Each letter does but for a copy batch whose keys
 //! and data are more than 2,097,152 bytes together, as `letters_fit` says.
+//!
+//! What is proved beside. Where `print_letter` finds no memory the output is as it was (`unchanged`). What
+//! `read_letter` gives is in range and has a frame, and a fault is the first one with the number that it carries
+//! (`exact`, `only`). Two letters with one frame are one letter (`one`). A frame is as long as `frame_length` says
+//! (`lengths_hold`).
 #![tactic(auto)]
 
 mod fault;

@@ -1,15 +1,28 @@
 //! The server of a group of nodes.
 //!
-//! [`serve`] founds the nodes of a group and its managers in one program, opens the doors, and starts threads: the workers of each node, a loop for each manager
-//! number, and one for each connection that comes. Connection i is served at node i modulo the number of nodes, at a desk of its own. All nodes and managers are
-//! joined by links. When the connections have ended the other loops are told to end, and it returns once they have. How it ends, and what shows it, stands in
-//! its contract; that all have ended then is only tested.
+//! [`serve`] founds the nodes of a group and its managers in one program, opens the doors, and starts threads: the
+//! workers of each node, a loop for each manager number, and one for each connection that comes. Connection i is served
+//! at node i modulo the number of nodes, at a desk of its own. All nodes and managers are joined by links. When the
+//! connections have ended the other loops are told to end, and it returns once they have. How it ends, and what shows
+//! it, stands in its contract; that all have ended then is only tested.
 //!
-//! A worker sleeps until its node's bell is rung: by what puts a parcel for the node, by a desk there that waits for long, that finds a lease near its end, or that
-//! brought much data, and by the end of the server. For each ring one of the node's workers makes a turn. So does a manager's loop. Both sleep with no time limit, so a
-//! server at rest uses no processor; who waits for an answer sleeps with one (`hk_worker`).
+//! A worker sleeps until its node's bell is rung: by what puts a parcel for the node, by a desk there that waits for
+//! long, that finds a lease near its end, or that brought much data, and by the end of the server. For each ring one of
+//! the node's workers makes a turn. So does a manager's loop. Both sleep with no time limit, so a server at rest uses
+//! no processor; who waits for an answer sleeps with one (`hk_worker`).
 //!
 //! The caller gives the runtime value, a clock, doors, a spawner, and a group within the limits of `specs/Founding.antt`.
+//!
+//! What is proved. `serve` is Done only where the spawner took a job for each worker and each manager's loop, and then
+//! the stated number of connections came, or all that were left, and for each it took a job or counts one fault more
+//! (`done`, `HasServedBeside`); the doors are closed then (`closed`). DoorFault and SpawnFault come only where that
+//! object's count rose (`door_fault`, `spawn_fault`). The list of names has the cells of each node (`AreNamed`), and
+//! there are as many as the group has (`found_nodes`). What the desk of a connection tells is what a `ClockDesk` tells
+//! at a post (`GroupDesk`: `told`).
+//!
+//! What no clause says: that its nodes are the founders of the first view, which the code asks of `Shards::founders`;
+//! at which node a connection is served, that workers and managers run and how often they ring, and when journals begin
+//! anew.
 #![tactic(auto)]
 
 mod completion;

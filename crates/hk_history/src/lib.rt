@@ -7,6 +7,11 @@
 //!
 //! [`check_order`] tells whether an order is legal, and else the first rule that it breaks and where. It asks for a
 //! history, which [`is_history`] tests. Both sort by ordered maps, and take time in n log n.
+//!
+//! What is proved. [`check_order`] answers Ok only where the order is legal (`specs/Legal.antt`), and a breach only
+//! where it is not: the first broken rule, at the least numbers of calls (`IsChecked`). The rules in their order:
+//! strangers, calls that stand twice, void ones, lacking ones, early ones, and then the fold from the front.
+//! [`is_history`] decides exactly what that asks for.
 #![tactic(auto)]
 
 mod case;

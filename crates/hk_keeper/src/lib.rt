@@ -5,6 +5,13 @@
 //!
 //! Nothing here is needed for safety: a wish is a proposal, on which managers agree by Paxos, or to let a view begin, which a manager refuses while a lease
 //! may run that the view leaves out. What is told here of whom a wish drops keeps a group's data.
+//!
+//! What is proved. [`Heard::decide`] gives in each shard just the wish of the table, over the definitions of who is up,
+//! heard, gone, ready and leaving (`specs/Heard.antt`), of at most 9 managers. No view is wished to begin up to 1 and
+//! the wait on the manager's clock (`BeginBehindTheWait`). Whom it wishes to drop, another member is ready beside
+//! (`LastReadyStays`), and a number that no shard gave is added only where it is the next one in all shards and its
+//! node may join (`NumbersMoveTogether`); both but where a node asked of a later view than the one that is held (row
+//! 2). Then the wish may name any change: Paxos gives the view that a majority accepted.
 #![tactic(auto)]
 
 mod heard;

@@ -3,6 +3,11 @@
 //! Bytes are fed in the pieces in which they come. A line ends at the first carriage return that a line feed follows;
 //! either of the two alone is a byte like any other. A block has a length that was told before. What is given is a
 //! function of the bytes fed, and not of the pieces: that is the law `pieces_do_not_matter`.
+//!
+//! What is proved. `Cutter::next` gives exactly the step that the bytes fed so far give (`step`, `rest`): TooLong
+//! exactly where limit + 2 bytes of a line are there without its end, and Need exactly where nothing else is. A cutter
+//! that told TooLong tells it for ever (`too_long_stays`). A `feed` or a `make_room` that finds no memory keeps the
+//! bytes that were fed (`err`, `same`).
 #![tactic(auto)]
 
 mod cutter;

@@ -6,8 +6,16 @@
 //! [`Full`] only where the link held as many parcels as it has room for, a take `None` only where it was empty, each at a moment of that call.
 //! That a thread which waits is ever served is no part of this.
 //!
-//! A [`Bell`] lets whoever takes sleep until something was put. A put rings it, or several quiet ones and one `ring` behind them. The caller owes that `ring`, before
-//! it waits for anything: a parcel that is not rung for waits for the next one that is.
+//! A [`Bell`] lets whoever takes sleep until something was put. A put rings it, or several quiet ones and one `ring`
+//! behind them. The caller owes that `ring`, before it waits for anything: a parcel that is not rung for waits for the
+//! next one that is.
+//!
+//! What is proved beside. A full link gives the parcel back and is as it was (`put`). An end that has the whole right
+//! is told Full only where at least as many parcels were put as there is room for, and is given nothing only where it
+//! took all that it knows to be put (`lone_ends_wait_for_a_reason`). A `split` that finds no memory changes nothing
+//! (`err`).
+//!
+//! What no clause says: that a bell wakes who sleeps, and that a quiet put is rung for. Tests show it.
 #![tactic(auto)]
 
 mod bell;

@@ -12,6 +12,17 @@
 //! The laws: a log that was cut at any place is read as a front of its records, with each that stands whole
 //! (`cut_logs_are_fronts`), and a record of which a byte is another one, and behind which a whole one stands, is told as
 //! damage at its first byte (`changes_are_told`).
+//!
+//! What is proved. The check is the first 8 bytes of the SHA-256 of the check before and the body. `print_record` gives
+//! exactly the record, or TooLong exactly where its entries take more than 1,048,576 bytes (`IsPrinted`). `read_log`
+//! gives the records that stand and where they end, where what is behind is torn (`is_torn`); else the place of the
+//! damage (`IsLogRead`). Of a log that was cut, damage is told only where what was cut holds a right record by itself,
+//! with the check before it in front of it (`no_damage`). A byte that is another one, in front of a whole record, is
+//! told at the first byte of its record, where what stands there is no right record by chance (`changes_are_told`).
+//! Neither law assumes anything of SHA-256.
+//!
+//! What no clause says: that neither ever happens by chance. No writer can be shown to make no such bytes, since a
+//! letter may have any: that rests on SHA-256.
 #![tactic(auto)]
 
 mod checks;

@@ -7,6 +7,10 @@
 //! that memory is wanting and leaves the manager as it was. A step tells what it replaced, by which [`Manager::undo`] takes it
 //! back. Whoever makes the steps owes that all managers begin with the same
 //! view, that a manager's number is its own, that a stopped manager never runs again, and that the clocks keep their rate.
+//!
+//! What is proved. Beside that `step` tells exactly one of its six refusals, in their order, and after one the manager
+//! is as it was (`IsStepOf`). Over every step a manager stays one, and its letters are in range, sixteen at most
+//! (`steps_keep_managers`). What a step replaced is given back exactly, without memory (`replaced`, `undo`).
 #![tactic(auto)]
 
 mod change;

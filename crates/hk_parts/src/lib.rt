@@ -9,6 +9,10 @@
 //! - *UpdatePart*: rows, pending updates and the letters INV, ACK and VAL. *RmwPart*: read-modify-writes. *ViewPart*:
 //!   epochs, leases and copies of rows.
 //! - *Held*: that all parts hold of every key at every moment, and what it is to keep one.
+//!
+//! What is proved. Every run of a world keeps all parts (`runs_hold`), and to cover a stamp is what moments of the run
+//! show (`marks_mean_moments`). That each kind of event keeps each part is a law of `hk_inv_fix`, `hk_inv_rmw` and
+//! `hk_inv_view` (`keeps_call`, `keeps_take` and so on).
 #![tactic(auto)]
 
 ghost use Rattle.hk_parts.specs.Held.{RunsHold};

@@ -8,6 +8,12 @@
 //! and `worked_run` shows one.
 //!
 //! The algorithm is Lamport's, "Paxos made simple" (2001); the phases 1a to 2b are named as in his TLA+ of Paxos.
+//!
+//! What is proved. An acceptor gives None exactly where the ballot is below its promise. A proposer gives the view to
+//! propose exactly at the promise that makes a majority: the one of the highest ballot that was accepted among them, or
+//! its own; and the chosen view exactly at the acceptance that makes a majority. What does not count changes nothing,
+//! and after want of memory each is as it was (`err`). `agreement`: in every run of one instance two chosen views are
+//! equal, and a view that a proposer reports is chosen. `validity`: each view in a letter of a run was proposed in it.
 #![tactic(auto)]
 
 mod acceptor;

@@ -13,6 +13,17 @@
 //! - *Parts*, *Calls*: the invariant, part by part. *Laws*: what follows from it.
 //! - *Printed*: the order of the key's calls, which is legal in the sense of `hk_history`.
 //! - *Worked*: runs worked by hand, and each effect in some run.
+//!
+//! What is proved, of every state that some run comes to (`Reached`): the invariant is kept (`keeps_parts`); a Valid
+//! row is settled, or no update at all (`valid_is_settled`); an answered update is complete (`answered_is_complete`);
+//! of each update that was covered, in each view up to then some member passes over what lies between it and its base
+//! (`member_passes_over`); an update above a settled one, covered no earlier, has a base not below it
+//! (`base_not_below`); of two read-modify-writes of one base one at most is complete (`not_both_complete`), and between
+//! a complete one and its base nothing is (`nothing_between`); an update that leaves nothing is a read-modify-write
+//! (`only_a_read_modify_write_leaves_nothing`); where a call is served the row is not below anything complete
+//! (`served_is_fresh`); and the printed order of the key is legal (`printed_is_legal`). `tags_order_stamps` lets stamps
+//! be numbers. `worked_runs` and `each_effect_happens` show runs, so that each kind of effect is seen. That a world
+//! runs this machine, one for each key, is the law of `hk_effects`.
 #![tactic(auto)]
 
 ghost use Rattle.hk_register.specs.Laws.{KeepsParts, KeepsCalls, EffectKeepsParts, EffectKeepsCalls, ValidIsSettled, AnsweredIsComplete, MemberPassesOver, BaseNotBelow, NotBothComplete, NothingBetween, ServedIsFresh, OnlyRmwLeavesNothing};

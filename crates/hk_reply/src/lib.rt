@@ -4,6 +4,9 @@
 //! the reply that begins some bytes. It wants more exactly in front of a whole reply, and tells a bad byte exactly
 //! where no reply goes on. No reply's text begins another's, so what was printed is read again, whatever follows: that
 //! is the law `replies_stand_apart`.
+//!
+//! The clauses: `printed` of `print_reply`, which leaves the output as it was where it finds no memory (`unchanged`),
+//! and `exact` and `only` of `read_reply`.
 #![tactic(auto)]
 
 mod opening;

@@ -16,6 +16,10 @@
 //!
 //! FLAGS and BYTES are numbers of 32 bits, TAG and NUMBER of 64, all of 1 to 20 decimal digits. BYTES is at most
 //! 1,048,576. EXPTIME must be 0, since nothing expires here.
+//!
+//! What is proved. `read_request` reads exactly the lines of the grammar (`found`, `only`); every other line gets its
+//! first fault, and the length of the block that belongs to it (`exact`). `finish` gives the update exactly where the
+//! block ends as it must.
 #![tactic(auto)]
 
 mod block;

@@ -11,6 +11,15 @@
 //!
 //! The caller publishes in the order of the tickets, and in one ticket in the order of the keys. It brings together only a
 //! reader and a writer, or two readers, of the same cells.
+//!
+//! What is proved. What a reader has seen of a cell's list begins with all that it had seen before, and what it shows
+//! is the last of it (`loaded`, `shown`). A publication is added with its whole row (`publish`). Where two readers are
+//! joined the longer list stays (`join`). Where a load finds no memory for a row's data, its key, state and stamp are
+//! shown, and who asks for more is told Memory. `read_local` tells exactly what its two loads and a reading of the
+//! clock show (`told`, `local_of`).
+//!
+//! What no clause says: in which order it loads the lease, loads the row and reads the clock. A test has a clock that
+//! raises the lease when it is read.
 #![tactic(auto)]
 
 mod cell_set;

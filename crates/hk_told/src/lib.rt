@@ -7,6 +7,14 @@
 //!
 //! The caller publishes all rows that a step changed before it delivers the step's replies, draws a ticket above the last for each step, and makes a
 //! call only under a number for which no ask is kept.
+//!
+//! What is proved. What becomes of a call that waits, at each key and at every step (`waiting_calls_move`). A read
+//! leaves its node as it was (`reads_leave_nodes`). An event of a key changes that key's row alone
+//! (`key_events_change_one_row`). What is told of an ask is shown by the list of its key's cell, for all eight
+//! operations (`asks_are_shown`, `told_is_shown`), and suits it. An answer is told to its ask, or the ask is dropped
+//! exactly where nobody waits for it (`Asks::deliver`, `answered`). A look takes out the ask that was told something,
+//! and nothing else (`TakesOut`). `keep` that finds no memory changes nothing (`err`). That code keeps to it is proved
+//! of the lock (`hk_locked`), and of posts and desks (`hk_worker`).
 #![tactic(auto)]
 
 mod ask;

@@ -7,6 +7,15 @@
 //!
 //! The caller looks with a reader of the cells of the shard that the watched keys belong to, and looks often enough for what it wants to
 //! be told.
+//!
+//! What is proved. `look` fires once for each stamp that it sees above the last one, of a Valid row of the key that the
+//! reader has seen, and then the watcher was told the key, the stamp and the content that the cell showed: a notice
+//! without the watcher's own answer can't be given (`looks`). It touches no other watch (`others`), loads one cell at
+//! most (`further`), and leaves the watch as it was for want of memory (`err`). Over every list of calls each kept
+//! watch's stamps rise (`runs`, `rising`).
+//!
+//! What no clause says: that anyone looks, and how often a watcher is called beside that. One that answers want of
+//! memory is told the same stamp by the next look.
 #![tactic(auto)]
 
 mod look;

@@ -6,6 +6,13 @@
 //! here before the line is written.
 //!
 //! The caller gives a runtime value that can start a thread. Where none can be made, the writes come first and then the looks.
+//!
+//! What is proved. Done comes only where the line of its words was written (`done`), WriteFault only where the sink's
+//! faults rose (`write_fault`), and whatever comes, a front of that line was written (`front`). Each write is one step
+//! of the shard (`KeyWriter::write`).
+//!
+//! What no clause says, and no test shows: that the threads write and look at all, since the line is a function of the
+//! words. Were the stamps that were told not those of the writes, the answer would be Memory, and no line.
 #![tactic(auto)]
 
 mod command;

@@ -6,6 +6,11 @@
 //! one that is taken again. Clocks of live actors run apart by one part in ten and the skew at most (`hk_clocks`). A group with
 //! managers agrees on its views and grants its leases by itself; in one without, they are events. What each event does is a
 //! definition, `specs/Steps.antt`. The caller owes times up to `MAX_TIME`, a header within its limits, and nothing else.
+//!
+//! What is proved. `step` makes exactly the step of `world_step`, or tells exactly its refusal, or finds no memory;
+//! after the last two the world is as it was (`IsStepOf`). What it shows has the node that acted, with the report of
+//! its step. Every world is sound (`worlds_stay_sound`), and worlds worked by hand are computed from the definitions
+//! (`worked_worlds`).
 #![tactic(auto)]
 
 mod fault;
