@@ -1,4 +1,4 @@
 pub mod Parts
 pub mod Hellos
 pub mod Macs
-pub mod Welcomes
+pub mod Greetings

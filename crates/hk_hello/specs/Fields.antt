@@ -1,4 +1,4 @@
--- How a hello is read from the front of some bytes. What comes of it is said by the hellos bytes: these definitions say
+-- How a hello is read from the front of some bytes. What comes of it is said by the hello's bytes: these definitions say
 -- when there is none.
 use Rattle.std.specs.Prelude.{ℕ, List, ◌==◌, if◌then◌else◌, Result, Ok, Err}
 use Rattle.std.specs.Int.{w16, w32, w64}

@@ -1,5 +1,5 @@
 -- HMAC with SHA-256, after RFC 2104: a digest of a message that only who knows the key can make. And the digest of a
--- groups hosts.
+-- group's hosts.
 use Rattle.std.specs.Prelude.{ℕ, ◌-◌, List, [], ◌∷◌, ◌++◌, length, take, map, replicate, nat_lt, bit_xor, if◌then◌else◌}
 use Rattle.std.specs.List.{flat_map}
 use Rattle.sha2.specs.Sha256.{sha256}

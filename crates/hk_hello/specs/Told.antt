@@ -21,7 +21,7 @@ abbrev pub is_challenge_front : List ℕ → Bool
 is_challenge_front bytes = bytes_eq (take 4 bytes) (take (length bytes) HEADER) && nat_lt (length bytes) (4 + CHALLENGE_LEN)
 
 abbrev pub IsChallengeRead : Result (Challenge × ℕ) HelloFault → List ℕ → Type 0
-IsChallengeRead (Ok x) bytes = (bytes ≡ challenge_bytes x.0 ++ drop x.1 bytes) × (x.1 ≡ 4 + CHALLENGE_LEN)
+IsChallengeRead (Ok x) bytes = (length x.0.0 ≡ CHALLENGE_LEN) × (bytes ≡ challenge_bytes x.0 ++ drop x.1 bytes) × (x.1 ≡ 4 + CHALLENGE_LEN)
 IsChallengeRead (Err Memory) bytes = true ≡ false
 IsChallengeRead (Err NeedMore) bytes = is_challenge_front bytes ≡ true
 IsChallengeRead (Err Malformed) bytes = bytes_eq (take 4 bytes) (take (length bytes) HEADER) ≡ false
@@ -45,7 +45,7 @@ IsHelloRead (Err Memory) bytes = ⊤
 IsHelloRead (Err NeedMore) bytes = is_short bytes ≡ true
 IsHelloRead (Err Malformed) bytes = (is_short bytes ≡ false) × ((s : SignedHello) (rest : List ℕ) → IsSigned s → bytes ≢ signed_bytes s ++ rest)
 
--- what stands behind the length: a hellos fields and its proof and nothing else
+-- what stands behind the length: a hello's fields and its proof and nothing else
 abbrev pub body_bytes : SignedHello → List ℕ
 body_bytes s = fields_bytes s.hello ++ s.proof.0
 

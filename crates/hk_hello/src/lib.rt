@@ -7,8 +7,9 @@
 //! connection: `judge` has the reasons, of which `specs/Judging.antt` is the table.
 //!
 //! Each reader gives what begins some bytes, or that more of them are needed, or that none begins them, whatever
-//! follows (`specs/Told.antt`). The laws: a hello's bytes are read as that hello (`hellos_are_read_again`), and a front
-//! of them as nothing yet (`fronts_are_unfinished`). A proof is HMAC with SHA-256, as `specs/Mac.antt` has it.
+//! follows (`specs/Told.antt`). The laws: what was printed is read as what it was (`challenges_are_read_again`,
+//! `hellos_are_read_again`, `answers_are_read_again`), and a front of a hello as nothing yet (`fronts_are_unfinished`).
+//! A proof is HMAC with SHA-256, as `specs/Mac.antt` has it.
 //!
 //! The caller draws challenges and tickets, keeps the secret (16 to 128 bytes; any length is taken here), ends a
 //! connection whose hello does not come in time, and looks up whether the hello's actors are here, bound and free.
@@ -27,7 +28,7 @@ mod reading;
 mod refusal;
 mod values;
 
-ghost use Rattle.hk_hello.specs.Laws.{HellosAreReadAgain, FrontsAreUnfinished};
+ghost use Rattle.hk_hello.specs.Laws.{ChallengesAreReadAgain, HellosAreReadAgain, FrontsAreUnfinished, AnswersAreReadAgain};
 
 pub use answer::{Answer, print_answer, read_answer};
 pub use challenge::{CHALLENGE_LEN, Challenge, print_challenge, read_challenge};
@@ -40,6 +41,11 @@ pub use printing::{print_hello, sign, welcome};
 pub use reading::{MAX_LENGTH, MIN_LENGTH, read_hello};
 pub use refusal::Refusal;
 
+/// A challenge's bytes are read as that challenge, whatever follows.
+pub fn challenges_are_read_again()
+    ensures { ChallengesAreReadAgain }
+{}
+
 /// A hello's bytes are read as that hello, whatever follows.
 pub fn hellos_are_read_again()
     ensures { HellosAreReadAgain }
@@ -48,4 +54,9 @@ pub fn hellos_are_read_again()
 /// A front of a hello's bytes is read as nothing yet.
 pub fn fronts_are_unfinished()
     ensures { FrontsAreUnfinished }
+{}
+
+/// An answer's bytes are read as that answer, whatever follows.
+pub fn answers_are_read_again()
+    ensures { AnswersAreReadAgain }
 {}

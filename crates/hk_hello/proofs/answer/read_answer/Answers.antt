@@ -1,5 +1,5 @@
 use Rattle.std.proofs.Common.{rules, ◌≡◌, ◌+◌, ◌∷◌, length, take}
-use Rattle.hk_hello.proofs.Welcomes.{welcome_is}
+use Rattle.hk_hello.proofs.Greetings.{welcome_is}
 use Rattle.hk_hello.proofs.answer.read_answer.Goals as goal
 
 pub returns-in-Some-split_first_chunk : goal.returns-in-Some-split_first_chunk
