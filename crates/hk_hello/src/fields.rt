@@ -1,13 +1,12 @@
 //! The fields of a hello, each read from the front of some bytes.
 
 ghost use Rattle.std.specs.Prelude.{◌≡◌, IfOk};
-ghost use Rattle.std.specs.List.{list_all};
 ghost use Rattle.hk_fields.specs.Fields.{Gives};
-ghost use Rattle.hk_hello.specs.Hellos.{is_name_byte};
 ghost use Rattle.hk_hello.specs.Fields.{purpose_at, party_of, party_at, hosts_at, group_at, parties_at, home_at, terms_at, hello_at, proof_at, signed_at};
 
 use crate::hello::{GroupName, Hello, HostsDigest, Party, Purpose, SignedHello};
 use crate::mac::Proof;
+use crate::ranges::is_name;
 use hk_base::{Actor, Memory, NodeId};
 use hk_fields::{
     FieldFault, Ticket, byte_within, number16, number16_within, number32, number64, text, ticket,
@@ -57,18 +56,6 @@ fn hosts(bytes: &[u8]) -> Result<(HostsDigest, &[u8]), FieldFault>
         Some((hosts, rest)) => Ok((HostsDigest(*hosts), rest)),
         None => Err(FieldFault::Malformed),
     }
-}
-
-fn is_name_byte(byte: u8) -> bool
-    ensures { result ≡ is_name_byte byte }
-{
-    byte.is_ascii_lowercase() || byte.is_ascii_digit() || byte == b'-'
-}
-
-fn is_name(bytes: &[u8]) -> bool
-    ensures { result ≡ list_all is_name_byte bytes.now }
-{
-    bytes.iter().all(|byte| is_name_byte(*byte))
 }
 
 fn owned(alloc: Global, bytes: &[u8]) -> Result<GroupName, Memory>

@@ -24,6 +24,7 @@ mod hosts;
 mod judging;
 mod mac;
 mod printing;
+mod ranges;
 mod reading;
 mod refusal;
 mod values;
@@ -38,6 +39,7 @@ pub use hosts::hosts_digest;
 pub use judging::{JudgingFault, LookedUp, Ours, judge};
 pub use mac::{PROOF_LEN, Proof, hmac};
 pub use printing::{print_hello, sign, welcome};
+pub use ranges::{is_group_name, is_in_range};
 pub use reading::{MAX_LENGTH, MIN_LENGTH, read_hello};
 pub use refusal::Refusal;
 

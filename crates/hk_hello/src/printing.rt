@@ -105,7 +105,8 @@ pub fn sign(
     hello: Hello,
 ) -> Result<SignedHello, Memory>
     requires { IsHelloInRange hello }
-    ensures { IfOk result (λ signed. (signed.hello ≡ hello) × (signed.proof.0 ≡ proof_of secret.now challenge hello)) }
+    ensures range { IfOk result (λ signed. IsHelloInRange signed.hello) }
+    ensures signed { IfOk result (λ signed. (signed.hello ≡ hello) × (signed.proof.0 ≡ proof_of secret.now challenge hello)) }
 {
     let proof = proof_of(alloc, secret, challenge, &hello)?;
     Ok(SignedHello { hello, proof })
