@@ -1,0 +1,6 @@
+mod Parts
+mod Boards
+mod Messages
+mod Framing
+mod Sizes
+mod ReadAgain

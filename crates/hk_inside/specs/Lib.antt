@@ -1,0 +1,5 @@
+pub mod Parts
+pub mod Messages
+pub mod Reading
+pub mod Told
+pub mod Laws
