@@ -7,7 +7,7 @@ use Rattle.hk_fields.proofs.Exact.{IsBytes}
 use Rattle.hk_log.specs.declared.checks.TheConstants.{HEADER}
 use Rattle.hk_log.specs.declared.entry.Entry.{Entry}
 use Rattle.hk_log.specs.declared.scan.NextRecord.{NextRecord}
-use Rattle.hk_log.specs.Records.{check_of, framed, body_bytes, IsRecord, AreRecords, text_behind, last_check, log_text}
+use Rattle.hk_log.specs.Records.{check_of, framed, body_bytes, IsRecord, AreRecords, text_behind, last_check, log_text, starts_behind, record_starts}
 use Rattle.hk_log.specs.Logs.{told_length, stands, Stand, IsForeign, IsNextRecord}
 use Rattle.hk_log.proofs.Bodies.{Are}
 use Rattle.hk_log.proofs.Framing.{length_framed, told_body, right}
@@ -27,6 +27,22 @@ check_more before (x ∷ records) r = check_more (check_of before (body_bytes x)
 pub log_more : (records : List (List Entry)) (r : List Entry) → log_text (records ++ r ∷ []) ≡ log_text records ++ framed (last_check HEADER records) (body_bytes r)
 log_more records r = ap (λ (t : List ℕ). HEADER ++ t) (text_more HEADER records r) ∙ sym (append_assoc HEADER (text_behind HEADER records) (framed (last_check HEADER records) (body_bytes r)))
 
+starts_snoc : (place : ℕ) (before : List ℕ) (records : List (List Entry)) (r : List Entry) → starts_behind place before (records ++ r ∷ []) ≡ starts_behind place before records ++ (place + length (text_behind before records)) ∷ []
+starts_snoc place before [] r =
+    let e : place ≡ place + length {A = ℕ} [] = omega arith in
+    ap (λ (n : ℕ). n ∷ []) e
+starts_snoc place before (x ∷ records) r =
+    let frame = framed before (body_bytes x) in
+    let text = text_behind (check_of before (body_bytes x)) records in
+    let e : (place + length frame) + length text ≡ place + length (frame ++ text) = omega (arith, length-append frame text) in
+    ap (λ (t : List ℕ). place ∷ t) (starts_snoc (place + length frame) (check_of before (body_bytes x)) records r ∙ ap (λ (n : ℕ). starts_behind (place + length frame) (check_of before (body_bytes x)) records ++ n ∷ []) e)
+
+-- one record more begins where those before it end
+starts_more : (records : List (List Entry)) (r : List Entry) → record_starts (records ++ r ∷ []) ≡ record_starts records ++ length (log_text records) ∷ []
+starts_more records r =
+    let e : length HEADER + length (text_behind HEADER records) ≡ length (log_text records) = sym (length-append HEADER (text_behind HEADER records)) in
+    starts_snoc (length HEADER) HEADER records r ∙ ap (λ (n : ℕ). record_starts records ++ n ∷ []) e
+
 take_both : (i j : ℕ) (bytes : List ℕ) → i + j ≤ length bytes → take (i + j) bytes ≡ take i bytes ++ take j (drop i bytes)
 take_both i j bytes le =
     let parts : bytes ≡ (take i bytes ++ take j (drop i bytes)) ++ drop j (drop i bytes) = sym (append_assoc (take i bytes) (take j (drop i bytes)) (drop j (drop i bytes)) ∙ ap (λ (x : List ℕ). take i bytes ++ x) (take-append-drop j (drop i bytes)) ∙ take-append-drop i bytes) in
@@ -34,24 +50,26 @@ take_both i j bytes le =
     ap (take (i + j)) parts ∙ take_at (take i bytes ++ take j (drop i bytes)) (drop j (drop i bytes)) (i + j) len
 
 -- what a loop over the records has come to
-pub record Scanned (records : List (List Entry)) (check : List ℕ) (place : ℕ) (file : List ℕ) : Type 0 where
+pub record Scanned (records : List (List Entry)) (begins : List ℕ) (check : List ℕ) (place : ℕ) (file : List ℕ) : Type 0 where
   pub stand : Stand records place file
+  pub starts : begins ≡ record_starts records
   pub is : check ≡ last_check HEADER records
   pub low : 8 ≤ place
   pub high : place ≤ length file
 
-pub first : (file : List ℕ) → 8 ≤ length file → bytes_eq HEADER (take 8 file) ≡ true → Scanned [] HEADER 8 file
+pub first : (file : List ℕ) → 8 ≤ length file → bytes_eq HEADER (take 8 file) ≡ true → Scanned [] [] HEADER 8 file
 first file long h = record {
   stand = record { are = tt; text = sym ((bytes_eq-Decides HEADER (take 8 file)).0 h) ∙ sym (append-nil HEADER); ends = refl };
+  starts = refl;
   is = refl;
   low = omega arith;
   high = long;
 }
 
 -- one record more, and the file is not used up by less
-pub more : (records : List (List Entry)) (check : List ℕ) (place : ℕ) (file : List ℕ) (next : NextRecord) → Scanned records check place file → IsNextRecord next check (drop place file)
-    → Scanned (records ++ next.entries ∷ []) next.check.0 (place + next.len) file × (1 ≤ next.len)
-more records check place file next s n =
+pub more : (records : List (List Entry)) (begins : List ℕ) (check : List ℕ) (place : ℕ) (file : List ℕ) (next : NextRecord) → Scanned records begins check place file → IsNextRecord next check (drop place file)
+    → Scanned (records ++ next.entries ∷ []) (begins ++ place ∷ []) next.check.0 (place + next.len) file × (1 ≤ next.len)
+more records begins check place file next s n =
     let check' = last_check HEADER records in
     let frame = framed check (body_bytes next.entries) in
     let len : length (framed check (body_bytes next.entries)) ≡ next.len = sym n.len in
@@ -61,6 +79,7 @@ more records check place file next s n =
     let text : take (place + next.len) file ≡ log_text (records ++ next.entries ∷ []) = take_both place next.len file long ∙ ap (λ (x : List ℕ). x ++ take next.len (drop place file)) s.stand.text ∙ ap (λ (x : List ℕ). log_text records ++ x) own ∙ ap (λ (x : List ℕ). log_text records ++ framed x (body_bytes next.entries)) s.is ∙ sym (log_more records next.entries) in (
       record {
         stand = record { are = records_snoc records next.entries s.stand.are n.is; text = text; ends = omega (arith, ap length text, length-take (place + next.len) file, long) };
+        starts = ap (λ (xs : List ℕ). xs ++ place ∷ []) s.starts ∙ ap (λ (m : ℕ). record_starts records ++ m ∷ []) s.stand.ends ∙ sym (starts_more records next.entries);
         is = n.check ∙ ap (λ (x : List ℕ). check_of x (body_bytes next.entries)) s.is ∙ sym (check_more HEADER records next.entries);
         low = omega (arith, s.low);
         high = long;

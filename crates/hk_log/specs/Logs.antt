@@ -8,7 +8,7 @@ use Rattle.hk_log.specs.declared.fault.LogFault.{LogFault}
 use Rattle.hk_log.specs.declared.fault.LogFault.TheVariants.{Memory, Damaged}
 use Rattle.hk_log.specs.declared.scan.Log.{Log}
 use Rattle.hk_log.specs.declared.scan.NextRecord.{NextRecord}
-use Rattle.hk_log.specs.Records.{check_of, framed, body_bytes, IsRecord, AreRecords, last_check, log_text}
+use Rattle.hk_log.specs.Records.{check_of, framed, body_bytes, IsRecord, AreRecords, last_check, log_text, record_starts}
 
 -- the length of a body, as the bytes tell it
 abbrev pub told_length : List ℕ → ℕ
@@ -72,6 +72,7 @@ has_no_header file = if is_blank file then true else nat_lt (length file) 8 && b
 -- what a log is where its header stands: records, and behind them what is torn
 pub record IsRead (log : Log) (file : List ℕ) : Type 0 where
   pub stand : Stand log.records log.len file
+  pub starts : log.starts.items ≡ record_starts log.records
   pub check : log.check.0 ≡ last_check HEADER log.records
   pub ends : stands log.check.0 (drop log.len file) ≡ false
   pub torn : is_torn log.len file ≡ true
@@ -80,6 +81,7 @@ pub record IsRead (log : Log) (file : List ℕ) : Type 0 where
 pub record IsNone (log : Log) (file : List ℕ) : Type 0 where
   pub no_header : has_no_header file ≡ true
   pub records : log.records ≡ []
+  pub starts : log.starts.items ≡ []
   pub len : log.len ≡ 0
   pub check : log.check.0 ≡ HEADER
 

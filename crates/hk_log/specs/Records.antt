@@ -1,5 +1,5 @@
 -- Records and logs as bytes.
-use Rattle.std.specs.Prelude.{ℕ, ◌≤◌, List, [], ◌∷◌, ◌++◌, length, take}
+use Rattle.std.specs.Prelude.{ℕ, ◌+◌, ◌≤◌, List, [], ◌∷◌, ◌++◌, length, take}
 use Rattle.std.specs.Int.{w32, to_be_bytes}
 use Rattle.std.specs.List.{flat_map, AllByRecursion}
 use Rattle.sha2.specs.Sha256.{sha256}
@@ -37,6 +37,15 @@ abbrev pub last_check : List ℕ → List (List Entry) → List ℕ
 last_check before [] = before
 last_check before (r ∷ records) = last_check (check_of before (body_bytes r)) records
 
+-- where each of them begins, in a file in which the first one begins at a place
+abbrev pub starts_behind : ℕ → List ℕ → List (List Entry) → List ℕ
+starts_behind place before [] = []
+starts_behind place before (r ∷ records) = place ∷ starts_behind (place + length (framed before (body_bytes r))) (check_of before (body_bytes r)) records
+
 -- a log: its header, which is the check before the first record too, and the records
 abbrev pub log_text : List (List Entry) → List ℕ
 log_text records = HEADER ++ text_behind HEADER records
+
+-- where its records begin, counted from 0 at its first byte
+abbrev pub record_starts : List (List Entry) → List ℕ
+record_starts records = starts_behind (length HEADER) HEADER records

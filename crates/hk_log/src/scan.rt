@@ -16,6 +16,8 @@ use std::alloc::Global;
 pub struct Log {
     /// The records, the first one first.
     pub records: Records,
+    /// Where each of them begins in the file, in bytes.
+    pub starts: Vec<usize>,
     /// How many bytes of the file they take, with the header. What stands behind is torn, and is to be cut off before
     /// anything is appended. 0 where the header is still to be written.
     pub len: usize,
@@ -88,6 +90,7 @@ fn scan(alloc: Global, file: &[u8]) -> Result<Log, LogFault>
     ensures { IsScanned result file.now }
 {
     let mut records = Records::new(alloc);
+    let mut starts = Vec::new(alloc);
     let mut check = Check(HEADER);
     let mut place = 8;
     loop {
@@ -103,12 +106,16 @@ fn scan(alloc: Global, file: &[u8]) -> Result<Log, LogFault>
         if records.push(entries).is_err() {
             return Err(LogFault::Memory);
         }
+        if starts.push(place).is_err() {
+            return Err(LogFault::Memory);
+        }
         place += len;
         check = own;
     }
     if is_torn(place, file) {
         return Ok(Log {
             records,
+            starts,
             len: place,
             check,
         });
@@ -116,14 +123,15 @@ fn scan(alloc: Global, file: &[u8]) -> Result<Log, LogFault>
     Err(LogFault::Damaged { at: place })
 }
 
-/// Reads a log from the whole of its file, however a machine that stopped left it: the records that stand, and where
-/// they end; or the place of the first byte that is damaged. Nothing is written.
+/// Reads a log from the whole of its file, however a machine that stopped left it: the records that stand, where each
+/// begins, and where they end; or the place of the first byte that is damaged. Nothing is written.
 pub fn read_log(alloc: Global, file: &[u8]) -> Result<Log, LogFault>
     ensures { IsLogRead result file.now }
 {
     if has_no_header(file) {
         return Ok(Log {
             records: Records::new(alloc),
+            starts: Vec::new(alloc),
             len: 0,
             check: Check(HEADER),
         });

@@ -187,6 +187,7 @@ fn a_log_is_read_and_printed(rt: HostRuntime) {
                 ["founded", "open", "|", "add", "|", "prepare", "|"].as_slice()
             );
             assert_eq!(rt; log.len, file.len());
+            assert_eq!(rt; log.starts.as_slice(), &PLACES[..3]);
             assert_eq!(rt; Some(log.check.0.as_slice()), file.as_slice().get(127..));
         }
         Err(fault) => panic!(rt; "{fault:?}"),
