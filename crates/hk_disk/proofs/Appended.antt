@@ -4,7 +4,7 @@ use Rattle.std.specs.Prelude.{OnOk}
 use Rattle.hk_log.specs.declared.checks.Check.{Check}
 use Rattle.hk_log.specs.declared.checks.TheConstants.{HEADER}
 use Rattle.hk_log.specs.declared.entry.Entry.{Entry}
-use Rattle.hk_log.specs.Records.{check_of, framed, body_bytes, IsRecord, last_check, log_text}
+use Rattle.hk_log.specs.Records.{check_of, framed, body_bytes, IsRecord, log_text}
 use Rattle.hk_log.proofs.Standing.{records_snoc, log_more, check_more}
 use Rattle.hk_disk.specs.Writing.{IsSureLog}
 

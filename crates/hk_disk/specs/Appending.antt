@@ -1,8 +1,8 @@
 -- When a writer has ended, and why.
-use Rattle.std.specs.Prelude.{◌≡◌, ℕ, ◌≤◌, Bool, true, false, Result, Ok, Err, ⊤, ◌⊎◌}
+use Rattle.std.specs.Prelude.{◌≡◌, ℕ, Bool, true, false, Result, Err, ⊤, ◌⊎◌}
 use Rattle.hk_outside.specs.Causes.{Rose}
 use Rattle.hk_disk.specs.declared.writer.AppendFault.{AppendFault}
-use Rattle.hk_disk.specs.declared.writer.AppendFault.TheVariants.{Memory, TooLong, Ended}
+use Rattle.hk_disk.specs.declared.writer.AppendFault.TheVariants.{Ended}
 
 abbrev pub is_ended : {A : Type 0} → Result A AppendFault → Bool
 is_ended (Err Ended) = true

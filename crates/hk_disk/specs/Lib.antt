@@ -1,3 +1,4 @@
 pub mod Fakes
 pub mod Writing
 pub mod Appending
+pub mod Calls

@@ -4,6 +4,7 @@ ghost use Rattle.std.specs.Prelude.{◌≡◌, ◌++◌, ◌∷◌, ◌≤◌, [
 ghost use Rattle.hk_outside.specs.Causes.{HasCause};
 ghost use Rattle.hk_log.specs.declared.entry.Entry.{Entry};
 ghost use Rattle.hk_log.specs.Entries.{IsEntryInRange};
+ghost use Rattle.hk_log.specs.Records.{record_starts};
 ghost use Rattle.hk_disk.specs.declared.writer.AppendFault.TheVariants.{Ended};
 ghost use Rattle.hk_disk.specs.Writing.{IsSureLog, settled};
 ghost use Rattle.hk_disk.specs.Appending.{is_ended, Explains};
@@ -58,6 +59,8 @@ pub struct LogWriter<F: LogFile + Drop> {
 pub struct Recovered<F: LogFile + Drop> {
     pub writer: LogWriter<F>,
     pub records: Records,
+    /// Where each record begins in the file, in bytes.
+    pub starts: Vec<usize>,
 }
 
 // Appends bytes, and makes sure of all that the file has.
@@ -117,25 +120,35 @@ impl<F: LogFile + Drop> LogWriter<F> {
 }
 
 fn take_up<F: LogFile + Drop>(file: F, log: Log) -> Result<Recovered<F>, RecoverFault>
-    ensures { IfOk result (λ r. ((bytes : List ℕ) → F.holds file bytes → F.holds r.writer.file (settled log.len bytes) × F.is_sure r.writer.file (settled log.len bytes)) × (r.writer.check ≡ log.check) × (r.writer.ended ≡ false) × (r.records ≡ log.records)) }
+    ensures { IfOk result (λ r. ((bytes : List ℕ) → F.holds file bytes → F.holds r.writer.file (settled log.len bytes) × F.is_sure r.writer.file (settled log.len bytes)) × (r.writer.check ≡ log.check) × (r.writer.ended ≡ false) × (r.records ≡ log.records) × (r.starts ≡ log.starts)) }
 {
     let mut file = file;
     if settle(&mut file, log.len).is_err() {
         return Err(RecoverFault::Failed);
     }
-    let Log { records, check, .. } = log;
+    let Log {
+        records,
+        starts,
+        check,
+        ..
+    } = log;
     let writer = LogWriter {
         file,
         check,
         ended: false,
     };
-    Ok(Recovered { writer, records })
+    Ok(Recovered {
+        writer,
+        records,
+        starts,
+    })
 }
 
 /// Takes up the log of a file: reads it, cuts off what is torn, and makes sure of what is left, since what was read may
 /// never have reached the disk. A file without a log gets the header of one. Where it is damaged nothing is written.
 pub fn recover<F: LogFile + Drop>(alloc: Global, file: F) -> Result<Recovered<F>, RecoverFault>
-    ensures { IfOk result (λ r. IsSureLog F.holds F.is_sure r.writer.file r.writer.check.0 r.records × (r.writer.ended ≡ false)) }
+    ensures sure { IfOk result (λ r. IsSureLog F.holds F.is_sure r.writer.file r.writer.check.0 r.records × (r.writer.ended ≡ false)) }
+    ensures starts { IfOk result (λ r. r.starts.items ≡ record_starts r.records) }
 {
     let mut file = file;
     let Ok(bytes) = file.read(alloc) else {
