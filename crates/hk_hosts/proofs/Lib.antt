@@ -1,0 +1,4 @@
+mod Splitting
+mod Colons
+mod Naming
+mod Reading

@@ -1,0 +1,124 @@
+//! Connections between hosts.
+
+ghost use Rattle.std.specs.Prelude.{◌≡◌, None, Some, [], refl, IfOk};
+ghost use Rattle.std.specs.List.{concat};
+
+use hk_base::Memory;
+use hk_outside::{Connection, Failed, MemoryConnection, ReaderSource, Sink, Source, WriterSink};
+use std::alloc::Global;
+use std::io::{self, Read, Write};
+use std::net::TcpStream;
+use std::sync::Arc;
+use std::time::Duration;
+
+/// A connection whose calls can be told how long they may wait.
+pub trait Patient: Connection {
+    /// From now on a read that has waited for so many milliseconds fails, and so does a write; 0 is for as long as it takes.
+    /// Where the machine can't be told, a call waits as long as before.
+    fn wait_at_most(&self, read: u64, write: u64);
+}
+
+impl Patient for MemoryConnection {
+    fn wait_at_most(&self, _read: u64, _write: u64) {}
+}
+
+// One of the two ends that a connection's reader and writer share.
+#[derive(Drop)]
+struct End(Arc<TcpStream>);
+
+impl Read for End {
+    fn read(&mut self, room: &mut [u8]) -> io::Result<usize> {
+        let mut stream = &*self.0;
+        stream.read(room)
+    }
+}
+
+impl Write for End {
+    fn write(&mut self, piece: &[u8]) -> io::Result<usize> {
+        let mut stream = &*self.0;
+        stream.write(piece)
+    }
+
+    fn flush(&mut self) -> io::Result<()> {
+        Ok(())
+    }
+}
+
+/// A connection over TCP. It records the bytes that came and those that were taken, and can't tell what is left.
+#[derive(Drop)]
+pub struct HostConnection {
+    stream: Arc<TcpStream>,
+    source: ReaderSource<End>,
+    sink: WriterSink<End>,
+}
+
+impl HostConnection {
+    /// A connection over a stream. It has recorded nothing, and has no faults.
+    pub fn new(alloc: Global, stream: TcpStream) -> Result<HostConnection, Memory>
+        ensures given { IfOk result (λ c. c.source.given.pieces ≡ []) }
+        ensures taken { IfOk result (λ c. c.sink.taken.pieces ≡ []) }
+        ensures faults { IfOk result (λ c. (c.source.faults ≡ 0) × (c.sink.faults ≡ 0)) }
+    {
+        // what is written leaves at once; where that can't be had, the connection is slower
+        let _ = stream.set_nodelay(true);
+        let stream = Arc::new(alloc, stream)?;
+        let source = ReaderSource::new(End(stream.clone()?));
+        let sink = WriterSink::new(End(stream.clone()?));
+        Ok(HostConnection {
+            stream,
+            source,
+            sink,
+        })
+    }
+}
+
+impl Source for HostConnection {
+    ghost left = { λ c. None };
+
+    ghost given = { λ c. Some c.source.given.pieces };
+
+    ghost faults = { λ c. c.source.faults };
+
+    ghost beside = { λ c. (Some (concat c.sink.taken.pieces), c.sink.faults) };
+
+    fn read(&mut self, room: &mut [u8]) -> Result<usize, Failed> {
+        self.source.read(room)
+    }
+}
+
+impl Sink for HostConnection {
+    ghost held = { λ c. Some (concat c.sink.taken.pieces) };
+
+    ghost given = { λ c. Some c.source.given.pieces };
+
+    ghost faults = { λ c. c.sink.faults };
+
+    ghost beside = { λ c. (None, c.source.faults) };
+
+    fn write(&mut self, piece: &[u8]) -> Result<usize, Failed> {
+        self.sink.write(piece)
+    }
+}
+
+impl Connection for HostConnection {
+    ghost read_keeps = { λ c. refl };
+
+    ghost write_keeps = { λ c. refl };
+
+    ghost one_record = { λ c. refl };
+}
+
+// How long a call may wait.
+fn limit_of(millis: u64) -> Option<Duration> {
+    if millis == 0 {
+        return None;
+    }
+    Some(Duration::from_millis(millis))
+}
+
+impl Patient for HostConnection {
+    fn wait_at_most(&self, read: u64, write: u64) {
+        let _ = self.stream.set_read_timeout(limit_of(read));
+        let _ = self.stream.set_write_timeout(limit_of(write));
+    }
+}
