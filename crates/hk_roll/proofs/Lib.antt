@@ -1,0 +1,5 @@
+mod Lookups
+mod Rule
+mod Holder
+mod Founding
+mod Runs
