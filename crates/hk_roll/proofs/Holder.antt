@@ -46,13 +46,13 @@ counted_le f g (suc n) imp = at (f 0) (g 0) refl refl (counted_le (λ m. f (suc 
     at false true p q more = omega (arith, more)
     at false false p q more = omega (arith, more)
 
-record Meets (f g : ℕ → Bool) (n : ℕ) : Type 0 where
+pub record Meets (f g : ℕ → Bool) (n : ℕ) : Type 0 where
   pub place : ℕ
   pub below : place < n
   pub one : f place ≡ true
   pub other : g place ≡ true
 
-meet : (f g : ℕ → Bool) (n : ℕ) → n < counted f n + counted g n → Meets f g n
+pub meet : (f g : ℕ → Bool) (n : ℕ) → n < counted f n + counted g n → Meets f g n
 meet f g zero more = absurd (omega (arith, more))
 meet f g (suc n) more = at (f 0) (g 0) refl refl (meet (λ m. f (suc m)) (λ m. g (suc m)) n) more
   where
@@ -67,11 +67,11 @@ meet f g (suc n) more = at (f 0) (g 0) refl refl (meet (λ m. f (suc m)) (λ m. 
     at false false p q later more = behind (later (omega (arith, more)))
 
 -- two majorities have more than all
-halves : (n a b : ℕ) → n / 2 < a → n / 2 < b → n < a + b
+pub halves : (n a b : ℕ) → n / 2 < a → n / 2 < b → n < a + b
 halves n a b p q = omega (arith, p, q)
 
 -- the boards that name a ticket, by the places of their managers
-boards_counted : (t : Ticket) (boards : List (Option Ticket)) → counted (λ p. names t (flat (slice_get boards p))) (length boards) ≡ count_by (names t) boards
+pub boards_counted : (t : Ticket) (boards : List (Option Ticket)) → counted (λ p. names t (flat (slice_get boards p))) (length boards) ≡ count_by (names t) boards
 boards_counted t [] = refl
 boards_counted t (x ∷ xs) = ap (λ (n : ℕ). cond (names t x) 1 0 + n) (boards_counted t xs) ∙ sym (sum_by-cons (λ y. cond (names t y) 1 0) x xs)
 
@@ -108,7 +108,7 @@ first_last (x ∷ xs) b e = at (is_at (by_actor b.actor) x.actor) e (first_last 
     at true e more = absurd cc
     at false e more = more e
 
-find_passes : (test : Option Ticket → Bool) (xs : List (Option Ticket)) (x : Option Ticket) → find test xs ≡ Some x → test x ≡ true
+pub find_passes : (test : Option Ticket → Bool) (xs : List (Option Ticket)) (x : Option Ticket) → find test xs ≡ Some x → test x ≡ true
 find_passes test [] x e = absurd cc
 find_passes test (y ∷ xs) x e = at (test y) refl e (find_passes test xs x)
   where
@@ -116,14 +116,14 @@ find_passes test (y ∷ xs) x e = at (test y) refl e (find_passes test xs x)
     at true is e later = let same : y ≡ x = cc in subst (λ (z : Option Ticket). test z ≡ true) same is
     at false is e later = later e
 
-named_by_most : (boards : List (Option Ticket)) (t : Ticket) → named boards ≡ Some t → is_by_most boards (Some t) ≡ true
+pub named_by_most : (boards : List (Option Ticket)) (t : Ticket) → named boards ≡ Some t → is_by_most boards (Some t) ≡ true
 named_by_most boards t e = at (find (is_by_most boards) boards) refl e
   where
     at : (x : Option (Option Ticket)) → find (is_by_most boards) boards ≡ x → flat x ≡ Some t → is_by_most boards (Some t) ≡ true
     at None is e = absurd cc
     at (Some y) is e = subst (λ (z : Option Ticket). is_by_most boards z ≡ true) e (find_passes (is_by_most boards) boards y is)
 
-flat_is : (x : Option (Option Ticket)) (t : Ticket) → flat x ≡ Some t → x ≡ Some (Some t)
+pub flat_is : (x : Option (Option Ticket)) (t : Ticket) → flat x ≡ Some t → x ≡ Some (Some t)
 flat_is None t e = absurd cc
 flat_is (Some y) t e = ap Some e
 

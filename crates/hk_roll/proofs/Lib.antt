@@ -2,4 +2,5 @@ mod Lookups
 mod Rule
 mod Holder
 mod Founding
+mod MostTold
 mod Runs

@@ -1,5 +1,6 @@
 -- What holds of every step of a manager, and of every run of a group.
-use Rattle.std.specs.Prelude.{◌≡◌, ◌<◌, ◌⊎◌, ℕ, true, List, [], length, slice_get, Option, None, Some}
+use Rattle.std.specs.Prelude.{◌≡◌, ◌<◌, ◌/◌, ◌⊎◌, ◌↔◌, ℕ, true, List, [], length, slice_get, Option, None, Some}
+use Rattle.std.specs.List.{count_by}
 use Rattle.hk_base.specs.declared.stamp.NodeId.{NodeId}
 use Rattle.hk_base.specs.declared.letter.Actor.TheVariants.{Node, Manager}
 use Rattle.hk_base.specs.declared.view.View.{View}
@@ -9,10 +10,16 @@ use Rattle.hk_roll.specs.declared.binding.Founder.{Founder}
 use Rattle.hk_roll.specs.declared.answer.RollAnswer.TheVariants.{Seated, Yes}
 use Rattle.hk_roll.specs.declared.steps.Seating.{Seating}
 use Rattle.hk_roll.specs.Rolls.{Entries, bound, with_bound, replayed, founding}
-use Rattle.hk_roll.specs.Boards.{named}
+use Rattle.hk_roll.specs.Boards.{names, named}
 use Rattle.hk_roll.specs.Numbers.{may_bind, next_number}
 use Rattle.hk_roll.specs.Steps.{claimed, seated}
 use Rattle.hk_roll.specs.Group.{Event, last, start, IsRun, Most, Binds, HasTold}
+
+-- ---- boards
+
+-- A ticket is named exactly where more than half of the managers told it.
+abbrev pub NamesWhomMostTell : Type 0
+NamesWhomMostTell = (told : List (Option Ticket)) (ticket : Ticket) → (named told ≡ Some ticket) ↔ (length told / 2 < count_by (names ticket) told)
 
 -- ---- one step
 

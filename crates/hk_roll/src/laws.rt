@@ -1,7 +1,12 @@
 //! The laws of rolls, over the definitions of [`crate::Roll::seat`] and [`crate::Roll::claim`].
 
 ghost use Rattle.hk_roll.specs.Worked.{NewcomersGetTheirOwn, AnothersClaimIsRefused, MinorityChanges, OldNumbersStayUnbound};
-ghost use Rattle.hk_roll.specs.Laws.{BindsByTheRule, AnswersTellTheRoll, FoundingBindsPlaces, ManagersStay, LogTellsTheRoll, OneHolder, HoldersStay, OneHolderIsTold};
+ghost use Rattle.hk_roll.specs.Laws.{NamesWhomMostTell, BindsByTheRule, AnswersTellTheRoll, FoundingBindsPlaces, ManagersStay, LogTellsTheRoll, OneHolder, HoldersStay, OneHolderIsTold};
+
+/// A ticket is named exactly where more than half of the managers told it.
+pub fn boards_name_whom_most_tell()
+    ensures { NamesWhomMostTell }
+{}
 
 /// A manager binds only a number that no shard has given or whose node is a member of all, and only one that is unbound or that a majority's boards bind to the
 /// asker; and whom it answers so has the number in its roll.

@@ -6,8 +6,8 @@
 //! decides.
 //!
 //! [`Roll`] is what a manager has bound. [`Roll::seat`] and [`Roll::claim`] tell what it answers and what it binds, as `specs/Steps.antt` has it by cases. The
-//! caller hands in what the managers' last boards told of the number. It writes the binding that a step logs, and only then takes it by [`Roll::bind`] and
-//! answers. After a restart [`Roll::replay`] makes the roll of what was logged.
+//! caller hands in the views of all shards, and what boards of this founding told of the number. It writes the binding that a step logs, and only then takes it
+//! by [`Roll::bind`] and answers, or tells it by a board. After a restart [`Roll::replay`] makes the roll of what was logged.
 #![tactic(auto)]
 
 mod answer;
@@ -22,8 +22,8 @@ pub use answer::{RollAnswer, RollRefusal, RollStep};
 pub use binding::{Binding, Founder};
 pub use boards::named;
 pub use laws::{
-    a_number_has_one_holder, foundings_bind_the_places, numbers_are_bound_by_the_rule,
-    rolls_are_made_again, two_newcomers_at_once,
+    a_number_has_one_holder, boards_name_whom_most_tell, foundings_bind_the_places,
+    numbers_are_bound_by_the_rule, rolls_are_made_again, two_newcomers_at_once,
 };
 pub use roll::Roll;
 pub use steps::Seating;

@@ -107,6 +107,9 @@ impl Roll {
     }
 
     /// SEAT: a process that has no number wants one. `views` are those of the eight shards that this manager holds.
+    ///
+    /// It is seated with the number that all shards give next, where that is unbound or its own, a majority is up, a member is ready and there is room; else it
+    /// has to wait.
     pub fn seat(&self, views: &[View], seating: Seating, ticket: Ticket) -> RollStep
         ensures { result ≡ seated self.now views.now seating ticket }
     {
@@ -121,6 +124,10 @@ impl Roll {
 
     /// CLAIM: a process tells that this number is its own. `views` are those of the eight shards that this manager holds, and `told` is what the last board of
     /// each manager told of the number, by their places: the ticket to which it is bound there, or nothing, also where no board came.
+    ///
+    /// YES comes where the number is bound to the process already, and where nobody else holds it and it may be bound. It is taken where a majority's boards name
+    /// another ticket, where this manager has bound it to another one and no majority names the asker's, and where its node is out of a view; else, while some
+    /// shards alone have given it, the process has to wait.
     pub fn claim(
         &self,
         views: &[View],
