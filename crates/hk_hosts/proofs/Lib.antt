@@ -2,3 +2,4 @@ mod Splitting
 mod Colons
 mod Naming
 mod Reading
+mod Entries

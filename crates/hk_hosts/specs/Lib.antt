@@ -2,3 +2,4 @@ pub mod Addresses
 pub mod Parts
 pub mod Laws
 pub mod Dialling
+pub mod Lists

@@ -1,7 +1,8 @@
 //! Hosts: their addresses as text, connections to them and from them, and random bytes.
 //!
 //! An [`Address`] is a host's name, or its IPv6 address in brackets, and a port; [`read_address`] reads one, exactly:
-//! `specs/Addresses.antt` says which texts are one, and each of these is one of a single address. [`DialAt`] and
+//! `specs/Addresses.antt` says which texts are one, and each of these is one of a single address. [`read_hosts`] reads the
+//! list of a group's hosts, 1, 3, 5, 7 or 9 addresses that differ (`specs/Lists.antt`). [`DialAt`] and
 //! [`DoorsAt`] are what connects to addresses, and what connections come through at one; [`Random`] gives bytes that nobody
 //! can guess. Each has a form in memory, and an adapter over the machine: TCP, and the system's source of random bytes. As
 //! with all of the outside an object counts its faults, and answers [`Failed`](hk_outside::Failed) only where the count
@@ -15,6 +16,7 @@ mod address;
 mod conn;
 mod dial;
 mod doors;
+mod hosts;
 mod parts;
 mod random;
 
@@ -24,6 +26,7 @@ pub use address::{Address, AddressFault, MAX_ADDRESS_LEN, read_address};
 pub use conn::{HostConnection, Patient};
 pub use dial::{DialAt, HostDialer};
 pub use doors::{DoorsAt, HostDoors};
+pub use hosts::{Hosts, HostsFault, put_hosts, read_hosts};
 pub use random::{FakeRandom, Random, SystemRandom};
 
 /// Each text is one of one address at most, and what is printed of an address is read as that address, whatever port is the
