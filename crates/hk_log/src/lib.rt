@@ -39,6 +39,7 @@ ghost use Rattle.hk_log.specs.Laws.{CutLogsAreFronts, CutsAreNoDamage, ChangesAr
 pub use checks::{Check, HEADER, MAX_BODY_LEN};
 pub use entry::{Entry, Founding, HostTickets, Hosts, Record, Records};
 pub use fault::{LogFault, RecordFault};
+pub use fields::is_of_paxos;
 pub use printing::{PrintedRecord, print_record};
 pub use scan::{Log, read_log};
 

@@ -1,0 +1,6 @@
+pub mod Turning
+pub mod Sound
+pub mod Numbers
+pub mod Taking
+pub mod Batching
+pub mod Replaying

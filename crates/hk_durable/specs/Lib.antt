@@ -1,0 +1,4 @@
+pub mod Batches
+pub mod Turns
+pub mod Laws
+pub mod Replays
