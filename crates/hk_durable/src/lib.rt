@@ -15,8 +15,8 @@
 //!
 //! What is proved. A turn that answered has taken the parcels, read the clock behind that (`LateClock::was_read` speaks of both), made the steps in their order, made
 //! their record sure, and sent just their letters (`IsTurn`); one that failed has sent nothing, and keeps its batch (`IsHeldUp`). To each shard a turn is a batch of
-//! `hk_return` (`turns_make_batches`). What no clause says: why a step was not made, where none refused it, but for want of memory; that a reading made behind the
-//! taking is no older than the letters, which is what reading means.
+//! `hk_return` (`turns_make_batches`). What no clause says: why a step of a turn was not made, refused or for want of memory; by which fault `take_up` fails,
+//! but that it answers only where no entry was refused; that a reading made behind the taking is no older than the letters, which is what reading means.
 //!
 //! The caller owes that the outlets lead to whom they are named for, that one process at a time has the log, and that the clock keeps its rate.
 #![tactic(auto)]
