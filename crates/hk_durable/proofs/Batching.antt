@@ -1,21 +1,21 @@
 -- A batch is to each shard a batch of a manager that keeps a log.
 use Rattle.std.proofs.Common.{◌≡◌, inl, inr, ℕ, zero, suc, ◌==◌, Bool, true, false, if◌then◌else◌, cond, List, [], ◌∷◌, ◌++◌, map, slice_set, Option, Some, None, Result, Ok, refl, sym, ap, ◌∙◌, subst, rules, append-nil, append_assoc}
-use Rattle.std.specs.List.{slice_get}
+use Rattle.std.specs.List.{slice_get, AllByRecursion}
 use Rattle.std.proofs.lemmas.Bool.{eqb-true, eq-eqb}
 use Rattle.hk_base.specs.declared.letter.Letter.{Letter}
-use Rattle.hk_base.specs.declared.letter.Body.{Body}
 use Rattle.hk_link.specs.declared.parcel.Parcel.{Parcel}
 use Rattle.hk_log.specs.declared.entry.Entry.{Entry}
+use Rattle.hk_log.specs.declared.entry.Entry.TheVariants as entry
 use Rattle.hk_log.specs.Entries.{is_of_paxos}
 use Rattle.hk_manager.specs.declared.event.ManagerEvent.{ManagerEvent}
 use Rattle.hk_manager.specs.declared.event.ManagerEvent.TheVariants.{Propose, Receive, Activate, Tick}
 use Rattle.hk_manager.specs.declared.fault.ManagerFault.{ManagerFault}
 use Rattle.hk_manager.specs.Manager.{ManagerState}
 use Rattle.hk_manager.specs.Steps.{ManagerStepped, manager_step, manager_ticks}
-use Rattle.hk_return.specs.Log.{after, manager_or, letters_or, letters_of, logged, IsTaken, AreTaken, is_of_paxos as is_told_by_paxos}
+use Rattle.hk_return.specs.Log.{after, manager_or, letters_or, letters_of, logged, IsTaken, AreTaken}
 use Rattle.hk_return.proofs.Replaying.{after_more, logged_more}
 use Rattle.hk_durable.specs.declared.batch.Intent.{Intent}
-use Rattle.hk_durable.specs.Batches.{BatchState, at_rest, with_clocks, entries_of, event_of, IsFulfilled, IsMade, IsMadeOrNot, TakeAll, FulfilFrom}
+use Rattle.hk_durable.specs.Batches.{BatchState, IsNote, with_clocks, entries_of, may_begin, event_of, IsFulfilled, IsMade, IsMadeOrNot, TakeAll, FulfilFrom}
 use Rattle.hk_durable.specs.Laws.{steps_told, steps_in, letters_in, IsBatchOf, BatchesAreBatches}
 
 module _ {A : Type 0} where
@@ -64,29 +64,14 @@ letters_in_more shard (u ∷ unsaid) new =
     ap (λ (l : List Letter). (if u.0 == shard then u.1 else []) ++ l) (letters_in_more shard unsaid new)
     ∙ sym_assoc (if u.0 == shard then u.1 else []) (letters_in shard unsaid) (letters_in shard new)
 
-same_paxos : (body : Body) → is_of_paxos body ≡ is_told_by_paxos body
-same_paxos (Body.Inv key stamp kind content) = refl
-same_paxos (Body.Ack key stamp top) = refl
-same_paxos (Body.Val key stamp) = refl
-same_paxos (Body.CopyAsk behind room) = refl
-same_paxos (Body.CopyGive behind done items) = refl
-same_paxos (Body.LeaseAsk asked) = refl
-same_paxos (Body.LeaseGive end) = refl
-same_paxos (Body.Prepare ballot) = refl
-same_paxos (Body.Promise ballot accepted) = refl
-same_paxos (Body.Accept ballot view) = refl
-same_paxos (Body.Accepted ballot) = refl
-same_paxos (Body.Chosen view) = refl
-same_paxos (Body.Activate view) = refl
-
 -- what is logged of a step tells the step at its shard, and nothing at another one
 told_here : (shard : ℕ) (event : ManagerEvent) → (shard == shard) ≡ true → steps_in shard (entries_of shard event) ≡ logged (event ∷ [])
 told_here shard (Propose base change) same = search (rules, same)
 told_here shard (Receive letter) same = by (is_of_paxos letter.body) refl
   where
     by : (b : Bool) → is_of_paxos letter.body ≡ b → steps_in shard (entries_of shard (Receive letter)) ≡ logged (Receive letter ∷ [])
-    by true equal = let also : is_told_by_paxos letter.body ≡ true = sym (same_paxos letter.body) ∙ equal in search (rules, same, equal, also)
-    by false differs = let also : is_told_by_paxos letter.body ≡ false = sym (same_paxos letter.body) ∙ differs in search (rules, differs, also)
+    by true equal = search (rules, same, equal)
+    by false differs = search (rules, differs)
 told_here shard Activate same = refl
 told_here shard (Tick now) same = refl
 
@@ -166,21 +151,30 @@ fulfilled_on shard at (Some event) m first b c goes made = goes_on shard at even
 fulfils_on : (shard at : ℕ) (m : ManagerState) (first : ManagerEvent) (intents : List Intent) (b c : BatchState) → Goes shard m first b → FulfilFrom at intents b c → Goes shard m first c
 fulfils_on shard at m first [] b c goes same = subst (Goes shard m first) (sym same) goes
 fulfils_on shard at m first (i ∷ intents) b c goes (between, one, rest) =
-    fulfils_on shard (suc at) m first intents between c (fulfilled_on shard at (event_of i) m first b between goes one) rest
+    fulfils_on shard (suc at) m first intents between c (fulfilled_on shard at (event_of (may_begin (slice_get b.managers at)) i) m first b between goes one) rest
 
-begins : (shard now : ℕ) (managers : List ManagerState) (m : ManagerState) → slice_get managers shard ≡ Some m → Goes shard m (Tick now) (with_clocks now (at_rest managers))
-begins shard now managers m there = (
+-- notes tell no step
+no_steps : (shard : ℕ) (notes : List Entry) → AllByRecursion IsNote notes → steps_in shard notes ≡ []
+no_steps shard [] are = refl
+no_steps shard (entry.Founded founding ∷ notes) are = no_steps shard notes are.1
+no_steps shard (entry.Open ∷ notes) are = no_steps shard notes are.1
+no_steps shard (entry.Bound actor ticket ∷ notes) are = no_steps shard notes are.1
+no_steps shard (entry.Propose at base change ∷ notes) are = absurd are.0
+no_steps shard (entry.Receive at letter ∷ notes) are = absurd are.0
+
+begins : (shard now : ℕ) (before : BatchState) (m : ManagerState) → before.unsaid ≡ [] → AllByRecursion IsNote before.entries → slice_get before.managers shard ≡ Some m → Goes shard m (Tick now) (with_clocks now before)
+begins shard now before m none notes there = (
   [],
   record {
     taken = (tt, tt);
-    manager = mapped_at (λ x. (manager_ticks x now).manager) managers shard m there;
-    logs = refl;
-    says = refl;
+    manager = mapped_at (λ x. (manager_ticks x now).manager) before.managers shard m there;
+    logs = no_steps shard before.entries notes;
+    says = ap (λ (l : List (ℕ × List Letter)). letters_in shard l) none;
   },
 )
 
 pub batches : BatchesAreBatches
-batches managers now parcels intents took made takes fulfils shard m there =
+batches before now parcels intents took made none notes takes fulfils shard m there =
     fulfils_on shard 0 m (Tick now) intents took made
-    (takes_on shard m (Tick now) parcels (with_clocks now (at_rest managers)) took (begins shard now managers m there) takes)
+    (takes_on shard m (Tick now) parcels (with_clocks now before) took (begins shard now before m none notes there) takes)
     fulfils

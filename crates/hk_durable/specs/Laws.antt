@@ -1,6 +1,6 @@
 -- What a turn is to each shard: a batch of steps of a manager that keeps a log.
 use Rattle.std.specs.Prelude.{◌≡◌, ℕ, List, [], ◌∷◌, ◌++◌, ◌==◌, if◌then◌else◌, Some}
-use Rattle.std.specs.List.{slice_get}
+use Rattle.std.specs.List.{slice_get, AllByRecursion}
 use Rattle.hk_base.specs.declared.letter.Letter.{Letter}
 use Rattle.hk_link.specs.declared.parcel.Parcel.{Parcel}
 use Rattle.hk_log.specs.declared.entry.Entry.{Entry}
@@ -10,7 +10,7 @@ use Rattle.hk_manager.specs.declared.event.ManagerEvent.TheVariants.{Propose, Re
 use Rattle.hk_manager.specs.Manager.{ManagerState}
 use Rattle.hk_return.specs.Log.{after, letters_of, logged, AreTaken}
 use Rattle.hk_durable.specs.declared.batch.Intent.{Intent}
-use Rattle.hk_durable.specs.Batches.{BatchState, at_rest, with_clocks, TakeAll, FulfilFrom}
+use Rattle.hk_durable.specs.Batches.{BatchState, IsNote, with_clocks, TakeAll, FulfilFrom}
 
 -- what entries tell of the manager of a shard: the steps that it made
 abbrev pub steps_told : ℕ → Entry → List ManagerEvent
@@ -38,8 +38,8 @@ pub record IsBatchOf (shard : ℕ) (m : ManagerState) (steps : List ManagerEvent
   pub says : letters_in shard made.unsaid ≡ letters_of m steps
 
 -- BATCHES ARE BATCHES: what a turn makes by a reading of the clock is to each shard a batch of a manager that keeps a log, and the first of its steps is that the
--- clock reads that.
+-- clock reads that. What it also logs, before its steps, tells no step.
 abbrev pub BatchesAreBatches : Type 0
-BatchesAreBatches = (managers : List ManagerState) (now : ℕ) (parcels : List Parcel) (intents : List Intent) (took made : BatchState) →
-    TakeAll parcels (with_clocks now (at_rest managers)) took → FulfilFrom 0 intents took made → (shard : ℕ) (m : ManagerState) → slice_get managers shard ≡ Some m →
+BatchesAreBatches = (before : BatchState) (now : ℕ) (parcels : List Parcel) (intents : List Intent) (took made : BatchState) → before.unsaid ≡ [] → AllByRecursion IsNote before.entries →
+    TakeAll parcels (with_clocks now before) took → FulfilFrom 0 intents took made → (shard : ℕ) (m : ManagerState) → slice_get before.managers shard ≡ Some m →
     (steps : List ManagerEvent) × IsBatchOf shard m (Tick now ∷ steps) made

@@ -1,5 +1,6 @@
 -- A turn of the managers of one number that keep a log: a batch of steps is made, logged, and only then told.
 use Rattle.std.specs.Prelude.{◌≡◌, ◌⊎◌, ◌≢◌, ◌≤◌, ℕ, List, [], ◌∷◌, ◌++◌, length, min}
+use Rattle.std.specs.List.{AllByRecursion}
 use Rattle.hk_base.specs.declared.letter.Actor.{Actor}
 use Rattle.hk_base.specs.declared.letter.Letter.{Letter}
 use Rattle.hk_base.specs.declared.time.TheConstants.{MAX_TIME}
@@ -9,7 +10,7 @@ use Rattle.hk_overseer.specs.Sends.{AreSent}
 use Rattle.hk_log.specs.declared.entry.Entry.{Entry}
 use Rattle.hk_disk.specs.Writing.{IsSureLog}
 use Rattle.hk_durable.specs.declared.batch.Intent.{Intent}
-use Rattle.hk_durable.specs.Batches.{BatchState, with_clocks, TakeAll, FulfilFrom, at_rest}
+use Rattle.hk_durable.specs.Batches.{BatchState, IsNote, with_clocks, TakeAll, FulfilFrom, at_rest}
 use Rattle.hk_durable.specs.declared.post.TheConstants.{MOST_PARCELS}
 
 -- the managers and what waits to be logged and told; the links by which they are reached and reach others; the file of their log, and the check of its last record
@@ -38,9 +39,11 @@ recorded (entry ∷ entries) records = records ++ (entry ∷ entries) ∷ []
 -- ---- a batch is gathered
 -- by what a clock told behind the parcels that were taken
 module _ (was_read : List Parcel → ℕ → Type 0) where
-  -- All parcels are taken first. Behind that the clock is read, and all steps are made by this reading, cut at the limit of clocks: those of the parcels and then
-  -- what is intended.
+  -- Notes alone waited. All parcels are taken first. Behind that the clock is read, and all steps are made by this reading, cut at the limit of clocks: those of
+  -- the parcels and then what is intended. What is logged of them stands behind the notes: in a record that tells of the founding, or that the group is open, each
+  -- step is one of that group.
   pub record IsBatch (intents : List Intent) (before : BatchState) (inlet_before : End) (after : BatchState) (inlet_after : End) : Type 0 where
+    pub notes : AllByRecursion IsNote before.entries
     pub parcels : List Parcel
     pub taken : AreTaken parcels inlet_before inlet_after
     pub most : length parcels ≤ MOST_PARCELS
@@ -50,16 +53,16 @@ module _ (was_read : List Parcel → ℕ → Type 0) where
     pub takes : TakeAll parcels (with_clocks (min reading MAX_TIME) before) took
     pub fulfils : FulfilFrom 0 intents took after
 
-  -- A batch that still waits for its record, since memory was wanting for that, is taken up again, and nothing else is done before.
+  -- Steps that still wait for their record, since memory was wanting for that, are taken up again, and nothing else is done before.
   abbrev pub IsGathered : List Intent → BatchState → End → BatchState → End → Type 0
   IsGathered intents before inlet_before after inlet_after =
-      ((before ≡ at_rest before.managers) × IsBatch intents before inlet_before after inlet_after)
-      ⊎ ((before ≢ at_rest before.managers) × (after ≡ before) × (inlet_after ≡ inlet_before))
+      ((before.unsaid ≡ []) × IsBatch intents before inlet_before after inlet_after)
+      ⊎ ((before.unsaid ≢ []) × (after ≡ before) × (inlet_after ≡ inlet_before))
 
 -- ---- it is logged, and then told
 -- by that too, and by what a file has, and what of that outlasts a stop of the machine
 module _ {F : Type 0} (was_read : List Parcel → ℕ → Type 0) (holds is_sure : F → List ℕ → Type 0) where
-  -- the record of the batch is in the log and sure, and then its letters were sent
+  -- the record of the batch, with the notes in front, is in the log and sure, and then its letters were sent
   pub record IsTurn (intents : List Intent) (before after : PostState F) : Type 0 where
     pub made : BatchState
     pub gathered : IsGathered was_read intents before.batch before.inlet made after.inlet

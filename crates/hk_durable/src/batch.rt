@@ -1,14 +1,14 @@
 //! A batch of steps, of which nobody has heard yet.
 
-ghost use Rattle.std.specs.Prelude.{◌≡◌, ◌≢◌, ◌<◌, ◌≤◌, ◌++◌, [], true, false, All, IfSome, vec_len, vec_capacity};
-ghost use Rattle.std.specs.List.{AllByRecursion};
+ghost use Rattle.std.specs.Prelude.{◌≡◌, ◌≢◌, ◌<◌, ◌≤◌, ◌++◌, ◌∷◌, [], true, false, All, IfSome, OnOk, OnErr, vec_len, vec_capacity};
+ghost use Rattle.std.specs.List.{AllByRecursion, slice_get};
 ghost use Rattle.hk_base.specs.declared.time.TheConstants.{MAX_TIME};
 ghost use Rattle.hk_log.specs.Entries.{IsEntryInRange, is_of_paxos};
 ghost use Rattle.hk_manager.specs.declared.event.ManagerEvent.TheVariants.{Receive};
-ghost use Rattle.hk_durable.specs.Batches.{IsUnsaid, IsGivenEvent, list_of, entries_of, event_of, with_clocks, at_rest, IsMadeOrNot, TakeAll, IsFulfilled, FulfilFrom};
+ghost use Rattle.hk_durable.specs.Batches.{IsNote, IsUnsaid, IsGivenEvent, list_of, entries_of, may_begin, event_of, with_clocks, at_rest, IsMadeOrNot, TakeAll, IsFulfilled, FulfilFrom};
 
 use crate::managers::Managers;
-use hk_base::{Change, Letters};
+use hk_base::{Change, Letters, Memory};
 use hk_link::Parcel;
 use hk_log::{Entry, is_of_paxos};
 use hk_manager::ManagerEvent;
@@ -24,12 +24,12 @@ pub enum Intent {
     Nothing,
     /// To propose a change of the view of the epoch `base`. It is refused where the manager holds another view by then.
     Propose { base: u64, change: Change },
-    /// To let the view begin that it holds. It is refused where a lease may run that it granted outside.
+    /// To let the view begin that it holds. It is let go of up to 1 and the wait on the manager's clock, and refused where a lease may run that it granted outside.
     Activate,
 }
 
-/// The managers of one number, and behind the steps that they made last: what of those is to be logged, and the letters that wait for that, each list with its shard.
-/// Contracts see these.
+/// The managers of one number, behind the steps that they made last; what is to be logged, notes and what of those steps; and the letters that wait for that, each
+/// list with its shard. Contracts see these.
 #[derive(Drop)]
 pub struct Batch {
     managers: Managers,
@@ -40,13 +40,13 @@ pub struct Batch {
 impl Model for Batch {
     ghost use Rattle.std.specs.Prelude.{All};
     ghost use Rattle.hk_log.specs.Entries.{IsEntryInRange};
-    ghost use Rattle.hk_durable.specs.Batches.{BatchState, IsUnsaid};
+    ghost use Rattle.hk_durable.specs.Batches.{BatchState, AreNotesAlone, IsUnsaid};
 
     ghost Value = { BatchState };
 
     ghost view = { λ b. record { managers = b.managers; entries = b.entries.items; unsaid = b.unsaid.items } };
 
-    ghost invariant = { λ b. All IsEntryInRange b.entries.items × All IsUnsaid b.unsaid.items };
+    ghost invariant = { λ b. All IsEntryInRange b.entries.items × All IsUnsaid b.unsaid.items × AreNotesAlone b.entries.items b.unsaid.items };
 }
 
 // What of a step is to be logged.
@@ -83,14 +83,19 @@ fn push_entry(entries: &mut Vec<Entry>, entry: Option<Entry>)
 }
 
 // The event of an intent, if it is to do anything.
-fn event_of(intent: Intent) -> Option<ManagerEvent>
-    ensures event { result ≡ event_of intent }
+fn event_of(may_begin: bool, intent: Intent) -> Option<ManagerEvent>
+    ensures event { result ≡ event_of may_begin intent }
     ensures given { IfSome result IsGivenEvent }
 {
     match intent {
         Intent::Nothing => None,
         Intent::Propose { base, change } => Some(ManagerEvent::Propose { base, change }),
-        Intent::Activate => Some(ManagerEvent::Activate),
+        Intent::Activate => {
+            if may_begin {
+                return Some(ManagerEvent::Activate);
+            }
+            None
+        }
     }
 }
 
@@ -113,12 +118,24 @@ impl Batch {
         &self.managers
     }
 
-    /// Whether nothing waits to be logged or told.
-    pub fn is_at_rest(&self) -> bool
-        ensures yes { result ≡ true → self.now ≡ at_rest self.now.managers }
-        ensures no { result ≡ false → self.now ≢ at_rest self.now.managers }
+    /// Whether steps wait to be logged or told. Where none do, notes alone wait.
+    pub fn has_steps(&self) -> bool
+        ensures yes { result ≡ true → self.now.unsaid ≢ [] }
+        ensures no { result ≡ false → (self.now.unsaid ≡ []) × AllByRecursion IsNote self.now.entries }
     {
-        self.entries.is_empty() && self.unsaid.is_empty()
+        !self.unsaid.is_empty()
+    }
+
+    /// Notes what is to be logged with the next steps, before them: that the group was founded, or opened, or that a number was bound. After `Memory` nothing is
+    /// noted.
+    pub fn note(&mut self, note: Entry) -> Result<(), Memory>
+        requires range { IsEntryInRange note }
+        requires note { IsNote note }
+        ensures noted { OnOk result (self.new ≡ record self.old { entries = self.old.entries ++ note ∷ [] }) }
+        ensures kept { OnErr result (self.new ≡ self.old) }
+    {
+        self.entries.push(note)?;
+        Ok(())
     }
 
     /// What waits to be logged.
@@ -138,6 +155,7 @@ impl Batch {
 
     /// The letters that waited for that.
     pub(crate) fn take_unsaid(&mut self, alloc: Global) -> Vec<(u8, Letters)>
+        requires { self.old.entries ≡ [] }
         ensures unsaid { result.items ≡ self.old.unsaid }
         ensures range { AllByRecursion IsUnsaid result.items }
         ensures rest { self.new ≡ record self.old { unsaid = [] } }
@@ -181,9 +199,10 @@ impl Batch {
     // The manager of the shard does what it is to do.
     fn fulfil(&mut self, alloc: Global, shard: u8, intent: Intent)
         requires { shard < 8 }
-        ensures { IsFulfilled shard (event_of intent) self.old self.new }
+        ensures { IsFulfilled shard (event_of (may_begin (slice_get self.old.managers shard)) intent) self.old self.new }
     {
-        if let Some(event) = event_of(intent) {
+        let may_begin = self.managers.may_begin(shard);
+        if let Some(event) = event_of(may_begin, intent) {
             self.make(alloc, shard, event);
         }
     }

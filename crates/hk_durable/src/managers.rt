@@ -1,16 +1,17 @@
 //! The managers of one number.
 
-ghost use Rattle.std.specs.Prelude.{◌≡◌, ◌<◌, ◌≤◌, length, replicate, IfOk, OnErr};
-ghost use Rattle.std.specs.List.{AllByRecursion};
+ghost use Rattle.std.specs.Prelude.{◌≡◌, ◌<◌, ◌≤◌, length, replicate, Some, IfOk, OnErr};
+ghost use Rattle.std.specs.List.{AllByRecursion, slice_get};
 ghost use Rattle.hk_base.specs.declared.time.TheConstants.{MAX_TIME};
 ghost use Rattle.hk_base.specs.Range.{IsLetter};
 ghost use Rattle.hk_base.specs.View.{IsView};
 ghost use Rattle.hk_manager.specs.Sound.{IsManager, IsManagerEvent, manager_new};
 ghost use Rattle.hk_manager.specs.Steps.{manager_step, manager_ticks};
 ghost use Rattle.hk_manager.specs.Outs.{IsStepOf};
-ghost use Rattle.hk_durable.specs.Batches.{ticked, IsStepAt};
+ghost use Rattle.hk_durable.specs.Batches.{ticked, may_begin, IsStepAt, IsRefusal};
 
 use hk_base::{Letters, Memory, View};
+use hk_lease::wait;
 use hk_manager::{Manager, ManagerEvent, ManagerFault, ManagerOut, steps_keep_managers};
 use std::alloc::Global;
 use std::marker::Model;
@@ -21,6 +22,7 @@ const SHARDS: usize = 8;
 #[derive(Drop)]
 pub struct Managers {
     pub(crate) id: u8,
+    pub(crate) lease: u64,
     pub(crate) items: Vec<Manager>,
 }
 
@@ -33,7 +35,7 @@ impl Model for Managers {
 
     ghost view = { λ m. m.items.items };
 
-    ghost invariant = { λ m. AreManagers m.id m.items.items };
+    ghost invariant = { λ m. AreManagers m.id m.lease m.items.items };
 }
 
 // A manager with the first view.
@@ -84,9 +86,19 @@ fn step(
     ensures in_range { IfOk result (λ out. AllByRecursion IsLetter out.letters) }
     ensures sound { IsManager manager.new }
     ensures number { manager.new.id ≡ manager.old.id }
+    ensures leases { manager.new.lease ≡ manager.old.lease }
 {
     steps_keep_managers();
     manager.step(alloc, event)
+}
+
+// Whether the clock of a manager with leases of this length reads more than 1 and the wait.
+fn is_behind(lease: u64, manager: &Manager) -> bool
+    requires within { lease ≤ MAX_TIME }
+    requires leases { manager.now.lease ≡ lease }
+    ensures { result ≡ may_begin (Some manager.now) }
+{
+    1 + wait(lease) < manager.now()
 }
 
 fn letters_of(out: ManagerOut) -> Letters
@@ -114,14 +126,23 @@ impl Managers {
         for _shard in 0..SHARDS {
             items.push(new_manager(alloc, id, managers, view, lease)?)?;
         }
-        Ok(Managers { id, items })
+        Ok(Managers { id, lease, items })
     }
 
     /// The manager of a shard, 0 to 7.
     pub fn of(&self, shard: u8) -> &Manager
         requires { shard < 8 }
+        ensures at { slice_get self.now shard ≡ Some result.now }
     {
         &self.items[usize::from(shard)]
+    }
+
+    // Whether the clock of a shard's manager reads more than 1 and the wait.
+    pub(crate) fn may_begin(&self, shard: u8) -> bool
+        requires { shard < 8 }
+        ensures { result ≡ may_begin (slice_get self.now shard) }
+    {
+        is_behind(self.lease, &self.items[usize::from(shard)])
     }
 
     /// The clocks of all managers rise to `now`. It takes no memory.
@@ -133,7 +154,8 @@ impl Managers {
         tick_all(&mut self.items, alloc, now);
     }
 
-    /// The manager of the shard makes the step of an event, and gives the letters that it sends; or it refuses it, or memory is wanting, and all are as they were.
+    /// The manager of the shard makes the step of an event, and gives the letters that it sends; or it refuses it, by the fault that is told, or memory is wanting,
+    /// and all are as they were.
     pub fn step(
         &mut self,
         alloc: Global,
@@ -143,7 +165,8 @@ impl Managers {
         requires shard { shard < 8 }
         requires event { IsManagerEvent event.now }
         ensures made { IfOk result (λ letters. IsStepAt shard event.now self.old letters self.new) }
-        ensures refused { OnErr result (self.new ≡ self.old) }
+        ensures refused { IsRefusal result shard event.now self.old }
+        ensures kept { OnErr result (self.new ≡ self.old) }
         ensures in_range { IfOk result (λ letters. AllByRecursion IsLetter letters) }
     {
         let out = step(alloc, &mut self.items[usize::from(shard)], event)?;

@@ -1,18 +1,20 @@
 //! Managers with their links and their log.
 
-ghost use Rattle.std.specs.Prelude.{◌≡◌, ◌≤◌, ℕ, List, [], length, OnOk, OnErr};
+ghost use Rattle.std.specs.Prelude.{◌≡◌, ◌≤◌, ◌++◌, ◌∷◌, ℕ, List, [], length, OnOk, OnErr};
 ghost use Rattle.std.specs.List.{AllByRecursion};
 ghost use Rattle.hk_log.specs.declared.entry.Entry.{Entry};
+ghost use Rattle.hk_log.specs.Entries.{IsEntryInRange};
 ghost use Rattle.hk_disk.specs.Writing.{IsSureLog};
-ghost use Rattle.hk_durable.specs.Batches.{IsUnsaid, at_rest};
+ghost use Rattle.hk_durable.specs.Batches.{IsNote, IsUnsaid, at_rest};
 ghost use Rattle.hk_durable.specs.Turns.{PostState, AreTaken, AllAreSent, recorded, IsGathered, IsTurn, IsHeldUp};
 
 use crate::batch::{Batch, Intent};
 use crate::late::LateClock;
 use crate::managers::Managers;
-use hk_base::{Actor, Letters, MAX_TIME};
+use hk_base::{Actor, Letters, MAX_TIME, Memory};
 use hk_disk::{AppendFault, LogFile, LogWriter};
 use hk_link::{Inlet, Outlet, Parcel};
+use hk_log::Entry;
 use hk_overseer::{Outlets, ring_all, send_all};
 use std::alloc::Global;
 use std::sync::Wait;
@@ -87,7 +89,22 @@ impl<F: LogFile + Drop> DurablePost<F> {
         self.batch.managers()
     }
 
-    // Takes parcels, reads the clock behind that, and makes their steps, and what is intended. Where a batch waits, nothing is taken.
+    /// Notes what the next turn logs beside its steps: that the group was founded, or opened, or that a number was bound. Once a turn answers it is sure, and it
+    /// stands before the steps of that turn: those that still wait for their record alone stand before it. Who notes a founding owes managers that made no
+    /// step yet, since what stands before it is of an earlier group. After `Memory` nothing is noted.
+    pub fn note(&mut self, note: Entry) -> Result<(), Memory>
+        requires range { IsEntryInRange note }
+        requires note { IsNote note }
+        ensures noted { OnOk result (self.new.batch ≡ record self.old.batch { entries = self.old.batch.entries ++ note ∷ [] }) }
+        ensures kept { OnErr result (self.new.batch ≡ self.old.batch) }
+        ensures inlet { self.new.inlet ≡ self.old.inlet }
+        ensures outlets { self.new.outlets ≡ self.old.outlets }
+        ensures writer { self.new.writer ≡ self.old.writer }
+    {
+        self.batch.note(note)
+    }
+
+    // Takes parcels, reads the clock behind that, and makes their steps, and what is intended. Where steps wait, nothing is taken.
     fn gather<C: LateClock, R: Wait>(
         &mut self,
         rt: &R,
@@ -99,7 +116,7 @@ impl<F: LogFile + Drop> DurablePost<F> {
         ensures outlets { self.new.outlets ≡ self.old.outlets }
         ensures writer { self.new.writer ≡ self.old.writer }
     {
-        if !self.batch.is_at_rest() {
+        if self.batch.has_steps() {
             return;
         }
         let parcels = take_parcels(rt, alloc, &mut self.inlet);
@@ -125,8 +142,9 @@ impl<F: LogFile + Drop> DurablePost<F> {
         Ok(())
     }
 
-    // Sends the letters of the batch.
+    // Sends the letters of the batch, of which all is logged.
     fn tell<R: Wait>(&mut self, rt: &R, alloc: Global)
+        requires { self.old.batch.entries ≡ [] }
         ensures told { AllAreSent self.old.batch.unsaid self.old.outlets.items self.new.outlets.items }
         ensures batch { self.new.batch ≡ record self.old.batch { unsaid = [] } }
         ensures inlet { self.new.inlet ≡ self.old.inlet }
@@ -136,9 +154,9 @@ impl<F: LogFile + Drop> DurablePost<F> {
         send_unsaid(rt, &mut self.outlets, unsaid);
     }
 
-    /// Makes a turn: takes what came, 64 parcels at most, reads the clock behind that, makes the steps of the parcels and what is intended, logs them, and tells the
-    /// letters. An intent that its manager refuses is let go of. After `Memory` the batch waits, and the next turn takes it up before anything else; after every
-    /// other fault it waits for good, and nobody hears of this manager any more.
+    /// Makes a turn: takes what came, 64 parcels at most, reads the clock behind that, makes the steps of the parcels and what is intended, logs them behind what was
+    /// noted, and tells the letters. Once it answers, all that is sure. An intent that its manager refuses is let go of. After `Memory` steps and notes wait, and the
+    /// next turn takes the steps up before anything else; after every other fault they wait for good, and nobody hears of this manager any more.
     pub fn turn<C: LateClock, R: Wait>(
         &mut self,
         rt: &R,

@@ -11,7 +11,7 @@ ghost use Rattle.hk_manager.specs.Outs.{IsMadeOf, IsStepOf};
 ghost use Rattle.hk_manager.specs.Steps.{manager_step, receives, proposes};
 ghost use Rattle.hk_return.specs.Log.{ask_of, manager_or};
 ghost use Rattle.hk_durable.specs.Batches.{AreManagers};
-ghost use Rattle.hk_durable.specs.Replays.{noted, TakesAsks, IsMadeOnce, IsTakenUp, AreTakenUp};
+ghost use Rattle.hk_durable.specs.Replays.{noted, TakesAsks, anew, taken_up, all_taken_up, IsAnswered};
 
 use crate::managers::Managers;
 use hk_base::{Actor, Body, Change, Letter, Memory, NodeId};
@@ -43,6 +43,7 @@ fn take(alloc: Global, manager: &mut Manager, letter: &Letter) -> Result<Manager
     requires letter { IsLetter letter.now }
     ensures made { IsMadeOf result manager.old manager.new (receives manager.old letter.now) }
     ensures number { manager.new.id ≡ manager.old.id }
+    ensures leases { manager.new.lease ≡ manager.old.lease }
     ensures sound { IsManager manager.new }
 {
     steps_keep_managers();
@@ -59,6 +60,7 @@ fn propose(
     requires { IsManager manager.old }
     ensures made { IsStepOf result manager.old manager.new (proposes manager.old base change) }
     ensures number { manager.new.id ≡ manager.old.id }
+    ensures leases { manager.new.lease ≡ manager.old.lease }
     ensures sound { IsManager manager.new }
 {
     steps_keep_managers();
@@ -72,6 +74,7 @@ fn note(alloc: Global, id: u8, manager: &mut Manager, node: NodeId) -> Result<()
     requires sound { IsManager manager.old }
     ensures noted { OnOk result (manager.new ≡ manager_or manager.old (manager_step manager.old (ask_of manager.old node))) }
     ensures number { manager.new.id ≡ id }
+    ensures leases { manager.new.lease ≡ manager.old.lease }
     ensures sound { IsManager manager.new }
 {
     let ask = ask_of(id, node);
@@ -91,6 +94,7 @@ fn note_each(alloc: Global, id: u8, manager: &mut Manager, nodes: Vec<NodeId>) -
     requires sound { IsManager manager.old }
     ensures asked { OnOk result (TakesAsks manager.old nodes.items manager.old manager.new) }
     ensures number { manager.new.id ≡ id }
+    ensures leases { manager.new.lease ≡ manager.old.lease }
     ensures sound { IsManager manager.new }
 {
     for node in nodes {
@@ -114,6 +118,7 @@ fn note_members(alloc: Global, id: u8, manager: &mut Manager) -> Result<(), Memo
     requires sound { IsManager manager.old }
     ensures noted { OnOk result (manager.new ≡ noted manager.old) }
     ensures number { manager.new.id ≡ id }
+    ensures leases { manager.new.lease ≡ manager.old.lease }
     ensures sound { IsManager manager.new }
 {
     logs_are_replayed();
@@ -132,8 +137,9 @@ fn propose_anew(
     requires few { id < 9 }
     requires number { manager.old.id ≡ id }
     requires sound { IsManager manager.old }
-    ensures anew { OnOk result (IsMadeOnce (Proposing base change) (noted manager.old) manager.new) }
+    ensures anew { IsAnswered result (anew manager.old (Proposing base change)) manager.new }
     ensures number { manager.new.id ≡ id }
+    ensures leases { manager.new.lease ≡ manager.old.lease }
     ensures sound { IsManager manager.new }
 {
     note_members(alloc, id, manager)?;
@@ -157,8 +163,9 @@ fn take_anew(
     requires number { manager.old.id ≡ id }
     requires sound { IsManager manager.old }
     requires letter { IsLetter letter.now }
-    ensures anew { OnOk result (IsMadeOnce (Receiving letter.now) (noted manager.old) manager.new) }
+    ensures anew { IsAnswered result (anew manager.old (Receiving letter.now)) manager.new }
     ensures number { manager.new.id ≡ id }
+    ensures leases { manager.new.lease ≡ manager.old.lease }
     ensures sound { IsManager manager.new }
 {
     note_members(alloc, id, manager)?;
@@ -172,10 +179,10 @@ fn take_anew(
 }
 
 // Notes the untils at each of these managers.
-fn note_all(alloc: Global, id: u8, managers: &mut Vec<Manager>) -> Result<(), Memory>
-    requires { AreManagers id managers.old.items }
+fn note_all(alloc: Global, id: u8, lease: u64, managers: &mut Vec<Manager>) -> Result<(), Memory>
+    requires { AreManagers id lease managers.old.items }
     ensures noted { OnOk result (managers.new.items ≡ map noted managers.old.items) }
-    ensures kept { AreManagers id managers.new.items }
+    ensures kept { AreManagers id lease managers.new.items }
 {
     for manager in managers.iter_mut() {
         note_members(alloc, id, manager)?;
@@ -184,10 +191,11 @@ fn note_all(alloc: Global, id: u8, managers: &mut Vec<Manager>) -> Result<(), Me
 }
 
 impl Managers {
-    // Takes up an entry of the log.
-    fn take_up_one(&mut self, alloc: Global, entry: &Entry) -> Result<(), ManagerFault>
+    /// Takes up an entry of the log: the manager of its shard notes the until of a lease that is granted now for each member of the view that it holds, and makes
+    /// its step anew. Where it refuses that, the entry is none of its log, and its fault is told. After a fault the managers are of no use.
+    pub fn take_up_one(&mut self, alloc: Global, entry: &Entry) -> Result<(), ManagerFault>
         requires { IsEntryInRange entry.now }
-        ensures { OnOk result (IsTakenUp entry.now self.old self.new) }
+        ensures { IsAnswered result (taken_up entry.now self.old) self.new }
     {
         let id = self.id;
         match entry {
@@ -209,12 +217,10 @@ impl Managers {
         }
     }
 
-    /// Takes up entries of the log, one after the other: the manager of an entry's shard notes the until of a lease that is granted now for each member of the view
-    /// that it holds, and makes its step anew. Where it would refuse that, the entry is none of its log, and that is answered. After a fault the managers are of no
-    /// use.
+    /// Takes up entries of the log, one after the other, up to the first that is refused.
     pub fn take_up(&mut self, alloc: Global, entries: &[Entry]) -> Result<(), ManagerFault>
         requires { All IsEntryInRange entries.now }
-        ensures { OnOk result (AreTakenUp entries.now self.old self.new) }
+        ensures { IsAnswered result (all_taken_up entries.now self.old) self.new }
     {
         for entry in entries {
             self.take_up_one(alloc, entry)?;
@@ -226,6 +232,6 @@ impl Managers {
     pub fn note_untils(&mut self, alloc: Global) -> Result<(), Memory>
         ensures { OnOk result (self.new ≡ map noted self.old) }
     {
-        note_all(alloc, self.id, &mut self.items)
+        note_all(alloc, self.id, self.lease, &mut self.items)
     }
 }

@@ -10,7 +10,7 @@ use Rattle.hk_fields.specs.declared.fault.FieldFault.{FieldFault}
 use Rattle.hk_fields.specs.declared.fault.FieldFault.TheVariants.{Malformed}
 use Rattle.hk_fields.specs.declared.tickets.Ticket.{Ticket}
 use Rattle.hk_fields.specs.declared.tickets.TheConstants.{TICKET_LEN}
-use Rattle.hk_fields.specs.Fields.{◌>>=◌, both, chain, made, byte_at, number_at, within, bytes_at, text_bytes, text_at, ticket_at, IsTicket, actor_bytes, actor_of, actor_at, IsActorField}
+use Rattle.hk_fields.specs.Fields.{◌>>=◌, both, chain, made, byte_at, number_at, within, bytes_at, text_bytes, text_at, ticket_at, IsTicket, host_bytes, host_at, IsHostValue, actor_bytes, actor_of, actor_at, IsActorField}
 use Rattle.hk_base.specs.declared.letter.Actor.{Actor}
 use Rattle.hk_base.specs.declared.letter.Actor.TheVariants.{Node, Manager}
 use Rattle.std.proofs.lemmas.Bool.{eqb-true}
@@ -294,6 +294,12 @@ pub ticket_exact : IsExact (λ (t : Ticket). t.0) IsTicket ticket_at
 unfolding ticket_at
 ticket_exact = made_exact (λ b. record { 0 = b }) (λ b. b) (λ b. length b ≡ TICKET_LEN) (bytes_at TICKET_LEN) (λ (t : Ticket). t.0) IsTicket (bytes_exact TICKET_LEN)
     (record { forth = λ b f. (refl, f); back = λ t f. (t.0, f, refl) })
+
+pub host_exact : IsExact host_bytes IsHostValue host_at
+unfolding host_at
+host_exact = made_exact (λ p. record { manager = p.0; node = p.1 }) (λ p. p.0.0 ++ p.1.0) (λ p. IsTicket p.0 × IsTicket p.1) (both ticket_at ticket_at) host_bytes IsHostValue
+    (both_exact (λ (t : Ticket). t.0) IsTicket ticket_at (λ (t : Ticket). t.0) IsTicket ticket_at ticket_exact ticket_exact)
+    (record { forth = λ p f. (refl, f); back = λ h f. ((h.manager, h.node), f, refl) })
 
 -- ---- actors
 

@@ -1,10 +1,11 @@
 -- Reading fields from left to right: what a field is and what stands behind it, or a fault. And what fields are as bytes.
-use Rattle.std.specs.Prelude.{◌≡◌, ℕ, zero, suc, List, [], ◌∷◌, length, take, drop, ◌&&◌, ◌==◌, nat_lt, nat_le, if◌then◌else◌, Result, Ok, Err, ◌<◌, ◌^◌}
+use Rattle.std.specs.Prelude.{◌≡◌, ℕ, zero, suc, List, [], ◌∷◌, ◌++◌, length, take, drop, ◌&&◌, ◌==◌, nat_lt, nat_le, if◌then◌else◌, Result, Ok, Err, ◌<◌, ◌^◌}
 use Rattle.std.specs.Int.{Width, w16, byte_len, from_be_bytes, to_be_bytes}
 use Rattle.hk_base.specs.declared.letter.Actor.{Actor}
 use Rattle.hk_base.specs.declared.letter.Actor.TheVariants.{Node, Manager}
 use Rattle.hk_fields.specs.declared.tickets.Ticket.{Ticket}
 use Rattle.hk_fields.specs.declared.tickets.TheConstants.{TICKET_LEN}
+use Rattle.hk_fields.specs.declared.hosts.HostTickets.{HostTickets}
 use Rattle.hk_fields.specs.declared.fault.FieldFault.{FieldFault}
 use Rattle.hk_fields.specs.declared.fault.FieldFault.TheVariants.{Memory, Malformed}
 
@@ -71,6 +72,16 @@ ticket_at bytes = made (λ b. record { 0 = b }) (bytes_at TICKET_LEN) bytes
 -- what the type of tickets keeps
 abbrev pub IsTicket : Ticket → Type 0
 IsTicket ticket = length ticket.0 ≡ TICKET_LEN
+
+-- the ticket of a host's manager, and that of its node
+abbrev pub host_bytes : HostTickets → List ℕ
+host_bytes host = host.manager.0 ++ host.node.0
+
+unfoldable pub host_at : List ℕ → Result (HostTickets × List ℕ) FieldFault
+host_at bytes = made (λ p. record { manager = p.0; node = p.1 }) (both ticket_at ticket_at) bytes
+
+abbrev pub IsHostValue : HostTickets → Type 0
+IsHostValue host = IsTicket host.manager × IsTicket host.node
 
 -- a class, 0 for a node and 1 for a manager, and the number in 2 bytes
 abbrev pub actor_bytes : Actor → List ℕ

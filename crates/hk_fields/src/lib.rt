@@ -8,11 +8,16 @@
 #![tactic(auto)]
 
 mod fault;
+mod hosts;
 mod printing;
 mod reading;
 mod tickets;
 
 pub use fault::FieldFault;
+pub use hosts::{
+    FoundingHosts, HostTickets, host, host_is_value, hosts_are_values, many_hosts, put_host,
+    put_hosts, ticket_is_value,
+};
 pub use printing::{
     put, put_actor, put_byte, put_number16, put_number32, put_number64, put_text, put_ticket,
 };

@@ -5,8 +5,8 @@ use Rattle.std.proofs.lemmas.Bool.{le-ltb}
 use Rattle.std.proofs.lemmas.List.{take_at, take_all, take-append-drop, length-take-le, length-append}
 use Rattle.hk_hello.specs.declared.challenge.Challenge.{Challenge}
 use Rattle.hk_hello.specs.declared.challenge.TheConstants.{HEADER}
-use Rattle.hk_hello.specs.declared.refusal.Refusal.{Refusal}
-use Rattle.hk_hello.specs.declared.refusal.Refusal.TheVariants.{AnotherSecret, AnotherGroup, OtherHosts, AnotherLeaseOrSkew, AnotherFounding, NoSuchActor, NumberTaken}
+use Rattle.hk_hello.specs.declared.refusal.HelloRefusal.{HelloRefusal}
+use Rattle.hk_hello.specs.declared.refusal.HelloRefusal.TheVariants.{AnotherSecret, AnotherGroup, OtherHosts, AnotherLeaseOrSkew, AnotherFounding, NoSuchActor, NumberTaken}
 use Rattle.hk_hello.specs.declared.answer.Answer.{Answer}
 use Rattle.hk_hello.specs.declared.answer.Answer.TheVariants.{Welcome, Refused}
 use Rattle.hk_hello.specs.declared.fault.HelloFault.{HelloFault}
@@ -49,7 +49,7 @@ challenge_again c rest (Err Malformed) len h = sym (header_stands c rest) ∙ h
 
 -- ---- answers
 
-abbrev of_code : ℕ → Option Refusal
+abbrev of_code : ℕ → Option HelloRefusal
 of_code n =
     if n == 1 then Some AnotherSecret
     else (if n == 2 then Some AnotherGroup
@@ -60,7 +60,7 @@ of_code n =
     else (if n == 7 then Some NumberTaken
     else None))))))
 
-coded : (r : Refusal) → of_code (refusal_code r) ≡ Some r
+coded : (r : HelloRefusal) → of_code (refusal_code r) ≡ Some r
 coded AnotherSecret = refl
 coded AnotherGroup = refl
 coded OtherHosts = refl
@@ -69,16 +69,16 @@ coded AnotherFounding = refl
 coded NoSuchActor = refl
 coded NumberTaken = refl
 
-abbrev the_refusal : Refusal → Option Refusal
+abbrev the_refusal : HelloRefusal → Option HelloRefusal
 the_refusal r = Some r
 
-some_is : (r s : Refusal) → the_refusal r ≡ Some s → r ≡ s
+some_is : (r s : HelloRefusal) → the_refusal r ≡ Some s → r ≡ s
 some_is r s e = cc
 
-same_code : (r s : Refusal) → refusal_code r ≡ refusal_code s → r ≡ s
+same_code : (r s : HelloRefusal) → refusal_code r ≡ refusal_code s → r ≡ s
 same_code r s e = some_is r s (sym (coded r) ∙ ap of_code e ∙ coded s)
 
-coded_above : (r : Refusal) → 1 ≤ refusal_code r
+coded_above : (r : HelloRefusal) → 1 ≤ refusal_code r
 coded_above AnotherSecret = omega arith
 coded_above AnotherGroup = omega arith
 coded_above OtherHosts = omega arith

@@ -15,8 +15,8 @@ use Rattle.hk_hello.specs.declared.hello.Purpose.{Purpose}
 use Rattle.hk_hello.specs.declared.hello.Purpose.TheVariants.{Letters, Requests}
 use Rattle.hk_hello.specs.declared.mac.Proof.{Proof}
 use Rattle.hk_hello.specs.declared.mac.TheConstants.{PROOF_LEN}
-use Rattle.hk_hello.specs.declared.refusal.Refusal.{Refusal}
-use Rattle.hk_hello.specs.declared.refusal.Refusal.TheVariants.{AnotherSecret, AnotherGroup, OtherHosts, AnotherLeaseOrSkew, AnotherFounding, NoSuchActor, NumberTaken}
+use Rattle.hk_hello.specs.declared.refusal.HelloRefusal.{HelloRefusal}
+use Rattle.hk_hello.specs.declared.refusal.HelloRefusal.TheVariants.{AnotherSecret, AnotherGroup, OtherHosts, AnotherLeaseOrSkew, AnotherFounding, NoSuchActor, NumberTaken}
 use Rattle.hk_hello.specs.declared.answer.Answer.{Answer}
 use Rattle.hk_hello.specs.declared.answer.Answer.TheVariants.{Welcome, Refused}
 use Rattle.hk_hello.specs.Mac.{hmac}
@@ -121,7 +121,7 @@ welcome_of secret challenge proof = hmac secret (proof.0 ++ challenge.0)
 
 -- ---- answers
 
-abbrev pub refusal_code : Refusal → ℕ
+abbrev pub refusal_code : HelloRefusal → ℕ
 refusal_code AnotherSecret = 1
 refusal_code AnotherGroup = 2
 refusal_code OtherHosts = 3
@@ -131,9 +131,9 @@ refusal_code NoSuchActor = 6
 refusal_code NumberTaken = 7
 
 -- the refusal with a code, if there is any
-abbrev pub IsOfCode : Option Refusal → ℕ → Type 0
+abbrev pub IsOfCode : Option HelloRefusal → ℕ → Type 0
 IsOfCode (Some refusal) code = refusal_code refusal ≡ code
-IsOfCode None code = (refusal : Refusal) → refusal_code refusal ≢ code
+IsOfCode None code = (refusal : HelloRefusal) → refusal_code refusal ≢ code
 
 -- 0 and the acceptor's proof; or a code
 abbrev pub answer_bytes : Answer → List ℕ

@@ -6,8 +6,8 @@ use Rattle.hk_hello.specs.declared.hello.Party.{Party}
 use Rattle.hk_hello.specs.declared.hello.Party.TheVariants as parties
 use Rattle.hk_hello.specs.declared.hello.Purpose.{Purpose}
 use Rattle.hk_hello.specs.declared.hello.Purpose.TheVariants.{Letters, Requests}
-use Rattle.hk_hello.specs.declared.refusal.Refusal.{Refusal}
-use Rattle.hk_hello.specs.declared.refusal.Refusal.TheVariants.{AnotherSecret, AnotherGroup, OtherHosts, AnotherLeaseOrSkew, AnotherFounding, NoSuchActor, NumberTaken}
+use Rattle.hk_hello.specs.declared.refusal.HelloRefusal.{HelloRefusal}
+use Rattle.hk_hello.specs.declared.refusal.HelloRefusal.TheVariants.{AnotherSecret, AnotherGroup, OtherHosts, AnotherLeaseOrSkew, AnotherFounding, NoSuchActor, NumberTaken}
 use Rattle.hk_hello.specs.declared.judging.Ours.{Ours}
 use Rattle.hk_hello.specs.declared.judging.LookedUp.{LookedUp}
 use Rattle.hk_hello.specs.declared.judging.JudgingFault.{JudgingFault}
@@ -33,27 +33,27 @@ needs_binding Requests = false
 abbrev pub lacks_actor : LookedUp → Hello → Bool
 lacks_actor looked hello = not looked.to_is_here || (needs_binding hello.purpose && not looked.from_is_bound)
 
-abbrev pub rows : Ours → List ℕ → SignedHello → LookedUp → List (Bool × Refusal)
+abbrev pub rows : Ours → List ℕ → SignedHello → LookedUp → List (Bool × HelloRefusal)
 rows ours right signed looked =
     (not (bytes_eq signed.proof.0 right), AnotherSecret)
     ∷ (not (bytes_eq signed.hello.group ours.group), AnotherGroup)
     ∷ (not (bytes_eq signed.hello.hosts.0 ours.hosts.0), OtherHosts)
     ∷ (has_other_terms ours signed.hello, AnotherLeaseOrSkew)
-    ∷ (differ signed.hello.founding ours.founding, AnotherFounding)
+    ∷ (differ signed.hello.founding looked.founding, AnotherFounding)
     ∷ (lacks_actor looked signed.hello, NoSuchActor)
     ∷ (looked.is_taken, NumberTaken)
     ∷ []
 
-abbrev pub first_row : List (Bool × Refusal) → Option Refusal
+abbrev pub first_row : List (Bool × HelloRefusal) → Option HelloRefusal
 first_row [] = None
 first_row (row ∷ others) = if row.0 then Some row.1 else first_row others
 
 -- the refusal of a hello whose right proof would be this one, if there is any
-unfoldable pub refusal : Ours → List ℕ → SignedHello → LookedUp → Option Refusal
+unfoldable pub refusal : Ours → List ℕ → SignedHello → LookedUp → Option HelloRefusal
 refusal ours right signed looked = first_row (rows ours right signed looked)
 
 -- it is told, or there is none; or memory was wanting
-abbrev pub IsJudged : Result ⊤ JudgingFault → Option Refusal → Type 0
+abbrev pub IsJudged : Result ⊤ JudgingFault → Option HelloRefusal → Type 0
 IsJudged (Ok x) refused = refused ≡ None
 IsJudged (Err Memory) refused = ⊤
 IsJudged (Err (Refused refusal')) refused = refused ≡ Some refusal'

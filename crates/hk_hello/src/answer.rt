@@ -6,7 +6,7 @@ ghost use Rattle.hk_hello.specs.Told.{IsAnswerRead};
 
 use crate::fault::HelloFault;
 use crate::mac::{PROOF_LEN, Proof};
-use crate::refusal::Refusal;
+use crate::refusal::HelloRefusal;
 use hk_base::Memory;
 use hk_fields::{put, put_byte};
 
@@ -16,7 +16,7 @@ pub enum Answer {
     /// It takes the connection, and shows that it knows the secret too.
     Welcome(Proof),
     /// It ends the connection.
-    Refused(Refusal),
+    Refused(HelloRefusal),
 }
 
 /// Puts an answer behind other bytes. Where an allocation is refused, what stands there is of no use.
@@ -45,7 +45,7 @@ pub fn read_answer(bytes: &[u8]) -> Result<(Answer, usize), HelloFault>
             None => Err(HelloFault::NeedMore),
         };
     }
-    match Refusal::of_code(*code) {
+    match HelloRefusal::of_code(*code) {
         Some(refusal) => Ok((Answer::Refused(refusal), 1)),
         None => Err(HelloFault::Malformed),
     }

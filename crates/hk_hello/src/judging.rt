@@ -8,12 +8,12 @@ use crate::challenge::Challenge;
 use crate::hello::{GroupName, Hello, HostsDigest, Party, Purpose, SignedHello};
 use crate::mac::Proof;
 use crate::printing::proof_of;
-use crate::refusal::Refusal;
+use crate::refusal::HelloRefusal;
 use hk_base::{Memory, Sequence};
 use std::alloc::Global;
 use thiserror::Error;
 
-/// What an acceptor is of.
+/// What an acceptor is of, as long as its process runs.
 #[derive(Drop)]
 pub struct Ours {
     /// What all of its group know, and nobody else.
@@ -24,13 +24,13 @@ pub struct Ours {
     pub lease: u32,
     /// How far clocks may jump, in milliseconds.
     pub skew: u32,
-    /// The number of its founding, 0 where it counts as none.
-    pub founding: u64,
 }
 
-/// What the caller looked up of a hello's actors.
+/// What the caller looked up for a hello, as it is when that came.
 #[derive(Clone, Copy, Debug, PartialEq, Eq)]
 pub struct LookedUp {
+    /// The number of the acceptor's founding, 0 where it counts as none.
+    pub founding: u64,
     /// Whether who is dialled is at this process.
     pub to_is_here: bool,
     /// Whether who dials is bound to its process.
@@ -47,7 +47,7 @@ pub enum JudgingFault {
     Memory,
     /// The hello is refused; the dialler is told.
     #[error("{0}")]
-    Refused(Refusal),
+    Refused(HelloRefusal),
 }
 
 fn has_other_terms(ours: &Ours, hello: &Hello) -> bool
@@ -73,30 +73,35 @@ fn lacks_actor(looked: LookedUp, hello: &Hello) -> bool
 
 // The refusal of a hello whose right proof would be this one.
 #[tactic(auto, unfolding(crate::specs::Judging::refusal))]
-fn refusal(ours: &Ours, right: Proof, signed: &SignedHello, looked: LookedUp) -> Option<Refusal>
+fn refusal(
+    ours: &Ours,
+    right: Proof,
+    signed: &SignedHello,
+    looked: LookedUp,
+) -> Option<HelloRefusal>
     ensures { result ≡ refusal ours.now right.0 signed.now looked }
 {
     let hello = &signed.hello;
     if signed.proof != right {
-        return Some(Refusal::AnotherSecret);
+        return Some(HelloRefusal::AnotherSecret);
     }
     if hello.group.as_slice() != ours.group.as_slice() {
-        return Some(Refusal::AnotherGroup);
+        return Some(HelloRefusal::AnotherGroup);
     }
     if hello.hosts != ours.hosts {
-        return Some(Refusal::OtherHosts);
+        return Some(HelloRefusal::OtherHosts);
     }
     if has_other_terms(ours, hello) {
-        return Some(Refusal::AnotherLeaseOrSkew);
+        return Some(HelloRefusal::AnotherLeaseOrSkew);
     }
-    if differ(hello.founding, ours.founding) {
-        return Some(Refusal::AnotherFounding);
+    if differ(hello.founding, looked.founding) {
+        return Some(HelloRefusal::AnotherFounding);
     }
     if lacks_actor(looked, hello) {
-        return Some(Refusal::NoSuchActor);
+        return Some(HelloRefusal::NoSuchActor);
     }
     if looked.is_taken {
-        return Some(Refusal::NumberTaken);
+        return Some(HelloRefusal::NumberTaken);
     }
     None
 }

@@ -12,7 +12,8 @@
 //! A proof is HMAC with SHA-256, as `specs/Mac.antt` has it.
 //!
 //! The caller draws challenges and tickets, keeps the secret (16 to 128 bytes; any length is taken here), ends a
-//! connection whose hello does not come in time, and looks up whether the hello's actors are here, bound and free.
+//! connection whose hello does not come in time, and looks up its own founding and whether the hello's actors are here, bound
+//! and free.
 #![tactic(auto)]
 
 mod answer;
@@ -41,7 +42,7 @@ pub use mac::{PROOF_LEN, Proof, hmac};
 pub use printing::{print_hello, sign, welcome};
 pub use ranges::{is_group_name, is_in_range};
 pub use reading::{MAX_LENGTH, MIN_LENGTH, read_hello};
-pub use refusal::Refusal;
+pub use refusal::HelloRefusal;
 
 /// A challenge's bytes are read as that challenge, whatever follows.
 pub fn challenges_are_read_again()

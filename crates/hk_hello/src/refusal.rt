@@ -7,7 +7,7 @@ use thiserror::Error;
 
 /// Why an acceptor takes no connection, the first reason that holds.
 #[derive(Clone, Copy, Debug, PartialEq, Eq, Error)]
-pub enum Refusal {
+pub enum HelloRefusal {
     /// The dialler did not show that it knows the secret.
     #[error("another secret")]
     AnotherSecret,
@@ -31,34 +31,34 @@ pub enum Refusal {
     NumberTaken,
 }
 
-impl Refusal {
+impl HelloRefusal {
     /// The code by which it is told, 1 to 7.
     pub fn code(self) -> u8
         ensures { result ≡ refusal_code self }
     {
         match self {
-            Refusal::AnotherSecret => 1,
-            Refusal::AnotherGroup => 2,
-            Refusal::OtherHosts => 3,
-            Refusal::AnotherLeaseOrSkew => 4,
-            Refusal::AnotherFounding => 5,
-            Refusal::NoSuchActor => 6,
-            Refusal::NumberTaken => 7,
+            HelloRefusal::AnotherSecret => 1,
+            HelloRefusal::AnotherGroup => 2,
+            HelloRefusal::OtherHosts => 3,
+            HelloRefusal::AnotherLeaseOrSkew => 4,
+            HelloRefusal::AnotherFounding => 5,
+            HelloRefusal::NoSuchActor => 6,
+            HelloRefusal::NumberTaken => 7,
         }
     }
 
     // The refusal with this code.
-    pub(crate) fn of_code(code: u8) -> Option<Refusal>
+    pub(crate) fn of_code(code: u8) -> Option<HelloRefusal>
         ensures { IsOfCode result code }
     {
         match code {
-            1 => Some(Refusal::AnotherSecret),
-            2 => Some(Refusal::AnotherGroup),
-            3 => Some(Refusal::OtherHosts),
-            4 => Some(Refusal::AnotherLeaseOrSkew),
-            5 => Some(Refusal::AnotherFounding),
-            6 => Some(Refusal::NoSuchActor),
-            7 => Some(Refusal::NumberTaken),
+            1 => Some(HelloRefusal::AnotherSecret),
+            2 => Some(HelloRefusal::AnotherGroup),
+            3 => Some(HelloRefusal::OtherHosts),
+            4 => Some(HelloRefusal::AnotherLeaseOrSkew),
+            5 => Some(HelloRefusal::AnotherFounding),
+            6 => Some(HelloRefusal::NoSuchActor),
+            7 => Some(HelloRefusal::NumberTaken),
             _ => None,
         }
     }

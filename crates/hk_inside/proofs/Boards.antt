@@ -12,7 +12,7 @@ use Rattle.hk_inside.specs.declared.board.Mark.{Mark}
 use Rattle.hk_inside.specs.declared.board.Mark.TheVariants as marks
 use Rattle.hk_inside.specs.declared.board.BoardLine.{BoardLine}
 use Rattle.hk_inside.specs.declared.board.Board.{Board}
-use Rattle.hk_inside.specs.declared.inquiry.HostTickets.{HostTickets}
+use Rattle.hk_fields.specs.declared.hosts.HostTickets.{HostTickets}
 use Rattle.hk_inside.specs.declared.response.ManagerState.{ManagerState}
 use Rattle.hk_inside.specs.Parts.{state_bytes, IsStateValue, party_bytes, IsPartyValue, IsPartyInRange, mark_byte, flag_byte, line_bytes, board_bytes, IsLineValue, IsBoardValue, IsLineInRange, IsBoardInRange}
 use Rattle.hk_inside.specs.Reading.{node_at, party_of, party_at, mark_of, flag_of, line_of, line_at, board_of, board_at, state_of, state_at}

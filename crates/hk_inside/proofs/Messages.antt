@@ -7,9 +7,9 @@ use Rattle.hk_base.specs.declared.stamp.NodeId.{NodeId}
 use Rattle.hk_fields.specs.declared.tickets.Ticket.{Ticket}
 use Rattle.hk_fields.specs.declared.fault.FieldFault.{FieldFault}
 use Rattle.hk_fields.specs.declared.fault.FieldFault.TheVariants.{Malformed}
-use Rattle.hk_fields.specs.Fields.{◌>>=◌, both, made, within, byte_at, ticket_at, IsTicket}
+use Rattle.hk_fields.specs.Fields.{◌>>=◌, both, made, within, byte_at, ticket_at, IsTicket, IsHostValue}
 use Rattle.hk_fields.proofs.Exact.{IsBytes, bind_ok, passed, ok_is, IsExact, IsBetween, IsByte, IsBelow16, nothing_exact, same_exact, cond_exact, byte_within_exact}
-use Rattle.hk_inside.specs.declared.inquiry.HostTickets.{HostTickets}
+use Rattle.hk_fields.specs.declared.hosts.HostTickets.{HostTickets}
 use Rattle.hk_inside.specs.declared.inquiry.Inquiry.{Inquiry}
 use Rattle.hk_inside.specs.declared.inquiry.Inquiry.TheVariants as asks
 use Rattle.hk_inside.specs.declared.inquiry.Leaver.{Leaver}
@@ -18,7 +18,6 @@ use Rattle.hk_inside.specs.declared.board.Board.{Board}
 use Rattle.hk_inside.specs.declared.response.ManagerState.{ManagerState}
 use Rattle.hk_inside.specs.declared.response.Response.{Response}
 use Rattle.hk_inside.specs.declared.response.Response.TheVariants as answers
-use Rattle.hk_inside.specs.Parts.{IsHostValue}
 use Rattle.hk_inside.specs.Messages.{inquiry_kind, inquiry_fields, inquiry_bytes, IsInquiry, response_kind, response_fields, response_bytes, IsResponseValue, IsResponseInRange}
 use Rattle.hk_inside.specs.Reading.{node_at, founding_at, report_at, leaver_at, claim_at, found_at, inquiry_of, board_at, state_at, all_bytes, status_at, no_at, response_of, all_of, inquiry_at, response_at}
 use Rattle.hk_inside.proofs.Parts.{Part, before, makes, ticket, node, founding, host, AreCounted, counted, report, leaver}

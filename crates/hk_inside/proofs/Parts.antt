@@ -11,8 +11,8 @@ use Rattle.hk_base.specs.declared.letter.Actor.TheVariants as actors
 use Rattle.hk_fields.specs.declared.tickets.Ticket.{Ticket}
 use Rattle.hk_fields.specs.declared.fault.FieldFault.{FieldFault}
 use Rattle.hk_fields.specs.declared.fault.FieldFault.TheVariants.{Malformed}
-use Rattle.hk_fields.specs.Fields.{both, chain, made, within, byte_at, number_at, many, text_bytes, text_at, ticket_at, IsTicket, actor_bytes, actor_at, IsActorField}
-use Rattle.hk_fields.proofs.Exact.{IsExact, Stands, IsBetween, IsByte, byte_text, IsBelow16, IsBelow32, IsBelow64, byte_exact, both_exact, chain_exact, made_exact, same_exact, cond_exact, nothing_exact, within_exact, byte_within_exact, number16_exact, number32_exact, number64_exact, IsTextOf, text_exact, ticket_exact, actor_exact}
+use Rattle.hk_fields.specs.Fields.{both, chain, made, within, byte_at, number_at, many, text_bytes, text_at, ticket_at, IsTicket, host_bytes, host_at, IsHostValue, actor_bytes, actor_at, IsActorField}
+use Rattle.hk_fields.proofs.Exact.{IsExact, Stands, IsBetween, IsByte, byte_text, IsBelow16, IsBelow32, IsBelow64, byte_exact, both_exact, chain_exact, made_exact, same_exact, cond_exact, nothing_exact, within_exact, byte_within_exact, number16_exact, number32_exact, number64_exact, IsTextOf, text_exact, ticket_exact, host_exact, actor_exact}
 use Rattle.hk_fields.proofs.Many.{AreOf, many_exact}
 use Rattle.hk_inside.specs.declared.report.NodeState.{NodeState}
 use Rattle.hk_inside.specs.declared.report.NodeState.TheVariants as states
@@ -22,11 +22,11 @@ use Rattle.hk_inside.specs.declared.report.NodeSeen.{NodeSeen}
 use Rattle.hk_inside.specs.declared.report.Report.{Report}
 use Rattle.hk_inside.specs.declared.board.Stage.{Stage}
 use Rattle.hk_inside.specs.declared.board.Stage.TheVariants as stages
-use Rattle.hk_inside.specs.declared.inquiry.HostTickets.{HostTickets}
+use Rattle.hk_fields.specs.declared.hosts.HostTickets.{HostTickets}
 use Rattle.hk_inside.specs.declared.inquiry.Leaver.{Leaver}
 use Rattle.hk_inside.specs.declared.inquiry.Leaver.TheVariants as leavers
-use Rattle.hk_inside.specs.Parts.{IsText, host_bytes, IsHostValue, leaver_bytes, IsLeaverValue, IsLeaverInRange, stage_byte, number_or_none, place_or_none, age_or_none, node_state_byte, shards_bytes, counts_bytes, seen_bytes, report_bytes, IsShardsValue, IsCountsValue, IsSeenValue, IsReportValue, IsSeenInRange, IsReportInRange}
-use Rattle.hk_inside.specs.Reading.{node_of, node_at, founding_at, counted_at, stage_of, stage_at, host_at, some_node, node_state_of, place_of, place_at, some_age, who_at, shards_of, shards_at, counts_of, counts_at, seen_of, seen_at, places_at, report_of, report_at, leaver_of, leaver_at}
+use Rattle.hk_inside.specs.Parts.{IsText, leaver_bytes, IsLeaverValue, IsLeaverInRange, stage_byte, number_or_none, place_or_none, age_or_none, node_state_byte, shards_bytes, counts_bytes, seen_bytes, report_bytes, IsShardsValue, IsCountsValue, IsSeenValue, IsReportValue, IsSeenInRange, IsReportInRange}
+use Rattle.hk_inside.specs.Reading.{node_of, node_at, founding_at, counted_at, stage_of, stage_at, some_node, node_state_of, place_of, place_at, some_age, who_at, shards_of, shards_at, counts_of, counts_at, seen_of, seen_at, places_at, report_of, report_at, leaver_of, leaver_at}
 
 -- ---- parts with all that is known of them
 
@@ -192,10 +192,6 @@ founding_exact = within_exact (to_be_bytes w64) IsBelow64 1 18446744073709551615
 
 abbrev pub founding : Part ℕ
 founding = record { text = to_be_bytes w64; Fits = IsBetween IsBelow64 1 18446744073709551615; read = founding_at; exact = founding_exact }
-
-pub host_exact : IsExact host_bytes IsHostValue host_at
-unfolding host_at
-host_exact = (makes (λ p. record { manager = p.0; node = p.1 }) (before ticket ticket) host_bytes IsHostValue (record { forth = λ p f. (refl, f); back = λ h f. ((h.manager, h.node), f, refl) })).exact
 
 abbrev pub host : Part HostTickets
 host = record { text = host_bytes; Fits = IsHostValue; read = host_at; exact = host_exact }

@@ -6,13 +6,14 @@ use Rattle.std.proofs.lemmas.List.Concat.{flat_map-cons}
 use Rattle.std.proofs.lemmas.List.Elements.{recursion_from_All}
 use Rattle.hk_inside.specs.declared.report.NodeSeen.{NodeSeen}
 use Rattle.hk_inside.specs.declared.report.Report.{Report}
-use Rattle.hk_inside.specs.declared.inquiry.HostTickets.{HostTickets}
+use Rattle.hk_fields.specs.declared.hosts.HostTickets.{HostTickets}
+use Rattle.hk_fields.specs.Fields.{host_bytes, IsHostValue}
 use Rattle.hk_inside.specs.declared.inquiry.Leaver.{Leaver}
 use Rattle.hk_inside.specs.declared.inquiry.Leaver.TheVariants as leavers
 use Rattle.hk_inside.specs.declared.inquiry.Inquiry.{Inquiry}
 use Rattle.hk_inside.specs.declared.inquiry.Inquiry.TheVariants as asks
 use Rattle.hk_inside.specs.declared.frames.TheConstants.{MAX_LEN}
-use Rattle.hk_inside.specs.Parts.{host_bytes, IsHostValue, leaver_bytes, seen_bytes, who_bytes, shards_bytes, counts_bytes, places_bytes, report_bytes, IsReportValue, IsReportInRange}
+use Rattle.hk_inside.specs.Parts.{leaver_bytes, seen_bytes, who_bytes, shards_bytes, counts_bytes, places_bytes, report_bytes, IsReportValue, IsReportInRange}
 use Rattle.hk_inside.specs.Messages.{inquiry_fields, inquiry_bytes, IsInquiryValue, IsInquiryInRange, IsInquiry}
 
 nodes_size : (nodes : List NodeSeen) → length (flat_map seen_bytes nodes) ≡ 10 * length nodes

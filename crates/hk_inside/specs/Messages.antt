@@ -2,15 +2,15 @@
 use Rattle.std.specs.Prelude.{ℕ, ◌<◌, ◌≤◌, ◌^◌, List, [], ◌∷◌, ◌++◌, length, All, ⊤}
 use Rattle.std.specs.Int.{w16, w32, w64, to_be_bytes}
 use Rattle.std.specs.List.{flat_map}
-use Rattle.hk_fields.specs.Fields.{IsTicket}
+use Rattle.hk_fields.specs.Fields.{IsTicket, host_bytes, IsHostValue}
 use Rattle.hk_inside.specs.declared.inquiry.Inquiry.{Inquiry}
 use Rattle.hk_inside.specs.declared.inquiry.Inquiry.TheVariants as asks
 use Rattle.hk_inside.specs.declared.response.Response.{Response}
 use Rattle.hk_inside.specs.declared.response.Response.TheVariants as answers
-use Rattle.hk_inside.specs.declared.refusal.Refusal.{Refusal}
-use Rattle.hk_inside.specs.declared.refusal.Refusal.TheVariants as refusals
+use Rattle.hk_inside.specs.declared.refusal.ManagerRefusal.{ManagerRefusal}
+use Rattle.hk_inside.specs.declared.refusal.ManagerRefusal.TheVariants as refusals
 use Rattle.hk_inside.specs.declared.frames.TheConstants.{MAX_LEN}
-use Rattle.hk_inside.specs.Parts.{host_bytes, IsHostValue, leaver_bytes, IsLeaverValue, IsLeaverInRange, state_bytes, IsStateValue, report_bytes, IsReportValue, IsReportInRange, board_bytes, IsBoardValue, IsBoardInRange}
+use Rattle.hk_inside.specs.Parts.{leaver_bytes, IsLeaverValue, IsLeaverInRange, state_bytes, IsStateValue, report_bytes, IsReportValue, IsReportInRange, board_bytes, IsBoardValue, IsBoardInRange}
 
 -- a frame: the length of what follows, in 4 bytes, and that
 abbrev pub framed : List ℕ → List ℕ
@@ -119,7 +119,7 @@ pub record IsResponse (response : Response) : Type 0 where
 -- ---- refusals
 
 -- the code by which NO tells a refusal
-abbrev pub refusal_code : Refusal → ℕ
+abbrev pub refusal_code : ManagerRefusal → ℕ
 refusal_code (refusals.Lives founding) = 1
 refusal_code (refusals.OtherLease address) = 2
 refusal_code (refusals.NodeIsReady node) = 3

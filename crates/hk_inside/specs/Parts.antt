@@ -3,7 +3,7 @@ use Rattle.std.specs.Prelude.{ℕ, ◌<◌, ◌≤◌, ◌^◌, Bool, true, fals
 use Rattle.std.specs.Int.{w16, w32, w64, to_be_bytes}
 use Rattle.std.specs.List.{flat_map}
 use Rattle.hk_base.specs.declared.stamp.NodeId.{NodeId}
-use Rattle.hk_fields.specs.Fields.{text_bytes, IsTicket}
+use Rattle.hk_fields.specs.Fields.{text_bytes, IsTicket, host_bytes, IsHostValue}
 use Rattle.hk_inside.specs.declared.report.NodeState.{NodeState}
 use Rattle.hk_inside.specs.declared.report.NodeState.TheVariants as states
 use Rattle.hk_inside.specs.declared.report.ShardsTold.{ShardsTold}
@@ -18,7 +18,6 @@ use Rattle.hk_inside.specs.declared.board.Mark.{Mark}
 use Rattle.hk_inside.specs.declared.board.Mark.TheVariants as marks
 use Rattle.hk_inside.specs.declared.board.BoardLine.{BoardLine}
 use Rattle.hk_inside.specs.declared.board.Board.{Board}
-use Rattle.hk_inside.specs.declared.inquiry.HostTickets.{HostTickets}
 use Rattle.hk_inside.specs.declared.inquiry.Leaver.{Leaver}
 use Rattle.hk_inside.specs.declared.inquiry.Leaver.TheVariants as leavers
 use Rattle.hk_inside.specs.declared.response.ManagerState.{ManagerState}
@@ -27,14 +26,7 @@ use Rattle.hk_inside.specs.declared.response.ManagerState.{ManagerState}
 abbrev pub IsText : List ℕ → Type 0
 IsText text = length text < 256
 
--- ---- hosts, who is to leave, how a manager stands
-
--- the ticket of a host's manager, and that of its node
-abbrev pub host_bytes : HostTickets → List ℕ
-host_bytes host = host.manager.0 ++ host.node.0
-
-abbrev pub IsHostValue : HostTickets → Type 0
-IsHostValue host = IsTicket host.manager × IsTicket host.node
+-- ---- who is to leave, how a manager stands
 
 -- 0 and a node's number, or 1 and a host's place, each in 2 bytes
 abbrev pub leaver_bytes : Leaver → List ℕ

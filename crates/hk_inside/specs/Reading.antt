@@ -8,7 +8,7 @@ use Rattle.hk_base.specs.declared.letter.Actor.TheVariants as actors
 use Rattle.hk_fields.specs.declared.tickets.Ticket.{Ticket}
 use Rattle.hk_fields.specs.declared.fault.FieldFault.{FieldFault}
 use Rattle.hk_fields.specs.declared.fault.FieldFault.TheVariants.{Malformed}
-use Rattle.hk_fields.specs.Fields.{◌>>=◌, both, chain, made, within, byte_at, number_at, many, text_at, ticket_at, actor_at}
+use Rattle.hk_fields.specs.Fields.{◌>>=◌, both, chain, made, within, byte_at, number_at, many, text_at, ticket_at, host_at, actor_at}
 use Rattle.hk_inside.specs.declared.report.NodeState.{NodeState}
 use Rattle.hk_inside.specs.declared.report.NodeState.TheVariants as states
 use Rattle.hk_inside.specs.declared.report.ShardsTold.{ShardsTold}
@@ -23,7 +23,7 @@ use Rattle.hk_inside.specs.declared.board.Mark.{Mark}
 use Rattle.hk_inside.specs.declared.board.Mark.TheVariants as marks
 use Rattle.hk_inside.specs.declared.board.BoardLine.{BoardLine}
 use Rattle.hk_inside.specs.declared.board.Board.{Board}
-use Rattle.hk_inside.specs.declared.inquiry.HostTickets.{HostTickets}
+use Rattle.hk_fields.specs.declared.hosts.HostTickets.{HostTickets}
 use Rattle.hk_inside.specs.declared.inquiry.Leaver.{Leaver}
 use Rattle.hk_inside.specs.declared.inquiry.Leaver.TheVariants as leavers
 use Rattle.hk_inside.specs.declared.inquiry.Inquiry.{Inquiry}
@@ -53,9 +53,6 @@ stage_of n = if n == 0 then stages.Empty else (if n == 1 then stages.Founded els
 
 unfoldable pub stage_at : List ℕ → Result (Stage × List ℕ) FieldFault
 stage_at bytes = made stage_of (within 0 2 byte_at) bytes
-
-unfoldable pub host_at : List ℕ → Result (HostTickets × List ℕ) FieldFault
-host_at bytes = made (λ p. record { manager = p.0; node = p.1 }) (both ticket_at ticket_at) bytes
 
 -- ---- reports
 

@@ -3,13 +3,12 @@
 ghost use Rattle.std.specs.Prelude.{◌≡◌, IfOk, OnErr, Err};
 ghost use Rattle.hk_fields.specs.declared.fault.FieldFault.TheVariants.{Memory};
 ghost use Rattle.hk_fields.specs.Fields.{Gives, text_at};
-ghost use Rattle.hk_inside.specs.Reading.{node_at, founding_at, stage_of, stage_at, host_at};
+ghost use Rattle.hk_inside.specs.Reading.{node_at, founding_at, stage_of, stage_at};
 
 use crate::board::Stage;
-use crate::inquiry::HostTickets;
 use crate::report::Text;
 use hk_base::NodeId;
-use hk_fields::{FieldFault, byte_within, number16, number64_within, put, text, ticket};
+use hk_fields::{FieldFault, byte_within, number16, number64_within, put, text};
 use std::alloc::Global;
 
 #[tactic(auto, unfolding(crate::specs::Reading::node_at))]
@@ -45,15 +44,6 @@ pub fn stage(bytes: &[u8]) -> Result<(Stage, &[u8]), FieldFault>
 {
     let (byte, rest) = byte_within(0, 2, bytes)?;
     Ok((stage_of(byte), rest))
-}
-
-#[tactic(auto, unfolding(crate::specs::Reading::host_at))]
-pub fn host(bytes: &[u8]) -> Result<(HostTickets, &[u8]), FieldFault>
-    ensures { Gives (λ x. (x.0, x.1.now)) result (host_at bytes.now) }
-{
-    let (manager, rest) = ticket(bytes)?;
-    let (node, rest) = ticket(rest)?;
-    Ok((HostTickets { manager, node }, rest))
 }
 
 // Bytes, whatever they are, that are kept.

@@ -1,14 +1,14 @@
 //! Inquiries, read from the front of some bytes.
 
 ghost use Rattle.std.specs.Prelude.{◌≡◌};
-ghost use Rattle.hk_fields.specs.Fields.{Gives, many};
-ghost use Rattle.hk_inside.specs.Reading.{counted_at, host_at, leaver_of, leaver_at, claim_at, found_at, inquiry_of, inquiry_at};
+ghost use Rattle.hk_fields.specs.Fields.{Gives, host_at};
+ghost use Rattle.hk_inside.specs.Reading.{counted_at, leaver_of, leaver_at, claim_at, found_at, inquiry_of, inquiry_at};
 
-use crate::fields::{founding, host, node};
-use crate::inquiry::{Hosts, Inquiry, Leaver};
+use crate::fields::{founding, node};
+use crate::inquiry::{Inquiry, Leaver};
 use crate::reports::report;
 use hk_base::Actor;
-use hk_fields::{FieldFault, actor, byte, byte_within, ticket};
+use hk_fields::{FieldFault, FoundingHosts, actor, byte, byte_within, many_hosts, ticket};
 use std::alloc::Global;
 
 fn leaver_of(actor: Actor) -> Leaver
@@ -37,22 +37,7 @@ fn claim(bytes: &[u8]) -> Result<(Inquiry, &[u8]), FieldFault>
     Ok((Inquiry::Claim { node, ticket }, rest))
 }
 
-fn many_hosts(alloc: Global, count: u8, bytes: &[u8]) -> Result<(Hosts, &[u8]), FieldFault>
-    ensures { Gives (λ x. (x.0, x.1.now)) result (many host_at count bytes.now) }
-{
-    let mut hosts = Hosts::new(alloc);
-    let mut rest = bytes;
-    for _ in 0..count {
-        let (host, after) = host(rest)?;
-        if hosts.push(host).is_err() {
-            return Err(FieldFault::Memory);
-        }
-        rest = after;
-    }
-    Ok((hosts, rest))
-}
-
-fn hosts(alloc: Global, bytes: &[u8]) -> Result<(Hosts, &[u8]), FieldFault>
+fn hosts(alloc: Global, bytes: &[u8]) -> Result<(FoundingHosts, &[u8]), FieldFault>
     ensures { Gives (λ x. (x.0, x.1.now)) result (counted_at 1 9 host_at bytes.now) }
 {
     let (count, rest) = byte_within(1, 9, bytes)?;

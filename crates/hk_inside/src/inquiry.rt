@@ -1,18 +1,8 @@
 //! What the processes of a group ask of managers.
 
 use crate::report::Report;
-use hk_base::{NodeId, Sequence};
-use hk_fields::Ticket;
-
-/// The tickets of a host: its manager's, and its node's. A node that does not wait for a group has the ticket 0.
-#[derive(Clone, Copy, Debug, PartialEq, Eq)]
-pub struct HostTickets {
-    pub manager: Ticket,
-    pub node: Ticket,
-}
-
-/// The 1 to 9 hosts of a group, by their places.
-pub type Hosts = Sequence<HostTickets>;
+use hk_base::NodeId;
+use hk_fields::{FoundingHosts, Ticket};
 
 /// Who is to leave.
 #[derive(Clone, Copy, Debug, PartialEq, Eq)]
@@ -34,7 +24,7 @@ pub enum Inquiry {
     /// How does the manager stand? It is to be reserved for this founding, which is not 0.
     Look { founding: u64 },
     /// It is to found the group with this number, which is not 0.
-    Found { founding: u64, hosts: Hosts },
+    Found { founding: u64, hosts: FoundingHosts },
     /// A node is to leave.
     Leave(Leaver),
     /// How does the group stand?

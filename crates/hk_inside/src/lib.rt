@@ -31,8 +31,9 @@ ghost use Rattle.hk_inside.specs.Laws.{NoneBegins, NoneIsBoth, FrontsAreShort};
 pub use board::{Board, BoardLine, BoardLines, Mark, Party, Stage};
 pub use fault::{MessageFault, PrintFault};
 pub use frames::{MAX_LEN, print_inquiry, print_response, read_inquiry, read_response};
-pub use inquiry::{HostTickets, Hosts, Inquiry, Leaver};
-pub use refusal::Refusal;
+pub use hk_fields::{FoundingHosts, HostTickets};
+pub use inquiry::{Inquiry, Leaver};
+pub use refusal::ManagerRefusal;
 pub use report::{Counts, NodeSeen, NodeState, NodesSeen, Report, ShardsTold, Text};
 pub use response::{ManagerState, Response};
 

@@ -3,31 +3,19 @@
 ghost use Rattle.std.specs.Prelude.{◌≡◌, ◌++◌, ◌∷◌, [], ◌<◌, ◌≤◌, length, OnOk, All, IfSome};
 ghost use Rattle.std.specs.Int.{w16, w32, w64, to_be_bytes};
 ghost use Rattle.std.specs.List.{flat_map};
-ghost use Rattle.hk_inside.specs.Parts.{IsText, host_bytes, leaver_bytes, IsLeaverInRange, stage_byte, state_bytes, number_or_none, place_or_none, age_or_none, node_state_byte, shards_bytes, counts_bytes, seen_bytes, nodes_bytes, who_bytes, places_bytes, report_bytes, IsReportInRange, party_bytes, mark_byte, flag_byte, line_bytes, lines_bytes, board_bytes, IsLineInRange, IsBoardInRange};
+ghost use Rattle.hk_fields.specs.Fields.{host_bytes};
+ghost use Rattle.hk_inside.specs.Parts.{IsText, leaver_bytes, IsLeaverInRange, stage_byte, state_bytes, number_or_none, place_or_none, age_or_none, node_state_byte, shards_bytes, counts_bytes, seen_bytes, nodes_bytes, who_bytes, places_bytes, report_bytes, IsReportInRange, party_bytes, mark_byte, flag_byte, line_bytes, lines_bytes, board_bytes, IsLineInRange, IsBoardInRange};
 ghost use Rattle.hk_inside.specs.Messages.{inquiry_kind, inquiry_fields, inquiry_bytes, IsInquiryInRange, response_kind, response_fields, response_bytes, IsResponseInRange};
 
 use crate::board::{Board, BoardLine, Mark, Party, Stage};
-use crate::inquiry::{HostTickets, Inquiry, Leaver};
+use crate::inquiry::{Inquiry, Leaver};
 use crate::report::{Counts, NodeSeen, NodeState, Report, ShardsTold};
 use crate::response::{ManagerState, Response};
 use hk_base::{Memory, NodeId};
-use hk_fields::{put, put_byte, put_number16, put_number32, put_number64, put_text, put_ticket};
-
-fn put_host(out: &mut Vec<u8>, host: &HostTickets) -> Result<(), Memory>
-    ensures { OnOk result (out.new.items ≡ out.old.items ++ host_bytes host.now) }
-{
-    put_ticket(out, host.manager)?;
-    put_ticket(out, host.node)
-}
-
-fn put_hosts(out: &mut Vec<u8>, hosts: &[HostTickets]) -> Result<(), Memory>
-    ensures { OnOk result (out.new.items ≡ out.old.items ++ flat_map host_bytes hosts.now) }
-{
-    for host in hosts {
-        put_host(out, host)?;
-    }
-    Ok(())
-}
+use hk_fields::{
+    HostTickets, put, put_byte, put_host, put_hosts, put_number16, put_number32, put_number64,
+    put_text, put_ticket,
+};
 
 fn put_found(out: &mut Vec<u8>, founding: u64, hosts: &[HostTickets]) -> Result<(), Memory>
     requires { length hosts.now ≤ 9 }

@@ -7,7 +7,7 @@ use thiserror::Error;
 
 /// Why a manager refuses, or `init` by what managers told it. The text is what NO carries beside the code.
 #[derive(Clone, Copy, Debug, PartialEq, Eq, Error)]
-pub enum Refusal<'a> {
+pub enum ManagerRefusal<'a> {
     /// The group is open, with this founding.
     #[error("the group lives: founding {0:016x}")]
     Lives(u64),
@@ -40,22 +40,22 @@ pub enum Refusal<'a> {
     AnotherInit,
 }
 
-impl<'a> Refusal<'a> {
+impl<'a> ManagerRefusal<'a> {
     /// The code by which NO tells it, 1 to 10.
     pub fn code(&self) -> u8
         ensures { result ≡ refusal_code self.now }
     {
         match self {
-            Refusal::Lives(_) => 1,
-            Refusal::OtherLease(_) => 2,
-            Refusal::NodeIsReady(_) => 3,
-            Refusal::LeaseMayRun(_) => 4,
-            Refusal::NoSuchMember => 5,
-            Refusal::NoOtherIsReady => 6,
-            Refusal::Taken(_) => 7,
-            Refusal::Wait => 8,
-            Refusal::NoMajority => 9,
-            Refusal::AnotherInit => 10,
+            ManagerRefusal::Lives(_) => 1,
+            ManagerRefusal::OtherLease(_) => 2,
+            ManagerRefusal::NodeIsReady(_) => 3,
+            ManagerRefusal::LeaseMayRun(_) => 4,
+            ManagerRefusal::NoSuchMember => 5,
+            ManagerRefusal::NoOtherIsReady => 6,
+            ManagerRefusal::Taken(_) => 7,
+            ManagerRefusal::Wait => 8,
+            ManagerRefusal::NoMajority => 9,
+            ManagerRefusal::AnotherInit => 10,
         }
     }
 }

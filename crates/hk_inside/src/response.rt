@@ -1,8 +1,8 @@
 //! What managers answer.
 
 use crate::board::{Board, Stage};
-use crate::inquiry::HostTickets;
 use hk_base::{NodeId, Sequence};
+use hk_fields::HostTickets;
 
 /// How a manager stands, as one who looks is told.
 #[derive(Clone, Copy, Debug, PartialEq, Eq)]

@@ -5,11 +5,11 @@ ghost use Rattle.hk_fields.specs.Fields.{Gives, made, within, byte_at, many};
 ghost use Rattle.hk_inside.specs.Reading.{counted_at, party_of, party_at, mark_of, flag_of, line_at, board_at, state_at, all_bytes, status_at, no_at, response_of, response_at};
 
 use crate::board::{Board, BoardLine, BoardLines, Mark, Party};
-use crate::fields::{host, kept, node, some_text, stage};
+use crate::fields::{kept, node, some_text, stage};
 use crate::response::{ManagerState, Response};
 use hk_base::Sequence;
 use hk_fields::{
-    FieldFault, byte, byte_within, number16, number16_within, number32, number64, ticket,
+    FieldFault, byte, byte_within, host, number16, number16_within, number32, number64, ticket,
 };
 use std::alloc::Global;
 

@@ -1,22 +1,15 @@
 //! What the types of a message's parts keep, which the laws of messages have as a premise. These functions do nothing.
 
 ghost use Rattle.std.specs.Prelude.{All, ◌<◌, ◌^◌};
-ghost use Rattle.hk_fields.specs.Fields.{IsTicket};
-ghost use Rattle.hk_inside.specs.Parts.{IsHostValue, IsLeaverValue, IsStateValue, IsShardsValue, IsCountsValue, IsSeenValue, IsReportValue, IsPartyValue, IsLineValue, IsBoardValue};
+ghost use Rattle.hk_inside.specs.Parts.{IsLeaverValue, IsStateValue, IsShardsValue, IsCountsValue, IsSeenValue, IsReportValue, IsPartyValue, IsLineValue, IsBoardValue};
 ghost use Rattle.hk_inside.specs.Messages.{IsInquiryValue, IsResponseValue};
 
 use crate::board::{Board, BoardLine, Party};
-use crate::inquiry::{HostTickets, Inquiry, Leaver};
+use crate::inquiry::{Inquiry, Leaver};
 use crate::report::{Counts, NodeSeen, Report, ShardsTold};
 use crate::response::{ManagerState, Response};
 use hk_base::NodeId;
-use hk_fields::Ticket;
-
-fn ticket_is_value(ticket: Ticket)
-    ensures { IsTicket ticket }
-{
-    let _bytes = ticket.0;
-}
+use hk_fields::{host_is_value, hosts_are_values, ticket_is_value};
 
 fn node_is_value(node: NodeId)
     ensures { node.0 < 2 ^ 16 }
@@ -28,21 +21,6 @@ fn number_is_value(number: u64)
     ensures { number < 2 ^ 64 }
 {
     let _number = number;
-}
-
-fn host_is_value(host: &HostTickets)
-    ensures { IsHostValue host.now }
-{
-    ticket_is_value(host.manager);
-    ticket_is_value(host.node);
-}
-
-fn hosts_are_values(hosts: &[HostTickets])
-    ensures { All IsHostValue hosts.now }
-{
-    for host in hosts {
-        host_is_value(host);
-    }
 }
 
 fn leaver_is_value(leaver: Leaver)

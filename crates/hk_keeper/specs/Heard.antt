@@ -3,9 +3,9 @@ use Rattle.std.specs.Prelude.{ℕ, ◌*◌, ◌/◌, Bool, true, false, not, ◌
 use Rattle.std.specs.List.{list_any, list_all, count_by}
 use Rattle.hk_base.specs.declared.stamp.NodeId.{NodeId}
 use Rattle.hk_base.specs.View.{is_member}
-use Rattle.hk_keeper.specs.declared.heard.Phase.{Phase}
-use Rattle.hk_keeper.specs.declared.heard.Phase.TheVariants.{Waiting, Seated, Copying, Ready, Leaving}
-use Rattle.hk_keeper.specs.declared.heard.PhaseTold.{PhaseTold}
+use Rattle.hk_inside.specs.declared.report.NodeState.{NodeState}
+use Rattle.hk_inside.specs.declared.report.NodeState.TheVariants.{Waiting, Seated, Copying, Ready, Leaving}
+use Rattle.hk_keeper.specs.declared.heard.StateTold.{StateTold}
 use Rattle.hk_keeper.specs.declared.heard.NodeHeard.{NodeHeard}
 use Rattle.hk_keeper.specs.declared.heard.ManagerHeard.{ManagerHeard}
 use Rattle.hk_keeper.specs.declared.heard.ShardHeard.{ShardHeard}
@@ -45,27 +45,27 @@ majority_hears h n = nat_lt (length h.managers / 2) (count_by (hears h n) h.mana
 abbrev pub is_gone : Heard → NodeHeard → Bool
 is_gone h n = not (is_younger n h.lease) && not (majority_hears h n)
 
-abbrev pub is_ready_phase : Phase → Bool
-is_ready_phase Waiting = false
-is_ready_phase Seated = false
-is_ready_phase Copying = false
-is_ready_phase Ready = true
-is_ready_phase Leaving = false
+abbrev pub is_ready_state : NodeState → Bool
+is_ready_state Waiting = false
+is_ready_state Seated = false
+is_ready_state Copying = false
+is_ready_state Ready = true
+is_ready_state Leaving = false
 
-abbrev pub is_leaving_phase : Phase → Bool
-is_leaving_phase Waiting = false
-is_leaving_phase Seated = false
-is_leaving_phase Copying = false
-is_leaving_phase Ready = false
-is_leaving_phase Leaving = true
+abbrev pub is_leaving_state : NodeState → Bool
+is_leaving_state Waiting = false
+is_leaving_state Seated = false
+is_leaving_state Copying = false
+is_leaving_state Ready = false
+is_leaving_state Leaving = true
 
-abbrev pub told_ready : Option PhaseTold → ℕ → Bool
+abbrev pub told_ready : Option StateTold → ℕ → Bool
 told_ready None time = false
-told_ready (Some told) time = is_ready_phase told.phase && nat_le told.age time
+told_ready (Some told) time = is_ready_state told.state && nat_le told.age time
 
-abbrev pub told_leaving : Option PhaseTold → ℕ → Bool
+abbrev pub told_leaving : Option StateTold → ℕ → Bool
 told_leaving None time = false
-told_leaving (Some told) time = is_leaving_phase told.phase && nat_le told.age time
+told_leaving (Some told) time = is_leaving_state told.state && nat_le told.age time
 
 -- *ready*: it told so within a lease, and its age is below a lease
 abbrev pub is_ready : Heard → NodeHeard → Bool

@@ -1,26 +1,12 @@
 //! What a manager has heard, and what it wishes.
 
 use hk_base::{Change, NodeId, Sequence, View};
-
-/// What a node's process does.
-#[derive(Clone, Copy, Debug, PartialEq, Eq)]
-pub enum Phase {
-    /// It has no number yet.
-    Waiting,
-    /// It has a number, and waits for a view in which it is a member.
-    Seated,
-    /// It copies the store.
-    Copying,
-    /// It serves clients.
-    Ready,
-    /// It wants to be left out.
-    Leaving,
-}
+use hk_inside::NodeState;
 
 /// What a node's last report told of it.
 #[derive(Clone, Copy, Debug, PartialEq, Eq)]
-pub struct PhaseTold {
-    pub phase: Phase,
+pub struct StateTold {
+    pub state: NodeState,
     /// How long ago it came, in milliseconds.
     pub age: u64,
 }
@@ -41,7 +27,7 @@ pub struct NodeHeard {
     /// Whether the number is bound to a process.
     pub bound: bool,
     /// What its last report told, if one came.
-    pub told: Option<PhaseTold>,
+    pub told: Option<StateTold>,
     /// Its last asks, by shards.
     pub asks: [Ask; 8],
 }

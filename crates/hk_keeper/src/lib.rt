@@ -20,6 +20,6 @@ mod standing;
 mod table;
 
 pub use heard::{
-    AgeTold, Ask, Heard, ManagerHeard, NodeHeard, Phase, PhaseTold, Proposal, ShardHeard, Wish,
+    AgeTold, Ask, Heard, ManagerHeard, NodeHeard, Proposal, ShardHeard, StateTold, Wish,
 };
 pub use laws::{numbers_move_together, the_last_ready_stays, views_begin_behind_the_wait};

@@ -1,11 +1,12 @@
 //! How managers and nodes stand.
 
 ghost use Rattle.std.specs.Prelude.{◌≡◌};
-ghost use Rattle.std.specs.List.{count_by};
+ghost use Rattle.std.specs.List.{count_by, list_all};
 ghost use Rattle.hk_keeper.specs.Heard.{is_within, is_up, majority_up, is_younger, told_younger, hears, majority_hears, is_gone, told_ready, told_leaving, is_ready, is_leaving, is_out, is_lost, has_to_go, one_ready, another_ready, asks_everywhere, is_silent, may_join, next_may_join, is_behind, all_level};
 
-use crate::heard::{Heard, ManagerHeard, NodeHeard, Phase, PhaseTold, ShardHeard};
+use crate::heard::{Heard, ManagerHeard, NodeHeard, ShardHeard, StateTold};
 use hk_base::NodeId;
+use hk_inside::NodeState;
 
 fn is_within(age: Option<u64>, time: u64) -> bool
     ensures { result ≡ is_within age time }
@@ -16,20 +17,20 @@ fn is_within(age: Option<u64>, time: u64) -> bool
     }
 }
 
-fn told_ready(told: Option<PhaseTold>, time: u64) -> bool
+fn told_ready(told: Option<StateTold>, time: u64) -> bool
     ensures { result ≡ told_ready told time }
 {
     match told {
-        Some(told) => matches!(told.phase, Phase::Ready) && told.age <= time,
+        Some(told) => matches!(told.state, NodeState::Ready) && told.age <= time,
         None => false,
     }
 }
 
-fn told_leaving(told: Option<PhaseTold>, time: u64) -> bool
+fn told_leaving(told: Option<StateTold>, time: u64) -> bool
     ensures { result ≡ told_leaving told time }
 {
     match told {
-        Some(told) => matches!(told.phase, Phase::Leaving) && told.age <= time,
+        Some(told) => matches!(told.state, NodeState::Leaving) && told.age <= time,
         None => false,
     }
 }
@@ -93,7 +94,8 @@ impl Heard {
             .count()
     }
 
-    pub(crate) fn majority_up(&self) -> bool
+    /// Whether more than half of the managers are up, this one counted.
+    pub fn majority_up(&self) -> bool
         ensures { result ≡ majority_up self.now }
     {
         self.managers.len() / 2 < self.count_up()
@@ -173,6 +175,26 @@ impl Heard {
     {
         self.nodes.as_slice().iter().any(|node| shard.held.has_member(node.node)
             && self.is_ready(node))
+    }
+
+    /// Whether in each shard a member is ready.
+    pub fn each_has_ready(&self) -> bool
+        ensures { result ≡ list_all (one_ready self.now) self.now.shards }
+    {
+        self.shards
+            .as_slice()
+            .iter()
+            .all(|shard| self.one_ready(shard))
+    }
+
+    /// Whether in each shard a member is ready that is not this one.
+    pub fn each_has_another(&self, member: NodeId) -> bool
+        ensures { result ≡ list_all (λ s. another_ready self.now s member) self.now.shards }
+    {
+        self.shards
+            .as_slice()
+            .iter()
+            .all(|shard| self.another_ready(shard, member))
     }
 
     pub(crate) fn another_ready(&self, shard: &ShardHeard, member: NodeId) -> bool

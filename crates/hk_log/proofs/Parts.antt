@@ -7,22 +7,16 @@ use Rattle.std.proofs.lemmas.List.Elements.{All-from_recursion, recursion_from_A
 use Rattle.hk_base.specs.declared.view.Change.{Change}
 use Rattle.hk_base.specs.declared.view.Change.TheVariants.{Drop, Add}
 use Rattle.hk_fields.specs.declared.tickets.Ticket.{Ticket}
-use Rattle.hk_fields.specs.Fields.{both, chain, made, within, byte_at, number_at, many, ticket_at, IsTicket}
-use Rattle.hk_fields.proofs.Exact.{IsExact, IsBetween, IsByte, byte_text, IsBelow16, IsBelow32, IsBelow64, both_exact, chain_exact, made_exact, cond_exact, within_exact, byte_within_exact, number16_exact, number32_exact, number64_exact, ticket_exact}
+use Rattle.hk_fields.specs.Fields.{both, chain, made, within, byte_at, number_at, many, host_bytes, host_at, IsHostValue}
+use Rattle.hk_fields.proofs.Exact.{IsExact, IsBetween, IsByte, byte_text, IsBelow16, IsBelow32, IsBelow64, both_exact, chain_exact, made_exact, cond_exact, within_exact, byte_within_exact, number16_exact, number32_exact, number64_exact, host_exact}
 use Rattle.hk_fields.proofs.Many.{AreOf, many_exact}
-use Rattle.hk_log.specs.declared.entry.HostTickets.{HostTickets}
+use Rattle.hk_fields.specs.declared.hosts.HostTickets.{HostTickets}
 use Rattle.hk_log.specs.declared.entry.Founding.{Founding}
-use Rattle.hk_log.specs.Entries.{host_bytes, founding_bytes, change_bytes, IsHostValue, IsFoundingValue, IsFounding, IsChangeValue}
-use Rattle.hk_log.specs.Fields.{host_at, settings_at, hosts_at, founding_of, founding_at, change_of, change_at}
+use Rattle.hk_log.specs.Entries.{founding_bytes, change_bytes, IsFoundingValue, IsFounding, IsChangeValue}
+use Rattle.hk_log.specs.Fields.{settings_at, hosts_at, founding_of, founding_at, change_of, change_at}
 
 abbrev pub ticket_text : Ticket → List ℕ
 ticket_text t = t.0
-
-host_exact : IsExact host_bytes IsHostValue host_at
-unfolding host_at
-host_exact = made_exact (λ p. record { manager = p.0; node = p.1 }) (λ p. ticket_text p.0 ++ ticket_text p.1) (λ p. IsTicket p.0 × IsTicket p.1) (both ticket_at ticket_at) host_bytes IsHostValue
-    (both_exact ticket_text IsTicket ticket_at ticket_text IsTicket ticket_at ticket_exact ticket_exact)
-    (record { forth = λ p f. (refl, f); back = λ h f. ((h.manager, h.node), f, refl) })
 
 abbrev Settings : Type 0
 Settings = ℕ × (ℕ × List HostTickets)

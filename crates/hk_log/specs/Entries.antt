@@ -11,15 +11,10 @@ use Rattle.hk_base.specs.declared.view.Change.TheVariants.{Drop, Add}
 use Rattle.hk_base.specs.Lengths.{IsInRange}
 use Rattle.hk_frame.specs.Frames.{frame}
 use Rattle.hk_frame.specs.Sendable.{IsLetterValue}
-use Rattle.hk_fields.specs.Fields.{actor_bytes, IsTicket}
-use Rattle.hk_log.specs.declared.entry.HostTickets.{HostTickets}
+use Rattle.hk_fields.specs.Fields.{host_bytes, IsHostValue, actor_bytes, IsTicket}
 use Rattle.hk_log.specs.declared.entry.Founding.{Founding}
 use Rattle.hk_log.specs.declared.entry.Entry.{Entry}
 use Rattle.hk_log.specs.declared.entry.Entry.TheVariants.{Founded, Open, Propose, Receive, Bound}
-
--- the ticket of a host's manager, and that of its node
-abbrev pub host_bytes : HostTickets → List ℕ
-host_bytes host = host.manager.0 ++ host.node.0
 
 -- the number in 8 bytes, this host's place and how many hosts there are in 1 byte each, lease and skew in 4 each, and
 -- the hosts' tickets
@@ -50,9 +45,6 @@ abbrev pub entry_bytes : Entry → List ℕ
 entry_bytes entry = entry_kind entry ∷ entry_fields entry
 
 -- ---- what the types keep
-
-abbrev pub IsHostValue : HostTickets → Type 0
-IsHostValue host = IsTicket host.manager × IsTicket host.node
 
 pub record IsFoundingValue (f : Founding) : Type 0 where
   pub number : f.number < 2 ^ 64

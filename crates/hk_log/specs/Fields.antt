@@ -7,17 +7,14 @@ use Rattle.hk_base.specs.declared.view.Change.{Change}
 use Rattle.hk_base.specs.declared.view.Change.TheVariants.{Drop, Add}
 use Rattle.hk_fields.specs.declared.fault.FieldFault.{FieldFault}
 use Rattle.hk_fields.specs.declared.fault.FieldFault.TheVariants.{Malformed}
-use Rattle.hk_fields.specs.Fields.{both, chain, made, within, byte_at, number_at, many, ticket_at, actor_at}
+use Rattle.hk_fields.specs.Fields.{both, chain, made, within, byte_at, number_at, many, ticket_at, host_at, actor_at}
 use Rattle.hk_frame.specs.declared.fault.FrameFault.{FrameFault}
 use Rattle.hk_frame.specs.Told.{frame_at}
-use Rattle.hk_log.specs.declared.entry.HostTickets.{HostTickets}
+use Rattle.hk_fields.specs.declared.hosts.HostTickets.{HostTickets}
 use Rattle.hk_log.specs.declared.entry.Founding.{Founding}
 use Rattle.hk_log.specs.declared.entry.Entry.{Entry}
 use Rattle.hk_log.specs.declared.entry.Entry.TheVariants.{Founded, Open, Propose, Receive, Bound}
 use Rattle.hk_log.specs.Entries.{is_of_paxos}
-
-unfoldable pub host_at : List ℕ → Result (HostTickets × List ℕ) FieldFault
-host_at bytes = made (λ p. record { manager = p.0; node = p.1 }) (both ticket_at ticket_at) bytes
 
 -- lease, skew and the tickets of so many hosts
 unfoldable pub settings_at : ℕ → List ℕ → Result ((ℕ × (ℕ × List HostTickets)) × List ℕ) FieldFault

@@ -1,17 +1,7 @@
 //! The entries of a log.
 
 use hk_base::{Actor, Change, Letter, Sequence};
-use hk_fields::Ticket;
-
-/// The tickets of a host: its manager's, and its node's. A node that does not wait for a group has the ticket 0.
-#[derive(Clone, Copy, Debug, PartialEq, Eq)]
-pub struct HostTickets {
-    pub manager: Ticket,
-    pub node: Ticket,
-}
-
-/// The hosts of a group, by their places.
-pub type Hosts = Sequence<HostTickets>;
+use hk_fields::{FoundingHosts, Ticket};
 
 /// What a group is founded with.
 #[derive(Drop)]
@@ -25,7 +15,7 @@ pub struct Founding {
     /// How far clocks may jump, in milliseconds.
     pub skew: u32,
     /// The 1 to 9 hosts.
-    pub hosts: Hosts,
+    pub hosts: FoundingHosts,
 }
 
 /// What a manager logs before anybody may hear of it.

@@ -1,49 +1,25 @@
 //! The fields of entries, each read from the front of some bytes.
 
 ghost use Rattle.std.specs.Prelude.{◌≡◌, ◌≤◌};
-ghost use Rattle.hk_fields.specs.Fields.{Gives, many};
+ghost use Rattle.hk_fields.specs.Fields.{Gives};
 ghost use Rattle.hk_log.specs.Entries.{is_of_paxos};
-ghost use Rattle.hk_log.specs.Fields.{host_at, settings_at, hosts_at, founding_at, change_of, change_at, proposed_at, received_at, bound_at, entry_of, entry_at};
+ghost use Rattle.hk_log.specs.Fields.{settings_at, hosts_at, founding_at, change_of, change_at, proposed_at, received_at, bound_at, entry_of, entry_at};
 
-use crate::entry::{Entry, Founding, HostTickets, Hosts};
+use crate::entry::{Entry, Founding};
 use hk_base::{Body, Change, NodeId};
 use hk_fields::{
-    FieldFault, actor, byte, byte_within, number16, number16_within, number32, number64,
-    number64_within, ticket,
+    FieldFault, FoundingHosts, actor, byte, byte_within, many_hosts, number16, number16_within,
+    number32, number64, number64_within, ticket,
 };
 use hk_frame::{FrameFault, read_letter};
 use std::alloc::Global;
-
-#[tactic(auto, unfolding(crate::specs::Fields::host_at))]
-fn host(bytes: &[u8]) -> Result<(HostTickets, &[u8]), FieldFault>
-    ensures { Gives (λ x. (x.0, x.1.now)) result (host_at bytes.now) }
-{
-    let (manager, rest) = ticket(bytes)?;
-    let (node, rest) = ticket(rest)?;
-    Ok((HostTickets { manager, node }, rest))
-}
-
-fn many_hosts(alloc: Global, count: u8, bytes: &[u8]) -> Result<(Hosts, &[u8]), FieldFault>
-    ensures { Gives (λ x. (x.0, x.1.now)) result (many host_at count bytes.now) }
-{
-    let mut hosts = Hosts::new(alloc);
-    let mut rest = bytes;
-    for _ in 0..count {
-        let (host, after) = host(rest)?;
-        if hosts.push(host).is_err() {
-            return Err(FieldFault::Memory);
-        }
-        rest = after;
-    }
-    Ok((hosts, rest))
-}
 
 #[tactic(auto, unfolding(crate::specs::Fields::settings_at))]
 fn settings(
     alloc: Global,
     count: u8,
     bytes: &[u8],
-) -> Result<((u32, (u32, Hosts)), &[u8]), FieldFault>
+) -> Result<((u32, (u32, FoundingHosts)), &[u8]), FieldFault>
     ensures { Gives (λ x. (x.0, x.1.now)) result (settings_at count bytes.now) }
 {
     let (lease, rest) = number32(bytes)?;
@@ -57,7 +33,7 @@ fn hosts(
     alloc: Global,
     place: u8,
     bytes: &[u8],
-) -> Result<((u8, (u32, (u32, Hosts))), &[u8]), FieldFault>
+) -> Result<((u8, (u32, (u32, FoundingHosts))), &[u8]), FieldFault>
     requires { place ≤ 8 }
     ensures { Gives (λ x. (x.0, x.1.now)) result (hosts_at place bytes.now) }
 {

@@ -37,9 +37,10 @@ mod values;
 ghost use Rattle.hk_log.specs.Laws.{CutLogsAreFronts, CutsAreNoDamage, ChangesAreTold};
 
 pub use checks::{Check, HEADER, MAX_BODY_LEN};
-pub use entry::{Entry, Founding, HostTickets, Hosts, Record, Records};
+pub use entry::{Entry, Founding, Record, Records};
 pub use fault::{LogFault, RecordFault};
 pub use fields::is_of_paxos;
+pub use hk_fields::{FoundingHosts, HostTickets};
 pub use printing::{PrintedRecord, print_record};
 pub use scan::{Log, read_log};
 

@@ -3,37 +3,22 @@
 ghost use Rattle.std.specs.Prelude.{◌≡◌, ◌++◌, ◌∷◌, ◌≤◌, length, OnOk, All};
 ghost use Rattle.std.specs.Int.{w32, w64, to_be_bytes};
 ghost use Rattle.std.specs.List.{flat_map};
-ghost use Rattle.hk_fields.specs.Fields.{actor_bytes};
-ghost use Rattle.hk_log.specs.Entries.{host_bytes, founding_bytes, change_bytes, entry_kind, entry_fields, entry_bytes, IsFounding, IsEntryValue, IsEntryInRange, IsEntry};
+ghost use Rattle.hk_fields.specs.Fields.{actor_bytes, host_bytes};
+ghost use Rattle.hk_log.specs.Entries.{founding_bytes, change_bytes, entry_kind, entry_fields, entry_bytes, IsFounding, IsEntryValue, IsEntryInRange, IsEntry};
 ghost use Rattle.hk_log.specs.Records.{body_bytes};
 ghost use Rattle.hk_log.specs.Told.{IsPrinted};
 
 use crate::checks::{Check, MAX_BODY_LEN, check_of};
-use crate::entry::{Entry, Founding, HostTickets};
+use crate::entry::{Entry, Founding};
 use crate::fault::RecordFault;
 use crate::values::entry_is_value;
 use hk_base::{Actor, Change, Memory};
 use hk_fields::{
-    Ticket, put, put_actor, put_byte, put_number16, put_number32, put_number64, put_ticket,
+    Ticket, put, put_actor, put_byte, put_hosts, put_number16, put_number32, put_number64,
+    put_ticket,
 };
 use hk_frame::print_letter;
 use std::alloc::Global;
-
-fn put_host(out: &mut Vec<u8>, host: &HostTickets) -> Result<(), Memory>
-    ensures { OnOk result (out.new.items ≡ out.old.items ++ host_bytes host.now) }
-{
-    put_ticket(out, host.manager)?;
-    put_ticket(out, host.node)
-}
-
-fn put_hosts(out: &mut Vec<u8>, hosts: &[HostTickets]) -> Result<(), Memory>
-    ensures { OnOk result (out.new.items ≡ out.old.items ++ flat_map host_bytes hosts.now) }
-{
-    for host in hosts {
-        put_host(out, host)?;
-    }
-    Ok(())
-}
 
 // Lease, skew and the hosts' tickets.
 fn put_settings(out: &mut Vec<u8>, founding: &Founding) -> Result<(), Memory>

@@ -1,34 +1,11 @@
 //! What the types of an entry's parts keep, which the laws of logs have as a premise. These functions do nothing.
 
-ghost use Rattle.std.specs.Prelude.{All};
-ghost use Rattle.hk_fields.specs.Fields.{IsTicket};
-ghost use Rattle.hk_log.specs.Entries.{IsHostValue, IsFoundingValue, IsChangeValue, IsActorValue, IsEntryValue};
+ghost use Rattle.hk_log.specs.Entries.{IsFoundingValue, IsChangeValue, IsActorValue, IsEntryValue};
 
-use crate::entry::{Entry, Founding, HostTickets};
+use crate::entry::{Entry, Founding};
 use hk_base::{Actor, Change};
-use hk_fields::Ticket;
+use hk_fields::{hosts_are_values, ticket_is_value};
 use hk_frame::letter_is_value;
-
-fn ticket_is_value(ticket: Ticket)
-    ensures { IsTicket ticket }
-{
-    let _bytes = ticket.0;
-}
-
-fn host_is_value(host: &HostTickets)
-    ensures { IsHostValue host.now }
-{
-    ticket_is_value(host.manager);
-    ticket_is_value(host.node);
-}
-
-fn hosts_are_values(hosts: &[HostTickets])
-    ensures { All IsHostValue hosts.now }
-{
-    for host in hosts {
-        host_is_value(host);
-    }
-}
 
 fn founding_is_value(founding: &Founding)
     ensures { IsFoundingValue founding.now }

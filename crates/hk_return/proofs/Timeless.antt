@@ -26,7 +26,8 @@ use Rattle.hk_manager.specs.Manager.{ManagerState, instance_at, with_instance}
 use Rattle.hk_manager.specs.Changes.{changed, change_fault}
 use Rattle.hk_manager.specs.Sends.{letter_to, to_all, to_others}
 use Rattle.hk_manager.specs.Steps.{ManagerStepped, sends, idle, learns, prepares, accepts, counts_promise, counts_acceptance, reports, proposal_in, at_proposal, asks_lease, is_too_late, from_node, from_manager, is_addressed, receives_from, receives, begins, begins_unless, activates_by, manager_step}
-use Rattle.hk_return.specs.Log.{is_of_paxos, is_logged, manager_or, after, logged, but_times}
+use Rattle.hk_log.specs.Entries.{is_of_paxos}
+use Rattle.hk_return.specs.Log.{is_logged, manager_or, after, logged, but_times}
 
 -- with another clock and other untils
 abbrev pub at_times : ManagerState → ℕ → List (NodeId × ℕ) → ManagerState

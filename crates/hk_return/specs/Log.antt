@@ -14,17 +14,10 @@ use Rattle.hk_manager.specs.declared.event.ManagerEvent.TheVariants.{Propose, Re
 use Rattle.hk_manager.specs.declared.fault.ManagerFault.{ManagerFault}
 use Rattle.hk_manager.specs.Manager.{ManagerState}
 use Rattle.hk_manager.specs.Steps.{ManagerStepped, manager_step}
+use Rattle.hk_log.specs.Entries.{is_of_paxos}
 use Rattle.hk_return.specs.Machine.{with_all}
 
 -- ---- what is logged
-abbrev pub is_of_paxos : Body → Bool
-is_of_paxos (Body.Prepare ballot) = true
-is_of_paxos (Body.Promise ballot accepted) = true
-is_of_paxos (Body.Accept ballot view) = true
-is_of_paxos (Body.Accepted ballot) = true
-is_of_paxos (Body.Chosen view) = true
-is_of_paxos body = false
-
 -- proposals, and letters of Paxos that come; no grant, no ACTIVATE, and no reading of the clock
 abbrev pub is_logged : ManagerEvent → Bool
 is_logged (Propose base change) = true

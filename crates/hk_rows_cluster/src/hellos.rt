@@ -3,8 +3,8 @@
 use hk_base::{Actor, NodeId, Sequence};
 use hk_fields::Ticket;
 use hk_hello::{
-    Answer, Challenge, Hello, HelloFault, HostsDigest, JudgingFault, LookedUp, Ours, Party, Proof,
-    Purpose, Refusal, SignedHello, hmac, hosts_digest, is_in_range, judge, print_answer,
+    Answer, Challenge, Hello, HelloFault, HelloRefusal, HostsDigest, JudgingFault, LookedUp, Ours,
+    Party, Proof, Purpose, SignedHello, hmac, hosts_digest, is_in_range, judge, print_answer,
     print_challenge, print_hello, read_answer, read_challenge, read_hello, sign, welcome,
 };
 use std::alloc::Global;
@@ -148,8 +148,8 @@ fn a_front_of_a_hello_is_unfinished(rt: HostRuntime) {
     }
 }
 
-// Ours as the hello has it, with this founding.
-fn ours(alloc: Global, founding: u64) -> Option<Ours> {
+// Ours as the hello has it.
+fn ours(alloc: Global) -> Option<Ours> {
     let secret = sequence_of(alloc, SECRET)?;
     let group = sequence_of(alloc, b"hermes")?;
     Some(Ours {
@@ -158,11 +158,11 @@ fn ours(alloc: Global, founding: u64) -> Option<Ours> {
         hosts: HOSTS,
         lease: 1000,
         skew: 10,
-        founding,
     })
 }
 
 const ALL_IS_WELL: LookedUp = LookedUp {
+    founding: FOUNDING,
     to_is_here: true,
     from_is_bound: true,
     is_taken: false,
@@ -192,7 +192,7 @@ fn is_refused(alloc: Global, ours: &Ours, bytes: &[u8], at: usize) -> bool {
     match read(alloc, bytes) {
         Ok(_) => {
             judged(alloc, ours, bytes, ALL_IS_WELL)
-                == Err(JudgingFault::Refused(Refusal::AnotherSecret))
+                == Err(JudgingFault::Refused(HelloRefusal::AnotherSecret))
         }
         Err(HelloFault::NeedMore) => at == 1,
         Err(fault) => fault == HelloFault::Malformed,
@@ -202,7 +202,7 @@ fn is_refused(alloc: Global, ours: &Ours, bytes: &[u8], at: usize) -> bool {
 #[test]
 fn a_turned_bit_is_told(rt: HostRuntime) {
     let alloc = rt.alloc();
-    let ours = ours(alloc, FOUNDING).expect(&rt, "memory");
+    let ours = ours(alloc).expect(&rt, "memory");
     let bytes = bytes_of(alloc, HELLO).expect(&rt, "memory");
     assert_eq!(rt; judged(alloc, &ours, &bytes, ALL_IS_WELL), Ok(()));
     for at in 0..88 {
@@ -285,22 +285,22 @@ fn judged_by(
     }
 }
 
-fn refused(refusal: Refusal) -> Result<(), JudgingFault> {
+fn refused(refusal: HelloRefusal) -> Result<(), JudgingFault> {
     Err(JudgingFault::Refused(refusal))
 }
 
 #[test]
 fn each_refusal_is_told(rt: HostRuntime) {
     let alloc = rt.alloc();
-    let ours = ours(alloc, FOUNDING).expect(&rt, "memory");
+    let ours = ours(alloc).expect(&rt, "memory");
     let rows = [
         (Otherwise::Nothing, Ok(())),
-        (Otherwise::Group, refused(Refusal::AnotherGroup)),
-        (Otherwise::Hosts, refused(Refusal::OtherHosts)),
-        (Otherwise::Lease, refused(Refusal::AnotherLeaseOrSkew)),
-        (Otherwise::Skew, refused(Refusal::AnotherLeaseOrSkew)),
+        (Otherwise::Group, refused(HelloRefusal::AnotherGroup)),
+        (Otherwise::Hosts, refused(HelloRefusal::OtherHosts)),
+        (Otherwise::Lease, refused(HelloRefusal::AnotherLeaseOrSkew)),
+        (Otherwise::Skew, refused(HelloRefusal::AnotherLeaseOrSkew)),
         (Otherwise::Command, Ok(())),
-        (Otherwise::Founding, refused(Refusal::AnotherFounding)),
+        (Otherwise::Founding, refused(HelloRefusal::AnotherFounding)),
         (Otherwise::NotFounded, Ok(())),
         (Otherwise::Requests, Ok(())),
     ];
@@ -308,14 +308,18 @@ fn each_refusal_is_told(rt: HostRuntime) {
         let found = judged_by(alloc, &ours, SECRET, what, ALL_IS_WELL);
         assert_eq!(rt; found, wanted, "{what:?}");
         let found = judged_by(alloc, &ours, b"battery horse wrong", what, ALL_IS_WELL);
-        assert_eq!(rt; found, refused(Refusal::AnotherSecret), "{what:?}");
+        assert_eq!(rt; found, refused(HelloRefusal::AnotherSecret), "{what:?}");
     }
 }
 
 #[test]
 fn what_was_looked_up_is_told(rt: HostRuntime) {
     let alloc = rt.alloc();
-    let ours = ours(alloc, 0).expect(&rt, "memory");
+    let ours = ours(alloc).expect(&rt, "memory");
+    let not_founded = LookedUp {
+        founding: 0,
+        ..ALL_IS_WELL
+    };
     let away = LookedUp {
         to_is_here: false,
         ..ALL_IS_WELL
@@ -333,25 +337,33 @@ fn what_was_looked_up_is_told(rt: HostRuntime) {
         ..unbound
     };
     let rows = [
-        (Otherwise::Founding, ALL_IS_WELL, Ok(())),
-        (Otherwise::Nothing, away, refused(Refusal::NoSuchActor)),
-        (Otherwise::Nothing, unbound, refused(Refusal::NoSuchActor)),
+        (Otherwise::Founding, not_founded, Ok(())),
+        (Otherwise::Nothing, away, refused(HelloRefusal::NoSuchActor)),
+        (
+            Otherwise::Nothing,
+            unbound,
+            refused(HelloRefusal::NoSuchActor),
+        ),
         (Otherwise::Requests, unbound, Ok(())),
-        (Otherwise::Nothing, taken, refused(Refusal::NumberTaken)),
+        (
+            Otherwise::Nothing,
+            taken,
+            refused(HelloRefusal::NumberTaken),
+        ),
         (
             Otherwise::Nothing,
             unbound_and_taken,
-            refused(Refusal::NoSuchActor),
+            refused(HelloRefusal::NoSuchActor),
         ),
         (
             Otherwise::Requests,
             unbound_and_taken,
-            refused(Refusal::NumberTaken),
+            refused(HelloRefusal::NumberTaken),
         ),
         (
             Otherwise::Group,
             unbound_and_taken,
-            refused(Refusal::AnotherGroup),
+            refused(HelloRefusal::AnotherGroup),
         ),
     ];
     for (what, looked, wanted) in rows {
@@ -419,13 +431,13 @@ fn a_welcome_is_printed_and_read(rt: HostRuntime) {
 fn refusals_are_printed_and_read(rt: HostRuntime) {
     let alloc = rt.alloc();
     let rows = [
-        (Refusal::AnotherSecret, 1, "another secret"),
-        (Refusal::AnotherGroup, 2, "another group"),
-        (Refusal::OtherHosts, 3, "other hosts"),
-        (Refusal::AnotherLeaseOrSkew, 4, "another lease or skew"),
-        (Refusal::AnotherFounding, 5, "another founding"),
-        (Refusal::NoSuchActor, 6, "no such actor"),
-        (Refusal::NumberTaken, 7, "number taken"),
+        (HelloRefusal::AnotherSecret, 1, "another secret"),
+        (HelloRefusal::AnotherGroup, 2, "another group"),
+        (HelloRefusal::OtherHosts, 3, "other hosts"),
+        (HelloRefusal::AnotherLeaseOrSkew, 4, "another lease or skew"),
+        (HelloRefusal::AnotherFounding, 5, "another founding"),
+        (HelloRefusal::NoSuchActor, 6, "no such actor"),
+        (HelloRefusal::NumberTaken, 7, "number taken"),
     ];
     for (refusal, code, text) in rows {
         let mut bytes = Vec::new(alloc);

@@ -4,9 +4,9 @@
 use hk_base::{Memory, NodeId};
 use hk_fields::Ticket;
 use hk_inside::{
-    Board, BoardLine, Counts, HostTickets, Inquiry, Leaver, ManagerState, Mark, MessageFault,
-    NodeSeen, NodeState, Party, Refusal, Report, Response, ShardsTold, Stage, Text, print_inquiry,
-    print_response, read_inquiry, read_response,
+    Board, BoardLine, Counts, HostTickets, Inquiry, Leaver, ManagerRefusal, ManagerState, Mark,
+    MessageFault, NodeSeen, NodeState, Party, Report, Response, ShardsTold, Stage, Text,
+    print_inquiry, print_response, read_inquiry, read_response,
 };
 use std::alloc::Global;
 
@@ -445,7 +445,7 @@ fn fields_out_of_range_are_malformed(rt: HostRuntime) {
 // Whether the text of a refusal and its code are these.
 fn is_told(
     alloc: Global,
-    refusal: Refusal<'_>,
+    refusal: ManagerRefusal<'_>,
     code: u8,
     text: &str,
 ) -> Result<bool, std::test::Fail> {
@@ -458,23 +458,31 @@ fn refusals_have_codes_and_texts_of_their_own(rt: HostRuntime) -> Result<(), std
     let alloc = rt.alloc();
     let rows = [
         (
-            Refusal::Lives(FOUNDING),
+            ManagerRefusal::Lives(FOUNDING),
             1,
             "the group lives: founding 3f9c27b1d04e8a65",
         ),
         (
-            Refusal::OtherLease("10.0.0.2:11400"),
+            ManagerRefusal::OtherLease("10.0.0.2:11400"),
             2,
             "10.0.0.2:11400 has another lease or skew",
         ),
-        (Refusal::NodeIsReady(4), 3, "node 4 is ready"),
-        (Refusal::LeaseMayRun(870), 4, "a lease may run 870 ms"),
-        (Refusal::NoSuchMember, 5, "no such member"),
-        (Refusal::NoOtherIsReady, 6, "no other member is ready"),
-        (Refusal::Taken(3), 7, "number 3 is taken"),
-        (Refusal::Wait, 8, "wait"),
-        (Refusal::NoMajority, 9, "no majority is up"),
-        (Refusal::AnotherInit, 10, "another init runs"),
+        (ManagerRefusal::NodeIsReady(4), 3, "node 4 is ready"),
+        (
+            ManagerRefusal::LeaseMayRun(870),
+            4,
+            "a lease may run 870 ms",
+        ),
+        (ManagerRefusal::NoSuchMember, 5, "no such member"),
+        (
+            ManagerRefusal::NoOtherIsReady,
+            6,
+            "no other member is ready",
+        ),
+        (ManagerRefusal::Taken(3), 7, "number 3 is taken"),
+        (ManagerRefusal::Wait, 8, "wait"),
+        (ManagerRefusal::NoMajority, 9, "no majority is up"),
+        (ManagerRefusal::AnotherInit, 10, "another init runs"),
     ];
     for (refusal, code, text) in rows {
         assert!(rt; is_told(alloc, refusal, code, text)?, "{text}");

@@ -1,8 +1,9 @@
 //! What a manager wishes, case by case. Leases last 1,000 ms; the manager is 0 of 3, and nodes 0 and 1 are ready where nothing else is said.
 
 use hk_base::{Change, Members, NodeId, Sequence, View};
+use hk_inside::NodeState;
 use hk_keeper::{
-    AgeTold, Ask, Heard, ManagerHeard, NodeHeard, Phase, PhaseTold, Proposal, ShardHeard, Wish,
+    AgeTold, Ask, Heard, ManagerHeard, NodeHeard, Proposal, ShardHeard, StateTold, Wish,
 };
 use std::alloc::Global;
 use std::process::Abort;
@@ -60,8 +61,8 @@ fn ready(number: u16, age: u64, epoch: u64) -> NodeHeard {
     NodeHeard {
         node: NodeId(number),
         bound: true,
-        told: Some(PhaseTold {
-            phase: Phase::Ready,
+        told: Some(StateTold {
+            state: NodeState::Ready,
             age: 30,
         }),
         asks: [Ask {
@@ -71,9 +72,9 @@ fn ready(number: u16, age: u64, epoch: u64) -> NodeHeard {
     }
 }
 
-fn does(phase: Phase, node: NodeHeard) -> NodeHeard {
+fn does(state: NodeState, node: NodeHeard) -> NodeHeard {
     NodeHeard {
-        told: Some(PhaseTold { phase, age: 30 }),
+        told: Some(StateTold { state, age: 30 }),
         ..node
     }
 }
@@ -227,15 +228,19 @@ fn a_silent_member_is_dropped(rt: HostRuntime) {
         Row {
             told: [(30, 940), (501, 40)],
             nodes: [
-                does(Phase::Copying, ready(0, 40, 3)),
-                does(Phase::Copying, ready(1, 40, 3)),
+                does(NodeState::Copying, ready(0, 40, 3)),
+                does(NodeState::Copying, ready(1, 40, 3)),
                 silent,
             ],
             ..quiet("no other one is ready", FOUNDERS, silent)
         },
         Row {
             wanted: drop_2,
-            ..quiet("leaving", FOUNDERS, does(Phase::Leaving, ready(2, 40, 3)))
+            ..quiet(
+                "leaving",
+                FOUNDERS,
+                does(NodeState::Leaving, ready(2, 40, 3)),
+            )
         },
     ];
     assert_eq!(rt; first_other(&rt, rt.alloc(), &rows), None);
@@ -243,20 +248,24 @@ fn a_silent_member_is_dropped(rt: HostRuntime) {
 
 #[test]
 fn a_node_is_added(rt: HostRuntime) {
-    let newcomer = does(Phase::Seated, ready(3, 40, 0));
+    let newcomer = does(NodeState::Seated, ready(3, 40, 0));
     let add = propose(Change::Add);
     let rows = [
         Row {
             wanted: [add; 8],
             ..quiet("asks everywhere", TWO, newcomer)
         },
-        quiet("asked long ago", TWO, does(Phase::Seated, ready(3, 251, 0))),
+        quiet(
+            "asked long ago",
+            TWO,
+            does(NodeState::Seated, ready(3, 251, 0)),
+        ),
         Row {
             sixth: TWO,
             nodes: [
                 asks_in(6, 4, ready(0, 40, 5)),
                 asks_in(6, 4, ready(1, 40, 5)),
-                asks_in(6, 0, does(Phase::Copying, ready(3, 40, 5))),
+                asks_in(6, 0, does(NodeState::Copying, ready(3, 40, 5))),
             ],
             wanted: in_shard(6, add),
             ..quiet("shard 6 is behind", THREE, newcomer)
@@ -266,7 +275,7 @@ fn a_node_is_added(rt: HostRuntime) {
             nodes: [
                 ready(0, 40, 5),
                 ready(1, 40, 5),
-                does(Phase::Copying, ready(3, 40, 5)),
+                does(NodeState::Copying, ready(3, 40, 5)),
             ],
             wanted: in_shard(
                 6,
@@ -284,7 +293,7 @@ fn a_node_is_added(rt: HostRuntime) {
 #[test]
 fn a_view_begins(rt: HostRuntime) {
     let behind = asks_in(5, 3, ready(1, 40, 4));
-    let third = does(Phase::Seated, ready(9, 40, 0));
+    let third = does(NodeState::Seated, ready(9, 40, 0));
     let nodes = [ready(0, 40, 4), behind, third];
     let rows = [
         Row {

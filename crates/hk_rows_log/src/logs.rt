@@ -4,8 +4,8 @@
 use hk_base::{Actor, Ballot, Body, Change, Letter};
 use hk_fields::Ticket;
 use hk_log::{
-    Check, Entry, Founding, HEADER, HostTickets, Hosts, Log, LogFault, PrintedRecord, print_record,
-    read_log,
+    Check, Entry, Founding, FoundingHosts, HEADER, HostTickets, Log, LogFault, PrintedRecord,
+    print_record, read_log,
 };
 use std::alloc::Global;
 
@@ -108,7 +108,7 @@ fn words_of(alloc: Global, log: &Log) -> Option<Vec<&'static str>> {
 
 // The record that founds the group and opens it.
 fn print_founding(alloc: Global) -> Option<PrintedRecord> {
-    let mut hosts = Hosts::new(alloc);
+    let mut hosts = FoundingHosts::new(alloc);
     let host = HostTickets {
         manager: Ticket([
             16, 17, 18, 19, 20, 21, 22, 23, 24, 25, 26, 27, 28, 29, 30, 31,

@@ -4,7 +4,7 @@ use Rattle.hk_base.specs.Range.{IsLetter}
 use Rattle.hk_manager.specs.Sound.{IsManager}
 use Rattle.hk_manager.specs.Steps.{manager_step}
 use Rattle.hk_durable.proofs.Sound.{made_keeps, letters_made, first_of}
-use Rattle.hk_durable.proofs.Numbers.{number_stays}
+use Rattle.hk_durable.proofs.Numbers.{number_stays, lease_stays}
 use Rattle.hk_durable.proofs.managers.step.Goals as goal
 
 pub returns-clause-in_range : goal.returns-clause-in_range
@@ -21,3 +21,8 @@ pub returns-clause-number : goal.returns-clause-number
 returns-clause-number c =
     let m = c.args.manager.now in
     made_keeps (λ x. x.id ≡ m.id) c.step.result m c.step.new.self (manager_step m c.args.event.now) refl (number_stays m c.args.event.now) c.step.ensures.made
+
+pub returns-clause-leases : goal.returns-clause-leases
+returns-clause-leases c =
+    let m = c.args.manager.now in
+    made_keeps (λ x. x.lease ≡ m.lease) c.step.result m c.step.new.self (manager_step m c.args.event.now) refl (lease_stays m c.args.event.now) c.step.ensures.made

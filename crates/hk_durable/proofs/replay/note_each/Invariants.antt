@@ -8,4 +8,4 @@ use Rattle.hk_durable.proofs.replay.note_each.Given as goal
 abbrev pub invariant-loop-node : goal.invariant-loop-node
 invariant-loop-node l =
     ((after : ManagerState) → TakesAsks l.fn.manager l.node-iterator.rest.items l.manager after → TakesAsks l.fn.manager l.fn.nodes.items l.fn.manager after)
-    × (l.manager.id ≡ l.id) × IsManager l.manager
+    × (l.manager.id ≡ l.id) × IsManager l.manager × (l.manager.lease ≡ l.fn.manager.lease)

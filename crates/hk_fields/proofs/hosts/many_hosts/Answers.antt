@@ -1,9 +1,8 @@
 use Rattle.std.proofs.Common.{◌≡◌, ◌++◌, ◌∷◌, [], rules}
 use Rattle.std.proofs.lemmas.Result.{err_from_is_err_and}
-use Rattle.hk_fields.specs.Fields.{many}
 use Rattle.hk_fields.proofs.Many.{goes_on, stops, ends}
-use Rattle.hk_inside.specs.Reading.{host_at}
-use Rattle.hk_inside.proofs.inquiries.many_hosts.Goals as goal
+use Rattle.hk_fields.specs.Fields.{many, host_at}
+use Rattle.hk_fields.proofs.hosts.many_hosts.Goals as goal
 
 pub returns-in_err-host : goal.returns-in_err-host
 returns-in_err-host c =

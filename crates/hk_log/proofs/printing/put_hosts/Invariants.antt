@@ -1,7 +1,0 @@
-use Rattle.std.proofs.Common.{◌≡◌, ◌++◌, take}
-use Rattle.std.specs.List.{flat_map}
-use Rattle.hk_log.specs.Entries.{host_bytes}
-use Rattle.hk_log.proofs.printing.put_hosts.Given as goal
-
-abbrev pub invariant-loop-host : goal.invariant-loop-host
-invariant-loop-host l = l.out.items ≡ l.fn.out.items ++ flat_map host_bytes (take l.host-index l.hosts)

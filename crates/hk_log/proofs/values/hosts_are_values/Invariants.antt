@@ -1,6 +1,0 @@
-use Rattle.std.specs.List.{AllWithin}
-use Rattle.hk_log.specs.Entries.{IsHostValue}
-use Rattle.hk_log.proofs.values.hosts_are_values.Given as goal
-
-abbrev pub invariant-loop-host : goal.invariant-loop-host
-invariant-loop-host l = AllWithin IsHostValue l.hosts 0 l.host-index
