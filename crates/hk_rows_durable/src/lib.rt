@@ -1,5 +1,7 @@
-//! The tests of managers that keep a log.
+//! The tests of managers that keep a log, and of what a log gives.
 #![tactic(auto)]
 
+#[cfg(test)]
+mod restored;
 #[cfg(test)]
 mod turns;

@@ -5,7 +5,7 @@ ghost use Rattle.hk_log.specs.Entries.{IsEntryInRange};
 
 use hk_base::{Actor, Change, NodeId, Sequence, View};
 use hk_disk::{AppendFault, FakeFile, Recovered, recover};
-use hk_durable::{DurablePost, Intent, Late, Managers};
+use hk_durable::{Batch, DurablePost, Intent, Late, Managers};
 use hk_link::link;
 use hk_log::Entry;
 use hk_manager::ManagerFault;
@@ -99,6 +99,34 @@ fn nothing_is_told_that_is_not_logged(rt: HostRuntime) {
     }
     assert_eq!(rt; post.managers().of(0).held().epoch, 1);
     assert_eq!(rt; post.managers().of(0).now(), 5);
+}
+
+#[test]
+fn a_view_begins_behind_the_wait(rt: HostRuntime) {
+    let alloc = rt.alloc();
+    let mut intents = NOTHING;
+    intents[0] = Intent::Activate;
+    for (now, begins) in [(1_000, false), (1_101, false), (1_102, true)] {
+        let mut batch = Batch::new(alloc, founders(&rt, alloc));
+        batch.tick(alloc, now);
+        batch.fulfil_all(alloc, &intents);
+        assert_eq!(rt; batch.has_steps(), begins);
+    }
+}
+
+#[test]
+fn notes_are_logged_before_steps(rt: HostRuntime) {
+    let alloc = rt.alloc();
+    let mut intents = NOTHING;
+    intents[0] = ADD;
+    let mut batch = Batch::new(alloc, founders(&rt, alloc));
+    assert_eq!(rt; batch.note(Entry::Open), Ok(()));
+    assert!(rt; !batch.has_steps());
+    batch.fulfil_all(alloc, &intents);
+    match batch.entries() {
+        [Entry::Open, Entry::Propose { .. }] => (),
+        _ => panic!(rt; "what is logged is an opening and a proposal"),
+    }
 }
 
 // The entry of a proposal to add a node, in a shard, to the view of an epoch.
