@@ -1,0 +1,4 @@
+mod Tickets
+mod Majorities
+mod Gathered
+mod Reached

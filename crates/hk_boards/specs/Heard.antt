@@ -1,0 +1,73 @@
+-- What the last board of one manager tells. A manager of which no board came tells nothing.
+use Rattle.std.specs.Prelude.{ℕ, Bool, true, false, ◌==◌, ◌&&◌, if◌then◌else◌, Option, None, Some}
+use Rattle.std.specs.List.{find, list_any}
+use Rattle.hk_base.specs.declared.stamp.NodeId.{NodeId}
+use Rattle.hk_fields.specs.declared.tickets.Ticket.{Ticket}
+use Rattle.hk_inside.specs.declared.board.Stage.{Stage}
+use Rattle.hk_inside.specs.declared.board.Stage.TheVariants as stages
+use Rattle.hk_inside.specs.declared.board.Party.{Party}
+use Rattle.hk_inside.specs.declared.board.Party.TheVariants as parties
+use Rattle.hk_inside.specs.declared.board.Mark.{Mark}
+use Rattle.hk_inside.specs.declared.board.Mark.TheVariants as marks
+use Rattle.hk_inside.specs.declared.board.BoardLine.{BoardLine}
+use Rattle.hk_roll.specs.Boards.{same_ticket, names}
+use Rattle.hk_boards.specs.declared.heard.HeardBoard.{HeardBoard}
+
+-- ---- boards
+
+abbrev pub is_open : Stage → Bool
+is_open stages.Empty = false
+is_open stages.Founded = false
+is_open stages.Open = true
+
+-- The board is of the group with this founding: its manager is open, with just this founding.
+abbrev pub is_of : ℕ → HeardBoard → Bool
+is_of founding heard = is_open heard.board.stage && (heard.board.founding == founding)
+
+-- ---- lines
+
+abbrev pub is_node : NodeId → Party → Bool
+is_node node (parties.Node other) = node.0 == other.0
+is_node node (parties.Manager place) = false
+is_node node parties.Neither = false
+
+-- who was left out
+abbrev pub is_left_out : Mark → Bool
+is_left_out marks.Bound = false
+is_left_out marks.Member = false
+is_left_out marks.ToLeave = false
+is_left_out marks.Out = true
+
+-- Whom a line tells of by a number is bound to it, until it is left out.
+abbrev pub binds : NodeId → BoardLine → Bool
+binds node line = if is_left_out line.mark then false else is_node node line.party
+
+-- the line tells that the process of this ticket, which had the number, is left out
+abbrev pub leaves_out : NodeId → Ticket → BoardLine → Bool
+leaves_out node ticket line =
+    if is_left_out line.mark then is_node node line.party && same_ticket ticket line.ticket else false
+
+-- ---- what is told of a number
+
+-- the line that binds the number, of a board of the group
+abbrev pub line_of : ℕ → NodeId → HeardBoard → Option BoardLine
+line_of founding node heard = if is_of founding heard then find (binds node) heard.board.lines else None
+
+abbrev pub ticket_of : Option BoardLine → Option Ticket
+ticket_of None = None
+ticket_of (Some line) = Some line.ticket
+
+-- the ticket to which the manager binds the number
+abbrev pub ticket_told : ℕ → NodeId → Option HeardBoard → Option Ticket
+ticket_told founding node None = None
+ticket_told founding node (Some heard) = ticket_of (line_of founding node heard)
+
+-- the manager binds the number to just this ticket
+abbrev pub tells : ℕ → NodeId → Ticket → Option HeardBoard → Bool
+tells founding node ticket heard = names ticket (ticket_told founding node heard)
+
+-- the manager has left out the process of this ticket, which had the number
+abbrev pub tells_out : ℕ → NodeId → Ticket → Option HeardBoard → Bool
+tells_out founding node ticket None = false
+tells_out founding node ticket (Some heard) =
+    if is_of founding heard then list_any (leaves_out node ticket) heard.board.lines else false

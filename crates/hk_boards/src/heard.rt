@@ -1,0 +1,221 @@
+//! The last board of one manager.
+
+ghost use Rattle.std.specs.Prelude.{◌≡◌};
+ghost use Rattle.std.specs.List.{find, list_any};
+ghost use Rattle.std.specs.Option.{option_copied};
+ghost use Rattle.hk_boards.specs.Heard.{is_open, is_of, is_node, is_left_out, binds, leaves_out, line_of, ticket_told, tells, tells_out};
+ghost use Rattle.hk_boards.specs.Holders.{came_telling, is_told_at};
+ghost use Rattle.hk_boards.specs.Managers.{answered_lately, tells_another, records_told, tells_records};
+
+use hk_base::NodeId;
+use hk_fields::Ticket;
+use hk_inside::{Board, BoardLine, Mark, Party, Stage};
+
+/// A manager's board, and when it was asked for and came, in milliseconds on the clock of the process that asked.
+#[derive(Drop)]
+pub struct HeardBoard {
+    pub asked: u64,
+    pub came: u64,
+    pub board: Board,
+}
+
+fn is_open(stage: Stage) -> bool
+    ensures { result ≡ is_open stage }
+{
+    match stage {
+        Stage::Empty => false,
+        Stage::Founded => false,
+        Stage::Open => true,
+    }
+}
+
+fn is_node(node: NodeId, party: Party) -> bool
+    ensures { result ≡ is_node node party }
+{
+    match party {
+        Party::Node(other) => node.0 == other.0,
+        Party::Manager(_) => false,
+        Party::Neither => false,
+    }
+}
+
+fn is_left_out(mark: Mark) -> bool
+    ensures { result ≡ is_left_out mark }
+{
+    match mark {
+        Mark::Bound => false,
+        Mark::Member => false,
+        Mark::ToLeave => false,
+        Mark::Out => true,
+    }
+}
+
+fn binds(node: NodeId, line: &BoardLine) -> bool
+    ensures { result ≡ binds node line.now }
+{
+    if is_left_out(line.mark) {
+        false
+    } else {
+        is_node(node, line.party)
+    }
+}
+
+fn leaves_out(node: NodeId, ticket: Ticket, line: &BoardLine) -> bool
+    ensures { result ≡ leaves_out node ticket line.now }
+{
+    if is_left_out(line.mark) {
+        is_node(node, line.party) && ticket == line.ticket
+    } else {
+        false
+    }
+}
+
+impl HeardBoard {
+    pub(crate) fn is_of(&self, founding: u64) -> bool
+        ensures { result ≡ is_of founding self.now }
+    {
+        is_open(self.board.stage) && self.board.founding == founding
+    }
+
+    fn binding_line(&self, node: NodeId) -> Option<&BoardLine>
+        ensures { option_copied result ≡ find (binds node) self.now.board.lines }
+    {
+        self.board
+            .lines
+            .as_slice()
+            .iter()
+            .find(|line| binds(node, line))
+    }
+
+    pub(crate) fn line_of(&self, founding: u64, node: NodeId) -> Option<&BoardLine>
+        ensures { option_copied result ≡ line_of founding node self.now }
+    {
+        if self.is_of(founding) {
+            self.binding_line(node)
+        } else {
+            None
+        }
+    }
+
+    fn has_left_out(&self, node: NodeId, ticket: Ticket) -> bool
+        ensures { result ≡ list_any (leaves_out node ticket) self.now.board.lines }
+    {
+        self.board
+            .lines
+            .as_slice()
+            .iter()
+            .any(|line| leaves_out(node, ticket, line))
+    }
+}
+
+// What is told of a number, where a board may not have come.
+
+pub(crate) fn ticket_told(heard: &Option<HeardBoard>, founding: u64, node: NodeId) -> Option<Ticket>
+    ensures { result ≡ ticket_told founding node heard.now }
+{
+    match heard {
+        Some(heard) => match heard.line_of(founding, node) {
+            Some(line) => Some(line.ticket),
+            None => None,
+        },
+        None => None,
+    }
+}
+
+fn tells(heard: &Option<HeardBoard>, founding: u64, node: NodeId, ticket: Ticket) -> bool
+    ensures { result ≡ tells founding node ticket heard.now }
+{
+    match ticket_told(heard, founding, node) {
+        Some(other) => ticket == other,
+        None => false,
+    }
+}
+
+pub(crate) fn tells_out(
+    heard: &Option<HeardBoard>,
+    founding: u64,
+    node: NodeId,
+    ticket: Ticket,
+) -> bool
+    ensures { result ≡ tells_out founding node ticket heard.now }
+{
+    match heard {
+        Some(heard) => {
+            if heard.is_of(founding) {
+                heard.has_left_out(node, ticket)
+            } else {
+                false
+            }
+        }
+        None => false,
+    }
+}
+
+// When the board came, if it binds the number to this ticket.
+pub(crate) fn came_telling(
+    heard: &Option<HeardBoard>,
+    founding: u64,
+    node: NodeId,
+    ticket: Ticket,
+) -> Option<u64>
+    ensures { result ≡ came_telling founding node ticket heard.now }
+{
+    let is_telling = tells(heard, founding, node, ticket);
+    match heard {
+        Some(heard) => { if is_telling { Some(heard.came) } else { None } }
+        None => None,
+    }
+}
+
+pub(crate) fn is_told_at(
+    heard: &Option<HeardBoard>,
+    founding: u64,
+    node: NodeId,
+    ticket: Ticket,
+    moment: u64,
+) -> bool
+    ensures { result ≡ is_told_at founding node ticket moment heard.now }
+{
+    match came_telling(heard, founding, node, ticket) {
+        Some(came) => came == moment,
+        None => false,
+    }
+}
+
+// What a manager told of itself and of the asker's manager.
+
+pub(crate) fn answered_lately(heard: &Option<HeardBoard>, now: u64, within: u64) -> bool
+    ensures { result ≡ answered_lately now within heard.now }
+{
+    match heard {
+        Some(heard) => is_open(heard.board.stage) && now.saturating_sub(heard.came) <= within,
+        None => false,
+    }
+}
+
+pub(crate) fn tells_another(heard: &Option<HeardBoard>, founding: u64) -> bool
+    ensures { result ≡ tells_another founding heard.now }
+{
+    match heard {
+        Some(heard) => is_open(heard.board.stage) && heard.board.founding != founding,
+        None => false,
+    }
+}
+
+pub(crate) fn records_told(heard: &Option<HeardBoard>) -> Option<u64>
+    ensures { result ≡ records_told heard.now }
+{
+    match heard {
+        Some(heard) => Some(heard.board.records),
+        None => None,
+    }
+}
+
+pub(crate) fn tells_records(heard: &Option<HeardBoard>, records: u64) -> bool
+    ensures { result ≡ tells_records records heard.now }
+{
+    match heard {
+        Some(heard) => heard.board.records == records,
+        None => false,
+    }
+}

@@ -1,0 +1,313 @@
+//! What three managers' boards tell of numbers, and of the managers.
+
+use hk_base::NodeId;
+use hk_boards::{Boards, HeardBoard};
+use hk_fields::Ticket;
+use hk_inside::{Board, BoardLine, BoardLines, Mark, Party, Stage, Text};
+use std::alloc::Global;
+use std::process::Abort;
+
+const FOUNDING: u64 = 7;
+
+const A: Ticket = Ticket([10; 16]);
+
+const B: Ticket = Ticket([11; 16]);
+
+/// A line of a board.
+#[derive(Clone, Copy)]
+struct Line {
+    party: Party,
+    ticket: Ticket,
+    mark: Mark,
+    inside: &'static [u8],
+}
+
+/// A board, of which manager it is, and when it came.
+#[derive(Clone, Copy)]
+struct Came {
+    place: u8,
+    came: u64,
+    founding: u64,
+    stage: Stage,
+    records: u64,
+    lines: &'static [Line],
+}
+
+const fn member(number: u16, ticket: Ticket, inside: &'static [u8]) -> Line {
+    Line {
+        party: Party::Node(NodeId(number)),
+        ticket,
+        mark: Mark::Member,
+        inside,
+    }
+}
+
+const MANAGER: Line = Line {
+    party: Party::Manager(3),
+    ticket: B,
+    mark: Mark::Bound,
+    inside: b"m",
+};
+
+const NEWCOMER: Line = Line {
+    party: Party::Neither,
+    ticket: B,
+    mark: Mark::Bound,
+    inside: b"n",
+};
+
+const TELLS_A: &[Line] = &[
+    MANAGER,
+    Line {
+        party: Party::Node(NodeId(9)),
+        ticket: A,
+        mark: Mark::ToLeave,
+        inside: b"nine",
+    },
+    Line {
+        party: Party::Node(NodeId(3)),
+        ticket: A,
+        mark: Mark::Bound,
+        inside: b"three",
+    },
+    NEWCOMER,
+];
+
+const MOVED: &[Line] = &[
+    Line {
+        party: Party::Node(NodeId(3)),
+        ticket: A,
+        mark: Mark::Member,
+        inside: b"moved",
+    },
+    Line {
+        party: Party::Node(NodeId(9)),
+        ticket: A,
+        mark: Mark::Out,
+        inside: b"nine",
+    },
+];
+
+const TELLS_B: &[Line] = &[Line {
+    party: Party::Node(NodeId(3)),
+    ticket: B,
+    mark: Mark::Member,
+    inside: b"other",
+}];
+
+const LEFT_OUT: &[Line] = &[Line {
+    party: Party::Node(NodeId(9)),
+    ticket: A,
+    mark: Mark::Out,
+    inside: b"nine",
+}];
+
+fn board_at(place: u8, came: u64, lines: &'static [Line]) -> Came {
+    Came {
+        place,
+        came,
+        founding: FOUNDING,
+        stage: Stage::Open,
+        records: 40,
+        lines,
+    }
+}
+
+fn text_of(rt: &impl Abort, alloc: Global, bytes: &[u8]) -> Text {
+    Text::from_vec(bytes.to_vec(alloc).expect(rt, "memory"))
+}
+
+fn line_of(rt: &impl Abort, alloc: Global, line: Line) -> BoardLine {
+    BoardLine {
+        party: line.party,
+        ticket: line.ticket,
+        mark: line.mark,
+        ready: false,
+        inside: text_of(rt, alloc, line.inside),
+    }
+}
+
+fn heard_of(rt: &impl Abort, alloc: Global, came: &Came) -> HeardBoard {
+    let mut lines = BoardLines::new(alloc);
+    for line in came.lines {
+        lines.push(line_of(rt, alloc, *line)).expect(rt, "memory");
+    }
+    HeardBoard {
+        asked: came.came,
+        came: came.came,
+        board: Board {
+            founding: came.founding,
+            stage: came.stage,
+            records: came.records,
+            managers_up: 7,
+            lines,
+        },
+    }
+}
+
+fn boards_of(rt: &impl Abort, alloc: Global, all: &[Came]) -> Boards {
+    let mut boards = Boards::new(alloc, 3).expect(rt, "memory");
+    for came in all {
+        boards.hear(came.place, heard_of(rt, alloc, came));
+    }
+    boards
+}
+
+fn numbers_of(rt: &impl Abort, alloc: Global, boards: &Boards) -> Vec<u16> {
+    let nodes = boards.nodes(alloc, FOUNDING).expect(rt, "memory");
+    let mut numbers = Vec::new(alloc);
+    for node in &nodes {
+        numbers.push(node.0).expect(rt, "memory");
+    }
+    numbers
+}
+
+#[test]
+fn a_majority_tells_the_holder(rt: HostRuntime) {
+    let alloc = rt.alloc();
+    let boards = boards_of(
+        &rt,
+        alloc,
+        &[board_at(0, 10, TELLS_A), board_at(2, 11, MOVED)],
+    );
+    assert_eq!(rt; boards.holder(FOUNDING, NodeId(3)), Some(A));
+    assert_eq!(rt;
+        boards.told_of(FOUNDING, NodeId(3)).as_slice(),
+        [Some(A), None, Some(A)].as_slice()
+    );
+    assert_eq!(rt;
+        boards.address_of(FOUNDING, NodeId(3)),
+        Some(b"moved".as_slice())
+    );
+    assert_eq!(rt; boards.holder(FOUNDING, NodeId(9)), None);
+    assert_eq!(rt; boards.address_of(FOUNDING, NodeId(9)), None);
+    assert_eq!(rt; boards.holder(8, NodeId(3)), None);
+    assert_eq!(rt; numbers_of(&rt, alloc, &boards).as_slice(), [3].as_slice());
+}
+
+#[test]
+fn one_manager_is_no_majority(rt: HostRuntime) {
+    let alloc = rt.alloc();
+    let boards = boards_of(
+        &rt,
+        alloc,
+        &[board_at(0, 10, TELLS_A), board_at(1, 11, TELLS_B)],
+    );
+    assert_eq!(rt; boards.holder(FOUNDING, NodeId(3)), None);
+    assert_eq!(rt; numbers_of(&rt, alloc, &boards).len(), 0);
+}
+
+#[test]
+fn the_last_board_counts(rt: HostRuntime) {
+    let alloc = rt.alloc();
+    let told = [
+        board_at(0, 10, TELLS_A),
+        board_at(1, 11, TELLS_B),
+        board_at(2, 12, TELLS_A),
+        board_at(1, 13, TELLS_A),
+        board_at(3, 14, TELLS_B),
+    ];
+    let boards = boards_of(&rt, alloc, &told);
+    assert_eq!(rt; boards.holder(FOUNDING, NodeId(3)), Some(A));
+    assert_eq!(rt;
+        numbers_of(&rt, alloc, &boards).as_slice(),
+        [3, 9].as_slice()
+    );
+    assert_eq!(rt; boards.of(1).map(|heard| heard.came), Some(13));
+    assert!(rt; boards.of(3).is_none());
+}
+
+#[test]
+fn boards_of_managers_that_are_not_open_tell_nothing(rt: HostRuntime) {
+    let alloc = rt.alloc();
+    let founded = Came {
+        stage: Stage::Founded,
+        ..board_at(2, 11, TELLS_A)
+    };
+    let boards = boards_of(&rt, alloc, &[board_at(0, 10, TELLS_A), founded]);
+    assert_eq!(rt; boards.holder(FOUNDING, NodeId(3)), None);
+}
+
+#[test]
+fn a_majority_tells_who_is_out(rt: HostRuntime) {
+    let alloc = rt.alloc();
+    let boards = boards_of(
+        &rt,
+        alloc,
+        &[board_at(1, 10, LEFT_OUT), board_at(2, 11, MOVED)],
+    );
+    assert!(rt; boards.is_out(FOUNDING, NodeId(9), A));
+    assert!(rt; !boards.is_out(FOUNDING, NodeId(9), B));
+    assert!(rt; !boards.is_out(FOUNDING, NodeId(3), A));
+    assert!(rt; !boards.is_out(8, NodeId(9), A));
+    let boards = boards_of(
+        &rt,
+        alloc,
+        &[board_at(1, 10, LEFT_OUT), board_at(2, 11, TELLS_A)],
+    );
+    assert!(rt; !boards.is_out(FOUNDING, NodeId(9), A));
+}
+
+#[test]
+fn another_founding_is_told_by_a_majority(rt: HostRuntime) {
+    let alloc = rt.alloc();
+    let other = Came {
+        founding: 8,
+        ..board_at(1, 10, TELLS_A)
+    };
+    let also = Came { place: 2, ..other };
+    let boards = boards_of(&rt, alloc, &[board_at(0, 9, TELLS_A), other, also]);
+    assert!(rt; boards.has_another_founding(FOUNDING));
+    assert!(rt; !boards.has_another_founding(8));
+    let not_open = Came {
+        stage: Stage::Founded,
+        ..also
+    };
+    let boards = boards_of(&rt, alloc, &[other, not_open]);
+    assert!(rt; !boards.has_another_founding(FOUNDING));
+}
+
+#[test]
+fn the_least_open_manager_is_asked_that_answered(rt: HostRuntime) {
+    let alloc = rt.alloc();
+    let emptied = Came {
+        stage: Stage::Empty,
+        ..board_at(0, 100, &[])
+    };
+    let boards = boards_of(
+        &rt,
+        alloc,
+        &[emptied, board_at(1, 40, &[]), board_at(2, 90, &[])],
+    );
+    assert_eq!(rt; boards.least_heard(140, 100), Some(1));
+    assert_eq!(rt; boards.least_heard(141, 100), Some(2));
+    assert_eq!(rt; boards.least_heard(191, 100), None);
+    assert_eq!(rt; boards.least_heard(10, 0), Some(1));
+}
+
+#[test]
+fn a_manager_counts_itself_among_those_that_answered(rt: HostRuntime) {
+    let alloc = rt.alloc();
+    let boards = boards_of(&rt, alloc, &[board_at(1, 10, &[])]);
+    assert!(rt; boards.majority_answered(0));
+    assert!(rt; !boards.majority_answered(1));
+    let boards = boards_of(&rt, alloc, &[]);
+    assert!(rt; !boards.majority_answered(0));
+}
+
+#[test]
+fn the_most_records_are_told_by_the_least_place(rt: HostRuntime) {
+    let alloc = rt.alloc();
+    let fewer = Came {
+        records: 39,
+        ..board_at(0, 10, &[])
+    };
+    let boards = boards_of(
+        &rt,
+        alloc,
+        &[fewer, board_at(1, 11, &[]), board_at(2, 12, &[])],
+    );
+    assert_eq!(rt; boards.most_records(), Some((1, 40)));
+    let boards = boards_of(&rt, alloc, &[]);
+    assert_eq!(rt; boards.most_records(), None);
+}

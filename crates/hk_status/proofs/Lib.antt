@@ -1,0 +1,3 @@
+mod Ranging
+mod Lengths
+mod Shared

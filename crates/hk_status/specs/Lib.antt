@@ -1,0 +1,5 @@
+pub mod Words
+pub mod Views
+pub mod Lines
+pub mod Limits
+pub mod Worked
