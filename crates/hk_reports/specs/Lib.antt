@@ -1,0 +1,3 @@
+pub mod Reports
+pub mod Hearing
+pub mod Laws
