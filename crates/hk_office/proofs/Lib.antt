@@ -1,0 +1,4 @@
+mod Logging
+mod Bound
+mod Closed
+mod Ranging

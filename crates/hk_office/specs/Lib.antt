@@ -1,0 +1,13 @@
+pub mod Stages
+pub mod Numbers
+pub mod Marks
+pub mod Board
+pub mod Founding
+pub mod Office
+pub mod Answers
+pub mod Seating
+pub mod Leaving
+pub mod Wishing
+pub mod Steps
+pub mod Laws
+pub mod Ranges
