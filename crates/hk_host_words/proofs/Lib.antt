@@ -1,0 +1,8 @@
+mod Carried
+mod Digits
+mod Taking
+mod Coming
+mod Checking
+mod HostLists
+mod Single
+mod Commanding
