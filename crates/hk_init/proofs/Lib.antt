@@ -1,0 +1,7 @@
+mod Deeds
+mod Looking
+mod Founding
+mod Opening
+mod Answering
+mod Joining
+mod Reserving

@@ -1,0 +1,24 @@
+-- The numbers of a command's faults, and what comes of a host that tells no answer.
+use Rattle.std.specs.Prelude.{ℕ}
+use Rattle.hk_init.specs.declared.fault.AskFault.{AskFault}
+use Rattle.hk_init.specs.declared.fault.AskFault.TheVariants as asks
+use Rattle.hk_init.specs.declared.fault.CommandFault.{CommandFault}
+use Rattle.hk_init.specs.declared.fault.CommandFault.TheVariants.{Memory, WriteFault, Unreachable, Denied, Refused, OtherLease, NoNode, Late, NotOpen}
+
+-- the number that the process ends with: 12 where the group refuses, 13 where a host can't be had
+abbrev pub number_of_fault : CommandFault → ℕ
+number_of_fault Memory = 1
+number_of_fault WriteFault = 4
+number_of_fault (Unreachable place) = 13
+number_of_fault (Denied place reason) = 12
+number_of_fault (Refused text) = 12
+number_of_fault (OtherLease place) = 12
+number_of_fault NoNode = 12
+number_of_fault Late = 12
+number_of_fault (NotOpen place) = 13
+
+-- the host of a place told no answer
+abbrev pub not_asked : ℕ → AskFault → CommandFault
+not_asked place asks.Memory = Memory
+not_asked place asks.Silent = Unreachable place
+not_asked place (asks.Refused reason) = Denied place reason

@@ -1,0 +1,104 @@
+-- What the commands do, and how each of them ends.
+use Rattle.std.specs.Prelude.{◌≡◌, ◌<◌, ◌⊎◌, ℕ, Bool, true, List, [], ◌∷◌, ◌++◌, length, take, is_err, Option, Result, Ok, Err}
+use Rattle.std.specs.List.{list_all}
+use Rattle.std.specs.Io.KnownBytes.{Appends}
+use Rattle.hk_fields.specs.declared.hosts.HostTickets.{HostTickets}
+use Rattle.hk_inside.specs.declared.inquiry.Inquiry.TheVariants as inquiry
+use Rattle.hk_inside.specs.declared.response.ManagerState.{ManagerState}
+use Rattle.hk_inside.specs.declared.response.Response.{Response}
+use Rattle.hk_inside.specs.declared.response.Response.TheVariants as response
+use Rattle.hk_init.specs.declared.fault.AskFault.{AskFault}
+use Rattle.hk_init.specs.declared.fault.AskFault.TheVariants as asks
+use Rattle.hk_init.specs.declared.fault.CommandFault.{CommandFault}
+use Rattle.hk_init.specs.declared.fault.CommandFault.TheVariants.{Memory, WriteFault}
+use Rattle.hk_init.specs.Faults.{not_asked}
+use Rattle.hk_init.specs.Deeds.{Outcome, Deed, Reading, exchanges}
+use Rattle.hk_init.specs.Phases.{Looks, Agrees, Founds, Opens}
+use Rattle.hk_init.specs.Lines.{founded_line, open_words}
+
+-- where something was given, what comes next; else nothing is done any more
+abbrev pub Goes : {A B : Type 0} → (A → List Deed → Result B CommandFault → Type 0) →
+    Result A CommandFault → List Deed → Result B CommandFault → Type 0
+Goes next (Ok x) deeds result = next x deeds result
+Goes next (Err fault) deeds result = (deeds ≡ []) × (result ≡ Err fault)
+
+-- first this, and then that
+abbrev pub Then : {A B : Type 0} → (List Deed → Result A CommandFault → Type 0) →
+    (A → List Deed → Result B CommandFault → Type 0) → List Deed → Result B CommandFault → Type 0
+Then {A} first next deeds result = (front back : List Deed) × (given : Result A CommandFault) ×
+    (deeds ≡ front ++ back) × first front given × Goes next given back result
+
+-- FOUND with these tickets, and then STATUS until all tell the words
+abbrev pub IsFounded : List ℕ → ℕ → ℕ → ℕ → List HostTickets → List Deed → Result (Unit {0}) CommandFault → Type 0
+IsFounded words count founding began hosts = Then (Founds began count (inquiry.Found founding hosts)) (λ done. Opens words count)
+
+-- with the tickets that these states have, where they agree
+abbrev pub IsAgreed : List ℕ → ℕ → ℕ → ℕ → List ManagerState → List Deed → Result (Unit {0}) CommandFault → Type 0
+IsAgreed words count founding began states deeds result = (agreed : Result (List HostTickets) CommandFault) ×
+    Agrees states agreed × Goes (IsFounded words count founding began) agreed deeds result
+
+-- A reading, then LOOK, and where all managers are reserved, FOUND.
+abbrev pub IsFounding : List ℕ → ℕ → ℕ → List Deed → Result (Unit {0}) CommandFault → Type 0
+IsFounding words count founding deeds result = (began : ℕ) × (behind : List Deed) ×
+    (deeds ≡ Reading began ∷ behind) × Then (Looks count founding) (IsAgreed words count founding began) behind result
+
+-- ---- what is written
+
+-- The text is written; or writing failed, behind a front of it. Where there is none, nothing is.
+abbrev pub Writes : Result (List ℕ) CommandFault → (before now : Option (List ℕ)) → Result (Unit {0}) CommandFault → Type 0
+Writes (Ok text) before now (Ok done) = Appends before now text
+Writes (Ok text) before now (Err fault) = (fault ≡ WriteFault) × (n : ℕ) × Appends before now (take n text)
+Writes (Err fault) before now result = (result ≡ Err fault) × (now ≡ before)
+
+-- the line, where all went well
+abbrev pub line_where : List ℕ → Result (Unit {0}) CommandFault → Result (List ℕ) CommandFault
+line_where line (Ok done) = Ok line
+line_where line (Err fault) = Err fault
+
+-- A group was founded, or why not, and the line is written; or there was no memory for the lines, and nothing was done.
+abbrev pub Inits : List ℕ → ℕ → ℕ → List Deed → (before now : Option (List ℕ)) → Result (Unit {0}) CommandFault → Type 0
+Inits group count founding deeds before now result =
+    ((ended : Result (Unit {0}) CommandFault) × IsFounding (open_words group founding) count founding deeds ended ×
+    Writes (line_where (founded_line founding) ended) before now result)
+    ⊎ ((deeds ≡ []) × (now ≡ before) × (result ≡ Err Memory))
+
+-- ---- STATUS
+
+-- the text that a host answers
+abbrev pub status_in : Response → Result (List ℕ) AskFault
+status_in (response.Status text) = Ok text
+status_in response.Yes = Err asks.Silent
+status_in (response.No code text) = Err asks.Silent
+status_in (response.State state) = Err asks.Silent
+status_in (response.Board board) = Err asks.Silent
+status_in (response.Seated node) = Err asks.Silent
+
+abbrev pub status_of : Outcome → Result (List ℕ) AskFault
+status_of (Ok response) = status_in response
+status_of (Err fault) = Err fault
+
+abbrev pub lacks_status : Outcome → Bool
+lacks_status outcome = is_err (status_of outcome)
+
+abbrev pub fault_or : AskFault → Result (List ℕ) AskFault → AskFault
+fault_or usual (Ok text) = usual
+fault_or usual (Err fault) = fault
+
+-- why host 0 told nothing
+abbrev pub first_fault : List Outcome → AskFault
+first_fault [] = asks.Silent
+first_fault (outcome ∷ outcomes) = fault_or asks.Silent (status_of outcome)
+
+-- One host after the other was asked, and this one is the first that answered; or none of so many did, and it is told why
+-- host 0 did not.
+abbrev pub FirstAnswers : ℕ → List Deed → Result (List ℕ) CommandFault → Type 0
+FirstAnswers count deeds (Ok text) = (outcomes : List Outcome) × (outcome : Outcome) ×
+    (deeds ≡ exchanges inquiry.Status (outcomes ++ outcome ∷ [])) × (length outcomes < count) ×
+    (list_all lacks_status outcomes ≡ true) × (status_of outcome ≡ Ok text)
+FirstAnswers count deeds (Err fault) = (outcomes : List Outcome) ×
+    (deeds ≡ exchanges inquiry.Status outcomes) × (length outcomes ≡ count) ×
+    (list_all lacks_status outcomes ≡ true) × (fault ≡ not_asked 0 (first_fault outcomes))
+
+-- What the first host answers is written.
+abbrev pub TellsStatus : ℕ → List Deed → (before now : Option (List ℕ)) → Result (Unit {0}) CommandFault → Type 0
+TellsStatus count deeds before now result = (told : Result (List ℕ) CommandFault) × FirstAnswers count deeds told × Writes told before now result

@@ -1,0 +1,163 @@
+//! The commands.
+
+ghost use Rattle.std.specs.Prelude.{◌≡◌, ◌≤◌, ◌==◌, if◌then◌else◌, List, [], ◌∷◌, length, Ok, Err};
+ghost use Rattle.hk_outside.specs.Causes.{Rose};
+ghost use Rattle.hk_inside.specs.Messages.{IsInquiryInRange};
+ghost use Rattle.hk_inside.specs.declared.inquiry.Inquiry.TheVariants.{Status as StatusOf};
+ghost use Rattle.hk_init.specs.Deeds.{Did, Asked};
+ghost use Rattle.hk_init.specs.Phases.{Founds, Opens};
+ghost use Rattle.hk_init.specs.Init.{Then, IsAgreed, IsFounding, Writes, Inits, status_in, status_of, FirstAnswers, TellsStatus};
+
+use crate::asking::AskHost;
+use crate::fault::{AskFault, CommandFault};
+use crate::founds::found_all;
+use crate::lines::{founded_line, open_words};
+use crate::looks::{agreed, look_at_all};
+use crate::opens::await_all;
+use hk_base::Sequence;
+use hk_inside::{Inquiry, ManagerState, Response};
+use hk_outside::{Sink, write_all};
+use std::alloc::Global;
+
+// FOUND, and then STATUS until all are open.
+fn found<A: AskHost>(
+    asker: &mut A,
+    words: &[u8],
+    count: usize,
+    began: u64,
+    inquiry: &Inquiry,
+) -> Result<(), CommandFault>
+    requires { IsInquiryInRange inquiry.now }
+    ensures { Did (A.deeds asker.old) (A.deeds asker.new) (λ deeds. Then (Founds began count inquiry.now) (λ _. Opens words.now count) deeds result) }
+{
+    found_all(asker, count, began, inquiry)?;
+    await_all(asker, count, words)
+}
+
+// FOUND with the tickets that all have told, where they agree.
+fn found_with<A: AskHost>(
+    alloc: Global,
+    asker: &mut A,
+    words: &[u8],
+    founding: u64,
+    began: u64,
+    states: &[ManagerState],
+) -> Result<(), CommandFault>
+    requires founding { 1 ≤ founding }
+    requires some { 1 ≤ length states.now }
+    requires few { length states.now ≤ 9 }
+    ensures { Did (A.deeds asker.old) (A.deeds asker.new) (λ deeds. IsAgreed words.now (length states.now) founding began states.now deeds result) }
+{
+    let hosts = agreed(alloc, states)?;
+    let inquiry = Inquiry::Found { founding, hosts };
+    found(asker, words, states.len(), began, &inquiry)
+}
+
+// Founds the group, and waits until all managers tell these words.
+fn found_group<A: AskHost>(
+    alloc: Global,
+    asker: &mut A,
+    words: &[u8],
+    count: usize,
+    founding: u64,
+) -> Result<(), CommandFault>
+    requires founding { 1 ≤ founding }
+    requires some { 1 ≤ count }
+    requires few { count ≤ 9 }
+    ensures { Did (A.deeds asker.old) (A.deeds asker.new) (λ deeds. IsFounding words.now count founding deeds result) }
+{
+    let began = asker.read_clock();
+    let states = look_at_all(alloc, asker, count, founding)?;
+    found_with(alloc, asker, words, founding, began, states.as_slice())
+}
+
+fn write<K: Sink>(sink: &mut K, text: &[u8]) -> Result<(), CommandFault>
+    ensures written { Writes (Ok text.now) (K.held sink.old) (K.held sink.new) result }
+    ensures failed { result ≡ Err CommandFault.WriteFault → Rose (K.faults sink.old) (K.faults sink.new) }
+{
+    match write_all(sink, text) {
+        Ok(()) => Ok(()),
+        Err(_) => Err(CommandFault::WriteFault),
+    }
+}
+
+/// Founds a group of so many hosts, 1 to 9, with a founding that is not 0 and that nobody else draws, and writes
+/// `founded` and that founding once all of its managers are open. Where it ends before, the command may be given again,
+/// with another founding: what it left does no harm.
+pub fn init<A: AskHost, K: Sink>(
+    alloc: Global,
+    asker: &mut A,
+    group: &[u8],
+    count: usize,
+    founding: u64,
+    sink: &mut K,
+) -> Result<(), CommandFault>
+    requires founding { 1 ≤ founding }
+    requires some { 1 ≤ count }
+    requires few { count ≤ 9 }
+    ensures does { Did (A.deeds asker.old) (A.deeds asker.new) (λ deeds. Inits group.now count founding deeds (K.held sink.old) (K.held sink.new) result) }
+    ensures failed { result ≡ Err CommandFault.WriteFault → Rose (K.faults sink.old) (K.faults sink.new) }
+{
+    let Ok(words) = open_words(alloc, group, founding) else {
+        return Err(CommandFault::Memory);
+    };
+    let Ok(line) = founded_line(alloc, founding) else {
+        return Err(CommandFault::Memory);
+    };
+    found_group(alloc, asker, &words, count, founding)?;
+    write(sink, &line)
+}
+
+// The text of an answer to STATUS.
+fn status_in(response: Response) -> Result<Sequence<u8>, AskFault>
+    ensures { result ≡ status_in response }
+{
+    match response {
+        Response::Status(text) => Ok(text),
+        Response::Yes => Err(AskFault::Silent),
+        Response::No { code: _, text: _ } => Err(AskFault::Silent),
+        Response::State(_) => Err(AskFault::Silent),
+        Response::Board(_) => Err(AskFault::Silent),
+        Response::Seated(_) => Err(AskFault::Silent),
+    }
+}
+
+fn ask_status<A: AskHost>(asker: &mut A, place: usize) -> Result<Sequence<u8>, AskFault>
+    ensures { Asked (A.deeds asker.old) (A.deeds asker.new) place StatusOf (λ outcome. result ≡ status_of outcome) }
+{
+    status_in(asker.ask(place, &Inquiry::Status)?)
+}
+
+// Of two faults that of host 0, where the second is that of the host of this place.
+fn earlier(place: usize, first: AskFault, fault: AskFault) -> AskFault
+    ensures { result ≡ (if place == 0 then fault else first) }
+{
+    if place == 0 { fault } else { first }
+}
+
+// What the first host tells that answers.
+fn first_status<A: AskHost>(asker: &mut A, count: usize) -> Result<Sequence<u8>, CommandFault>
+    ensures { Did (A.deeds asker.old) (A.deeds asker.new) (λ deeds. FirstAnswers count deeds result) }
+{
+    let mut first = AskFault::Silent;
+    for place in 0..count {
+        match ask_status(asker, place) {
+            Ok(text) => return Ok(text),
+            Err(fault) => first = earlier(place, first, fault),
+        }
+    }
+    Err(CommandFault::of_ask(0, first))
+}
+
+/// Writes how a group of so many hosts stands, as the first of them tells that answers.
+pub fn status<A: AskHost, K: Sink>(
+    asker: &mut A,
+    count: usize,
+    sink: &mut K,
+) -> Result<(), CommandFault>
+    ensures does { Did (A.deeds asker.old) (A.deeds asker.new) (λ deeds. TellsStatus count deeds (K.held sink.old) (K.held sink.new) result) }
+    ensures failed { result ≡ Err CommandFault.WriteFault → Rose (K.faults sink.old) (K.faults sink.new) }
+{
+    let text = first_status(asker, count)?;
+    write(sink, text.as_slice())
+}

@@ -1,0 +1,9 @@
+//! The tests of the commands `init` and `status`, over a group of three in memory whose managers are founded and open as real ones do.
+#![tactic(auto)]
+
+#[cfg(test)]
+mod commands;
+#[cfg(test)]
+mod group;
+#[cfg(test)]
+mod texts;
