@@ -4,7 +4,6 @@ use Rattle.std.proofs.lemmas.List.{append_cancel_left}
 use Rattle.std.proofs.lemmas.List.Elements.{filter-append}
 use mathlib.Core.HLevel.{is_prop→PathP}
 use mathlib.Core.List.{IsPrefix}
-use Rattle.hk_base.specs.declared.stamp.NodeId.{NodeId}
 use Rattle.hk_base.specs.declared.letter.Letter.{Letter}
 use Rattle.hk_frame.specs.declared.fault.FrameFault.{FrameFault}
 use Rattle.hk_frame.specs.declared.fault.FrameFault.TheVariants.{Short}
@@ -14,7 +13,8 @@ use Rattle.hk_link.specs.declared.parcel.Parcel.{Parcel}
 use Rattle.hk_link.specs.declared.rule.Known.{Known}
 use Rattle.hk_link.specs.Ends.{End, IsPut, IsSameLink}
 use Rattle.hk_link.specs.Parcels.{IsParcel, IsParcel-prop}
-use Rattle.hk_peer.specs.Parcels.{frame_of, HasFrame, AreFrames, NoFrame, is_to, ArePut, Passes}
+use Rattle.hk_peer.specs.declared.course.Course.{Course}
+use Rattle.hk_peer.specs.Parcels.{frame_of, HasFrame, AreFrames, NoFrame, is_on, ArePut, Passes}
 use Rattle.hk_peer.specs.Cut.{IsPart, IsBad}
 
 abbrev Read : Type 0
@@ -89,18 +89,18 @@ puts_both : (a b c : Known) (ps qs : List Parcel) → ArePut a ps b → ArePut b
 puts_both a b c [] qs f g = subst (λ (k : Known). ArePut k qs c) f g
 puts_both a b c (p ∷ ps) qs f g = (f.0, f.1, puts_both f.0 b c ps qs f.2 g)
 
-pub passes_none : (me : NodeId) (bytes : List ℕ) (known : Known) → Passes me bytes bytes known known
-passes_none me bytes known = record { parcels = []; frames = refl; put = refl }
+pub passes_none : (course : Course) (bytes : List ℕ) (known : Known) → Passes course bytes bytes known known
+passes_none course bytes known = record { parcels = []; frames = refl; put = refl }
 
 -- a piece comes
-pub passes_more : (me : NodeId) (bytes more rest : List ℕ) (a b : Known) → Passes me bytes rest a b → Passes me (bytes ++ more) (rest ++ more) a b
-passes_more me bytes more rest a b f = record { parcels = f.parcels; frames = frames_more bytes more rest f.parcels f.frames; put = f.put }
+pub passes_more : (course : Course) (bytes more rest : List ℕ) (a b : Known) → Passes course bytes rest a b → Passes course (bytes ++ more) (rest ++ more) a b
+passes_more course bytes more rest a b f = record { parcels = f.parcels; frames = frames_more bytes more rest f.parcels f.frames; put = f.put }
 
-pub passes_on : (me : NodeId) (bytes middle rest : List ℕ) (a b c : Known) → Passes me bytes middle a b → Passes me middle rest b c → Passes me bytes rest a c
-passes_on me bytes middle rest a b c f g = record {
+pub passes_on : (course : Course) (bytes middle rest : List ℕ) (a b c : Known) → Passes course bytes middle a b → Passes course middle rest b c → Passes course bytes rest a c
+passes_on course bytes middle rest a b c f g = record {
   parcels = f.parcels ++ g.parcels;
   frames = frames_both bytes middle rest f.parcels g.parcels f.frames g.frames;
-  put = rw (filter-append (λ p. is_to me p) f.parcels g.parcels) (puts_both a b c _ _ f.put g.put);
+  put = rw (filter-append (λ p. is_on course p) f.parcels g.parcels) (puts_both a b c _ _ f.put g.put);
 }
 
 put_if : (test : Bool) (p : Parcel) (a b : Known) → (test ≡ true → IsPut a p b) → (test ≡ false → b ≡ a) → ArePut a (cond test (p ∷ []) []) b
@@ -108,8 +108,8 @@ put_if true p a b put lost = (b, put refl, refl)
 put_if false p a b put lost = lost refl
 
 -- the next parcel
-pub passes_one : (me : NodeId) (p : Parcel) (bytes rest : List ℕ) (a b : Known) → HasFrame p → bytes ≡ frame_of p ++ rest → (is_to me p ≡ true → IsPut a p b) → (is_to me p ≡ false → b ≡ a) → Passes me bytes rest a b
-passes_one me p bytes rest a b h e put lost = record { parcels = p ∷ []; frames = (rest, h, e, refl); put = put_if (is_to me p) p a b put lost }
+pub passes_one : (course : Course) (p : Parcel) (bytes rest : List ℕ) (a b : Known) → HasFrame p → bytes ≡ frame_of p ++ rest → (is_on course p ≡ true → IsPut a p b) → (is_on course p ≡ false → b ≡ a) → Passes course bytes rest a b
+passes_one course p bytes rest a b h e put lost = record { parcels = p ∷ []; frames = (rest, h, e, refl); put = put_if (is_on course p) p a b put lost }
 
 pub same_link : (a b c : End) → IsSameLink a b → IsSameLink b c → IsSameLink a c
 same_link a b c h k = (h.0 ∙ k.0, h.1 ∙ k.1)

@@ -1,9 +1,12 @@
-//! Peers: nodes that send each other frames over connections.
+//! Peers: processes that send each other frames over connections.
 //!
 //! A connection from a peer carries frames, one behind the other. [`PeerCutter`] cuts what comes into parcels, and
-//! [`serve_peer`] puts those whose letter is to this node into a link. Which parcels some bytes hold is `AreFrames` and
-//! `NoFrame` (`specs/Parcels.antt`), and no definition knows how the bytes were cut into pieces: what is put depends on
-//! the bytes alone (`Serves`, in `specs/Serving.antt`).
+//! [`serve_peer`] puts those that the connection carries into a link: to one actor and, where a greeting told who sends,
+//! from that one alone ([`Course`], `is_on`). Which parcels some bytes hold is `AreFrames` and `NoFrame`
+//! (`specs/Parcels.antt`), and no definition knows how the bytes were cut into pieces: what is put depends on the bytes
+//! alone (`Serves`, in `specs/Serving.antt`).
+//!
+//! Whoever sends to another actor over connections is a [`Carrier`].
 //!
 //! That a frame comes, or that a parcel is ever taken, is no part of this: a connection that ends loses what was under way.
 //!
@@ -21,11 +24,13 @@
 //! tells a fault of dialling only where the dialer's count rose (`dial_fault`). `send_parcels` and `write_parcels` do
 //! the same of several parcels, one frame behind the other (`frames_of`).
 //!
-//! What no clause says: that a put which waits is ever made, any order over processes, and that what a read brought is
-//! put before the next read (a test shows it). Nothing runs `write_parcels`.
+//! What no clause says: that a put which waits is ever made, any order over processes, that what a read brought is put
+//! before the next read (a test shows it), and what a [`Carrier`] sends. Nothing runs `write_parcels`.
 #![tactic(auto)]
 
 mod batch;
+mod carrier;
+mod course;
 mod cutter;
 mod ends;
 mod pass;
@@ -36,6 +41,8 @@ mod step;
 ghost use Rattle.hk_peer.specs.Laws.{CutInOneWay, StepsStay, PutsAddUp};
 
 pub use batch::{send_parcels, write_parcels};
+pub use carrier::Carrier;
+pub use course::Course;
 pub use cutter::PeerCutter;
 pub use ends::PeerEnd;
 pub use send::{ForwardFault, SendFault, forward, send_parcel};

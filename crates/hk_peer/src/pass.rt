@@ -2,13 +2,13 @@
 
 ghost use Rattle.std.specs.Prelude.{◌≡◌, true, false, OnOk, OnErr};
 ghost use Rattle.hk_link.specs.Ends.{IsPut, IsSameLink};
-ghost use Rattle.hk_peer.specs.Parcels.{is_to};
+ghost use Rattle.hk_peer.specs.Parcels.{is_on};
 ghost use Rattle.hk_peer.specs.Turns.{IsStop, PassesUnlessEnded};
 
+use crate::course::Course;
 use crate::cutter::PeerCutter;
 use crate::ends::PeerEnd;
 use crate::step::PeerStep;
-use hk_base::{Actor, NodeId};
 use hk_link::{Full, Outlet, Parcel};
 use std::alloc::Global;
 use std::sync::Wait;
@@ -75,43 +75,39 @@ fn put<R: Wait>(rt: &R, outlet: &mut Outlet, parcel: Parcel) -> Result<(), Untak
     unreachable!()
 }
 
-fn is_to(me: NodeId, parcel: &Parcel) -> bool
-    ensures { result ≡ is_to me parcel.now }
-{
-    match parcel.letter.to {
-        Actor::Node(node) => node.0 == me.0,
-        Actor::Manager(_) => false,
-    }
-}
-
-// Puts a parcel to this node. Any other is lost.
-fn pass_on<R: Wait>(rt: &R, me: NodeId, outlet: &mut Outlet, parcel: Parcel) -> Result<(), Untaken>
+// Puts a parcel that the connection carries. Any other is lost.
+fn pass_on<R: Wait>(
+    rt: &R,
+    course: Course,
+    outlet: &mut Outlet,
+    parcel: Parcel,
+) -> Result<(), Untaken>
     ensures link { IsSameLink outlet.new outlet.old }
-    ensures put { OnOk result (is_to me parcel ≡ true → IsPut outlet.old.known parcel outlet.new.known) }
-    ensures lost { OnOk result (is_to me parcel ≡ false → outlet.new.known ≡ outlet.old.known) }
+    ensures put { OnOk result (is_on course parcel ≡ true → IsPut outlet.old.known parcel outlet.new.known) }
+    ensures lost { OnOk result (is_on course parcel ≡ false → outlet.new.known ≡ outlet.old.known) }
     ensures untaken { OnErr result (outlet.new.known ≡ outlet.old.known) }
 {
-    if is_to(me, &parcel) {
+    if course.carries(&parcel) {
         return put(rt, outlet, parcel);
     }
     Ok(())
 }
 
-// Puts the parcels to this node whose frames are there, in their order. They are rung for later.
+// Puts the parcels that the connection carries whose frames are there, in their order. They are rung for later.
 fn put_all<R: Wait>(
     rt: &R,
     alloc: Global,
     cutter: &mut PeerCutter,
-    me: NodeId,
+    course: Course,
     outlet: &mut Outlet,
 ) -> Result<(), PeerEnd>
     ensures link { IsSameLink outlet.new outlet.old }
-    ensures passed { PassesUnlessEnded result me cutter.old.unread cutter.new.unread outlet.old.known outlet.new.known }
+    ensures passed { PassesUnlessEnded result course cutter.old.unread cutter.new.unread outlet.old.known outlet.new.known }
     ensures stop { IsStop result cutter.new.unread }
 {
     loop {
         match cutter.next(alloc) {
-            Ok(PeerStep::Parcel(parcel)) => match pass_on(rt, me, outlet, parcel) {
+            Ok(PeerStep::Parcel(parcel)) => match pass_on(rt, course, outlet, parcel) {
                 Ok(()) => {}
                 Err(Untaken) => return Err(PeerEnd::Memory),
             },
@@ -122,19 +118,19 @@ fn put_all<R: Wait>(
     }
 }
 
-/// Puts the parcels to this node whose frames are there, in their order, and rings once for all of them.
+/// Puts the parcels that the connection carries whose frames are there, in their order, and rings once for all of them.
 pub fn pass<R: Wait>(
     rt: &R,
     alloc: Global,
     cutter: &mut PeerCutter,
-    me: NodeId,
+    course: Course,
     outlet: &mut Outlet,
 ) -> Result<(), PeerEnd>
     ensures link { IsSameLink outlet.new outlet.old }
-    ensures passed { PassesUnlessEnded result me cutter.old.unread cutter.new.unread outlet.old.known outlet.new.known }
+    ensures passed { PassesUnlessEnded result course cutter.old.unread cutter.new.unread outlet.old.known outlet.new.known }
     ensures stop { IsStop result cutter.new.unread }
 {
-    let ends = put_all(rt, alloc, cutter, me, outlet);
+    let ends = put_all(rt, alloc, cutter, course, outlet);
     outlet.ring(rt);
     ends
 }

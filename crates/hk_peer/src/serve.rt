@@ -6,10 +6,10 @@ ghost use Rattle.hk_outside.specs.Causes.{Rose};
 ghost use Rattle.hk_peer.specs.Serving.{Serves};
 ghost use Rattle.hk_peer.specs.Turns.{Pieces};
 
+use crate::course::Course;
 use crate::cutter::PeerCutter;
 use crate::ends::PeerEnd;
 use crate::pass::pass;
-use hk_base::NodeId;
 use hk_link::Outlet;
 use hk_outside::Source;
 use std::alloc::Global;
@@ -35,7 +35,7 @@ fn read_piece<C: Source>(cutter: &mut PeerCutter, conn: &mut C) -> Result<usize,
     Ok(count)
 }
 
-/// Serves the connection of a peer: puts each parcel whose letter is to this node into the link, in the order in which they came, and passes over any other. A put
+/// Serves the connection of a peer: puts each parcel that it carries into the link, in the order in which they came, and passes over any other. A put
 /// waits while the link is full, unless the link's bell is closed: then nobody takes from it any more, and the connection ends.
 ///
 /// What was put is all that the bytes hold which were read before the connection ended, but at `Memory`, where it is a beginning of that.
@@ -43,12 +43,12 @@ pub fn serve_peer<R: Wait, C: Source>(
     rt: &R,
     alloc: Global,
     conn: &mut C,
-    me: NodeId,
+    course: Course,
     outlet: &mut Outlet,
 ) -> PeerEnd
     ensures link { IsSameLink outlet.new outlet.old }
-    // What was put is what the bytes that were read hold for this node, whatever the pieces in which they came.
-    ensures served { Serves me result (C.left conn.old) (C.left conn.new) (C.given conn.old) (C.given conn.new) outlet.old.known outlet.new.known }
+    // What was put is what the bytes that were read hold for its course, whatever the pieces in which they came.
+    ensures served { Serves course result (C.left conn.old) (C.left conn.new) (C.given conn.old) (C.given conn.new) outlet.old.known outlet.new.known }
     ensures read_fault { result ≡ PeerEnd.ReadFault → Rose (C.faults conn.old) (C.faults conn.new) }
 {
     let Ok(mut cutter) = PeerCutter::new(alloc) else {
@@ -62,7 +62,7 @@ pub fn serve_peer<R: Wait, C: Source>(
         if count == 0 {
             return PeerEnd::End;
         }
-        match pass(rt, alloc, &mut cutter, me, outlet) {
+        match pass(rt, alloc, &mut cutter, course, outlet) {
             Ok(()) => {}
             Err(end) => return end,
         }

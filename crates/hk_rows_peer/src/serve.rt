@@ -3,11 +3,11 @@
 ghost use Rattle.std.specs.Prelude.{◌≡◌, Some, None, []};
 ghost use Rattle.hk_link.specs.Ends.{IsSameLink};
 
-use hk_base::NodeId;
+use hk_base::{Actor, NodeId};
 use hk_frame::FrameFault;
 use hk_link::{Inlet, Parcel, link};
 use hk_outside::{Failed, MemorySource, Source};
-use hk_peer::{PeerEnd, serve_peer};
+use hk_peer::{Course, PeerEnd, serve_peer};
 use std::alloc::Global;
 use std::process::Abort;
 use std::sync::Wait;
@@ -74,7 +74,13 @@ fn served<R: Wait + Abort>(
         source: MemorySource::new(bytes, Vec::new(alloc)),
         most,
     };
-    let end = serve_peer(rt, alloc, &mut conn, NodeId(me), &mut outlet);
+    let end = serve_peer(
+        rt,
+        alloc,
+        &mut conn,
+        Course::to(Actor::Node(NodeId(me))),
+        &mut outlet,
+    );
     let first = taken(rt, &mut inlet);
     let second = taken(rt, &mut inlet);
     let third = taken(rt, &mut inlet);

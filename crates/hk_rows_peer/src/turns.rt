@@ -4,10 +4,10 @@ ghost use Rattle.std.specs.Prelude.{◌≡◌, Some, None, []};
 ghost use Rattle.hk_link.specs.Ends.{IsSameLink};
 
 use crate::serve::ACK;
-use hk_base::NodeId;
+use hk_base::{Actor, NodeId};
 use hk_link::{Inlet, link};
 use hk_outside::{Failed, MemorySource, Source};
-use hk_peer::{PeerEnd, serve_peer};
+use hk_peer::{Course, PeerEnd, serve_peer};
 use std::alloc::Global;
 use std::process::Abort;
 use std::sync::Wait;
@@ -63,7 +63,13 @@ fn serve_two<R: Wait + Copy + Drop + Abort>(rt: R, alloc: Global) -> (PeerEnd, I
         reads: 0,
         is_late: false,
     };
-    let end = serve_peer(&rt, alloc, &mut conn, NodeId(0), &mut outlet);
+    let end = serve_peer(
+        &rt,
+        alloc,
+        &mut conn,
+        Course::to(Actor::Node(NodeId(0))),
+        &mut outlet,
+    );
     (end, conn)
 }
 

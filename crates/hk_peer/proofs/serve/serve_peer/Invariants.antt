@@ -9,5 +9,5 @@ invariant-loop-read g l = record {
   link : IsSameLink l.outlet l.fn.outlet;
   part : IsPart l.cutter.unread;
   faults : g.C.Source.faults l.fn.conn ≤ g.C.Source.faults l.conn;
-  serving : IsServing l.me (g.C.Source.left l.fn.conn) (g.C.Source.left l.conn) (g.C.Source.given l.fn.conn) (g.C.Source.given l.conn) l.fn.outlet.known l.outlet.known l._read l.cutter.unread;
+  serving : IsServing l.course (g.C.Source.left l.fn.conn) (g.C.Source.left l.conn) (g.C.Source.given l.fn.conn) (g.C.Source.given l.conn) l.fn.outlet.known l.outlet.known l._read l.cutter.unread;
 }
