@@ -53,5 +53,5 @@ pub fn found<R: Wait>(
     ensures { IfOk result (λ founded. founded.node ≡ node) }
 {
     let tickets = Arc::try_clone(tickets)?;
-    Shards::<Quiet, Brand>::founders(rt, alloc, node, view, MAX_TIME, 0, 0, tickets)
+    Shards::<Quiet, Brand>::founders(rt, alloc, node, view, MAX_TIME, MAX_TIME, 0, 0, tickets)
 }

@@ -26,10 +26,11 @@ use hk_drill::{drill, joint};
 use hk_generate::generate_run;
 use hk_group::serve;
 use hk_joint_storm::joint_storm;
-use hk_outside::{Clock, Doors, Sink, Source, Spawner, Status, write_all};
+use hk_outside::{Doors, Sink, Source, Spawner, Status, write_all};
 use hk_process::serve_process;
 use hk_storm::storm;
 use hk_watching::watch_writes;
+use hk_worker::DeskClock;
 use std::alloc::Global;
 use std::io::Eprint;
 use std::sync::{Arc, Wait};
@@ -53,7 +54,7 @@ fn perform<
     R: Threads + Wait + Eprint + Copy + Send + Sync + 'static,
     S: Source,
     K: Sink,
-    C: Clock + Send + Sync + Drop + 'static,
+    C: DeskClock + Send + Sync + Drop + 'static,
     D: Doors,
     P: Spawner,
 >(
@@ -159,7 +160,7 @@ pub fn hermes<
     R: Threads + Wait + Eprint + Copy + Send + Sync + 'static,
     S: Source,
     K: Sink,
-    C: Clock + Send + Sync + Drop + 'static,
+    C: DeskClock + Send + Sync + Drop + 'static,
     D: Doors,
     P: Spawner,
 >(

@@ -1,8 +1,11 @@
 -- What a group is, and its founders.
 use Rattle.std.specs.Prelude.{◌≡◌, ℕ, zero, suc, ◌+◌, ◌≤◌, List, [], ◌∷◌}
+use Rattle.std.specs.List.{AllByRecursion}
 use Rattle.hk_base.specs.declared.stamp.NodeId.{NodeId}
 use Rattle.hk_base.specs.declared.time.TheConstants.{MAX_TIME}
 use Rattle.hk_base.specs.declared.view.View.{View}
+use Rattle.hk_node.specs.Made.{founder}
+use Rattle.hk_shard.specs.Shard.{ShardState, IsNew}
 use Rattle.hk_group.specs.declared.group.Group.{Group}
 
 -- the limits of a group: 1 to 16 nodes, at most 9 managers, a lease and a skew within the limit of clocks
@@ -21,3 +24,7 @@ counted n (suc k) = record { 0 = n } ∷ counted (n + 1) k
 -- the first view has all founders as its members
 abbrev pub first_view : ℕ → View
 first_view nodes = record { epoch = 1; members = counted 0 nodes; next = nodes }
+
+-- at each of these shards nothing has happened yet: its node is a founder of this number, in the first view, whose first leases end at `first_end`
+abbrev pub AreFounders : Group → ℕ → ℕ → List ShardState → Type 0
+AreFounders g number first_end shards = AllByRecursion (IsNew (founder (record { 0 = number }) (first_view g.nodes) first_end g.skew g.managers)) shards

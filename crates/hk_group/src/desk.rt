@@ -14,7 +14,7 @@ use hk_locked::Places;
 use hk_outside::{Begun, Clock, Desk, DeskReply};
 use hk_shard::shard_of;
 use hk_snap::LeaseCell;
-use hk_worker::{ClockDesk, OpenAsk, Patience, Post};
+use hk_worker::{ClockDesk, DeskClock, OpenAsk, Patience, Post};
 use std::sync::{Arc, Wait};
 
 // So long, in milliseconds, a desk waits at least for a lease that serves.
@@ -153,7 +153,7 @@ impl<C: Clock + Drop> Ringing<C> {
 
 /// A desk at a node. It has the journals that it filled begun anew, and wakes the node's workers where it finds a lease near its end, or brought much data.
 #[derive(Drop)]
-pub struct GroupDesk<C: Clock + Drop, R: Wait + Drop, P: Places> {
+pub struct GroupDesk<C: DeskClock + Drop, R: Wait + Drop, P: Places> {
     pub(crate) rt: R,
     pub(crate) desk: ClockDesk<C, R, Unheard, P>,
     pub(crate) ringing: Ringing<C>,
@@ -190,7 +190,7 @@ fn count<C: Clock + Drop, R: Wait, P: Places>(
     }
 }
 
-impl<C: Clock + Drop, R: Wait + Drop, P: Places> Desk for GroupDesk<C, R, P> {
+impl<C: DeskClock + Drop, R: Wait + Drop, P: Places> Desk for GroupDesk<C, R, P> {
     type Waits = OpenAsk;
 
     ghost asks = { λ desk. None };
@@ -200,7 +200,7 @@ impl<C: Clock + Drop, R: Wait + Drop, P: Places> Desk for GroupDesk<C, R, P> {
     #[tactic(auto, using(hk_worker::proofs::Freely::looked_itself))]
     fn ask(&mut self, key: &Key, op: &Op) -> Result<DeskReply, Memory>
         ensures suits { Suits op.now result }
-        ensures told { AsksByClock (C.reading self.old.desk.clock.value) key.now op.now self.old.desk.desk.post self.new.desk.desk.post result }
+        ensures told { AsksByClock (C.was_read self.old.desk.clock.value) (C.reading self.old.desk.clock.value) key.now op.now self.old.desk.desk.post self.new.desk.desk.post result }
     {
         if !is_ready(
             &self.rt,
@@ -220,7 +220,7 @@ impl<C: Clock + Drop, R: Wait + Drop, P: Places> Desk for GroupDesk<C, R, P> {
     #[tactic(auto, using(hk_worker::proofs::Freely::looked_itself))]
     fn begin(&mut self, key: &Key, op: &Op) -> Result<Begun<OpenAsk>, Memory>
         ensures suits { BeginSuits (λ waits. waits.op) op.now result }
-        ensures told { BeginsByClock (C.reading self.old.desk.clock.value) key.now op.now self.old.desk.desk.post self.new.desk.desk.post result }
+        ensures told { BeginsByClock (C.was_read self.old.desk.clock.value) (C.reading self.old.desk.clock.value) key.now op.now self.old.desk.desk.post self.new.desk.desk.post result }
     {
         if !is_ready(
             &self.rt,

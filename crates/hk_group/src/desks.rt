@@ -16,7 +16,7 @@ use hk_overseer::Outlets;
 use hk_shard::SHARDS;
 use hk_snap::LeaseCell;
 use hk_turns::Inlets;
-use hk_worker::{ClockDesk, NodeDesk, Post, Shards};
+use hk_worker::{ClockDesk, DeskClock, NodeDesk, Post, Shards};
 use std::alloc::Global;
 use std::sync::{Arc, Mutex, Wait};
 
@@ -94,7 +94,17 @@ fn new_post<R: Wait + Drop, C: Drop, P: Places>(
     )
 }
 
-impl<R: Wait + Copy + Drop, C: Clock + Drop, P: Places> GroupDesks<R, C, P> {
+impl<R: Wait + Copy + Drop, C: DeskClock + Drop, P: Places> GroupDesks<R, C, P> {
+    /// What looks at the leases of the first node's shards, shard 0 first.
+    pub fn leases(&self) -> Result<Vec<LeaseCell>, Memory>
+        ensures { IfOk result (λ leases. length leases.items ≡ 8) }
+    {
+        match self.nodes.first() {
+            Some(shards) => lease_cells(&self.station.rt, self.station.alloc, shards),
+            None => Err(Memory),
+        }
+    }
+
     // The desk of the connection of this number. Its node is that number modulo the number of nodes.
     fn desk(&self, number: u32) -> Result<GroupDesk<C, R, P>, Memory> {
         let count = self.nodes.len();
@@ -118,7 +128,7 @@ impl<R: Wait + Copy + Drop, C: Clock + Drop, P: Places> GroupDesks<R, C, P> {
 
 impl<
     R: Wait + Copy + Send + Sync + Drop + 'static,
-    C: Clock + Send + Sync + Drop + 'static,
+    C: DeskClock + Send + Sync + Drop + 'static,
     P: Places + Send + Sync + 'static,
 > Desks for GroupDesks<R, C, P> {
     fn serve<N: Connection>(&self, conn: &mut N, number: u32) {

@@ -3,7 +3,7 @@
 ghost use Rattle.std.specs.Prelude.{◌≡◌, ◌≤◌, ◌<◌, length, map, IfOk};
 ghost use Rattle.hk_base.specs.declared.time.TheConstants.{MAX_TIME};
 ghost use Rattle.hk_worker.specs.Founding.{names_of, AreNamed};
-ghost use Rattle.hk_group.specs.Founding.{IsGroup, counted, first_view};
+ghost use Rattle.hk_group.specs.Founding.{AreFounders, IsGroup, counted, first_view};
 
 use crate::completion::Unheard;
 use crate::group::Group;
@@ -48,6 +48,37 @@ fn first_end(group: &Group) -> u64
     }
 }
 
+// The shards of the node of this number, at which nothing happened yet. Their first leases end then.
+fn found_with<R: Wait>(
+    rt: &R,
+    alloc: Global,
+    view: &View,
+    group: &Group,
+    number: u8,
+    tickets: &Arc<Tickets>,
+    first_end: u64,
+) -> Result<Founded, Memory>
+    requires group { IsGroup group.now }
+    requires view { view.now ≡ first_view group.now.nodes }
+    requires number { number < group.now.nodes }
+    requires first_end { first_end ≤ MAX_TIME }
+    ensures node { IfOk result (λ founded. founded.node ≡ record { 0 = number }) }
+    ensures lease { IfOk result (λ founded. founded.lease ≡ group.now.lease) }
+    ensures founders { IfOk result (λ founded. AreFounders group.now number first_end founded.shards) }
+{
+    Shards::<Unheard, Brand>::founders(
+        rt,
+        alloc,
+        NodeId(u16::from(number)),
+        view,
+        first_end,
+        group.lease,
+        group.skew,
+        group.managers,
+        Arc::try_clone(tickets)?,
+    )
+}
+
 /// The shards of the node of this number, at which nothing happened yet.
 pub fn found_node<R: Wait>(
     rt: &R,
@@ -60,18 +91,29 @@ pub fn found_node<R: Wait>(
     requires group { IsGroup group.now }
     requires view { view.now ≡ first_view group.now.nodes }
     requires number { number < group.now.nodes }
-    ensures { IfOk result (λ founded. founded.node ≡ record { 0 = number }) }
+    ensures node { IfOk result (λ founded. founded.node ≡ record { 0 = number }) }
+    ensures lease { IfOk result (λ founded. founded.lease ≡ group.now.lease) }
 {
-    Shards::<Unheard, Brand>::founders(
-        rt,
-        alloc,
-        NodeId(u16::from(number)),
-        view,
-        first_end(group),
-        group.skew,
-        group.managers,
-        Arc::try_clone(tickets)?,
-    )
+    found_with(rt, alloc, view, group, number, tickets, first_end(group))
+}
+
+/// The same of a node whose first leases have ended: it has to ask the managers for each that it is to have.
+pub fn found_without_lease<R: Wait>(
+    rt: &R,
+    alloc: Global,
+    view: &View,
+    group: &Group,
+    number: u8,
+    tickets: &Arc<Tickets>,
+) -> Result<Founded, Memory>
+    requires group { IsGroup group.now }
+    requires view { view.now ≡ first_view group.now.nodes }
+    requires number { number < group.now.nodes }
+    ensures node { IfOk result (λ founded. founded.node ≡ record { 0 = number }) }
+    ensures lease { IfOk result (λ founded. founded.lease ≡ group.now.lease) }
+    ensures founders { IfOk result (λ founded. AreFounders group.now number 0 founded.shards) }
+{
+    found_with(rt, alloc, view, group, number, tickets, 0)
 }
 
 /// The shards of all nodes, node 0 first. So a list of their names, in this order, names each.

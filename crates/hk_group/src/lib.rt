@@ -11,6 +11,11 @@
 //! the node's workers makes a turn. So does a manager's loop. Both sleep with no time limit, so a server at rest uses
 //! no processor; who waits for an answer sleeps with one (`hk_worker`).
 //!
+//! A [`Member`] is one node alone, for a process whose group has its other nodes, and its managers, in other programs: its
+//! workers, what makes the desks of its clients, the link that leads to it, and a [`Way`] to each other node and each
+//! manager. [`found_node`] gives it the leases that `serve` gives, and [`found_without_lease`] some that are over: the managers
+//! have to grant it others first.
+//!
 //! The caller gives the runtime value, a clock, doors, a spawner, and a group within the limits of `specs/Founding.antt`.
 //!
 //! What is proved. `serve` is Done only where the spawner took a job for each worker and each manager's loop, and then
@@ -18,11 +23,13 @@
 //! (`done`, `HasServedBeside`); the doors are closed then (`closed`). DoorFault and SpawnFault come only where that
 //! object's count rose (`door_fault`, `spawn_fault`). The list of names has the cells of each node (`AreNamed`), and
 //! there are as many as the group has (`found_nodes`). What the desk of a connection tells is what a `ClockDesk` tells
-//! at a post (`GroupDesk`: `told`).
+//! at a post (`GroupDesk`: `told`). A [`Member`] has the stated number of workers, and of ways one for each node and
+//! manager but itself (`workers`, `ways`). What `found_without_lease` gives are shards of a founder of the first view whose
+//! first leases end at 0 (`founders`).
 //!
-//! What no clause says: that its nodes are the founders of the first view, which the code asks of `Shards::founders`;
-//! at which node a connection is served, that workers and managers run and how often they ring, and when journals begin
-//! anew.
+//! What no clause says: that the nodes of `serve` are the founders of the first view, which the code asks of
+//! `Shards::founders`; to whom a way leads; at which node a connection is served, that workers and managers run and how
+//! often they ring, and when journals begin anew.
 #![tactic(auto)]
 
 mod completion;
@@ -41,7 +48,8 @@ mod reserve;
 mod server;
 mod working;
 
-pub use founding::{first_view, found_node};
+pub use desks::GroupDesks;
+pub use founding::{first_view, found_node, found_without_lease};
 pub use gate::Ending;
 pub use group::Group;
 pub use member::{Member, Running, Way};

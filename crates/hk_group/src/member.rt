@@ -19,10 +19,10 @@ use hk_worker::Founded;
 use std::alloc::Global;
 use std::sync::{Arc, Wait};
 
-/// The way of parcels from the node to another one.
+/// The way of parcels from the node to another one, or to a manager.
 #[derive(Drop)]
 pub struct Way {
-    pub node: NodeId,
+    pub to: Actor,
     pub inlet: Inlet,
     /// What is put rings it.
     pub bell: Arc<Bell>,
@@ -36,7 +36,7 @@ pub struct Member<R: Wait + Drop, C: Drop, P: Places> {
     pub desks: GroupDesks<R, C, P>,
     /// Leads to the node. Its workers take what is put.
     pub outlet: Outlet,
-    /// One to each other node, in the order of their numbers.
+    /// One to each other node, in the order of their numbers, and then one to each manager.
     pub ways: Vec<Way>,
     pub running: Running,
 }
@@ -63,12 +63,11 @@ impl Running {
     }
 }
 
-// The way to the node of this number.
-fn new_way(alloc: Global, number: u8, lines: &mut Lines) -> Result<Way, Memory> {
-    let node = NodeId(u16::from(number));
+// The way to this actor.
+fn new_way(alloc: Global, to: Actor, lines: &mut Lines) -> Result<Way, Memory> {
     let bell = Arc::new(alloc, Bell::new())?;
-    let inlet = lines.add(alloc, Actor::Node(node), &bell)?;
-    Ok(Way { node, inlet, bell })
+    let inlet = lines.add(alloc, to, &bell)?;
+    Ok(Way { to, inlet, bell })
 }
 
 // A way more to each node from one number on and below another.
@@ -83,19 +82,35 @@ fn add_ways(
     ensures { OnOk result (length ways.new.items + from ≡ length ways.old.items + end) }
 {
     for number in from..end {
-        ways.push(new_way(alloc, number, lines)?)?;
+        ways.push(new_way(alloc, Actor::Node(NodeId(u16::from(number))), lines)?)?;
     }
     Ok(())
 }
 
-// A way to each of so many nodes but the one of this number.
-fn new_ways(alloc: Global, number: u8, nodes: u8, lines: &mut Lines) -> Result<Vec<Way>, Memory>
-    requires { number < nodes }
-    ensures { IfOk result (λ ways. length ways.items + 1 ≡ nodes) }
+// A way more to each of so many managers.
+fn add_manager_ways(
+    alloc: Global,
+    ways: &mut Vec<Way>,
+    managers: u8,
+    lines: &mut Lines,
+) -> Result<(), Memory>
+    ensures { OnOk result (length ways.new.items ≡ length ways.old.items + managers) }
+{
+    for number in 0..managers {
+        ways.push(new_way(alloc, Actor::Manager(number), lines)?)?;
+    }
+    Ok(())
+}
+
+// A way to each node of the group but the one of this number, and to each manager.
+fn new_ways(alloc: Global, number: u8, group: &Group, lines: &mut Lines) -> Result<Vec<Way>, Memory>
+    requires { number < group.now.nodes }
+    ensures { IfOk result (λ ways. length ways.items + 1 ≡ group.now.nodes + group.now.managers) }
 {
     let mut ways = Vec::new(alloc);
     add_ways(alloc, &mut ways, 0, number, lines)?;
-    add_ways(alloc, &mut ways, number + 1, nodes, lines)?;
+    add_ways(alloc, &mut ways, number + 1, group.nodes, lines)?;
+    add_manager_ways(alloc, &mut ways, group.managers, lines)?;
     Ok(ways)
 }
 
@@ -124,7 +139,7 @@ impl<
     C: Clock + Send + Sync + Drop + 'static,
     P: Places + Send + Sync + 'static,
 > Member<R, C, P> {
-    /// The node of this number, of which these are the shards. It has no managers.
+    /// The node of this number, of which these are the shards. Its group's other nodes and its managers are elsewhere.
     pub fn new(
         rt: R,
         alloc: Global,
@@ -136,12 +151,12 @@ impl<
         requires named { node_names P.places founded.node ≡ names_of founded }
         requires number { number < group.now.nodes }
         ensures workers { IfOk result (λ member. length member.workers.items ≡ group.now.workers) }
-        ensures ways { IfOk result (λ member. length member.ways.items + 1 ≡ group.now.nodes) }
+        ensures ways { IfOk result (λ member. length member.ways.items + 1 ≡ group.now.nodes + group.now.managers) }
     {
         let mut lines = Lines::new(alloc);
         let seat = seat_node::<P>(alloc, founded, &mut lines)?;
         let shared = Shared::new(rt, alloc, clock)?;
-        let ways = new_ways(alloc, number, group.nodes, &mut lines)?;
+        let ways = new_ways(alloc, number, group, &mut lines)?;
         let outlet = lines.split_first()?;
         let (workers, desks) = new_staff(&shared, seat, group, &mut lines)?;
         let Shared { ending, jobs, .. } = shared;

@@ -17,8 +17,8 @@ use crate::working::WorkJob;
 use hk_accept::serve_each;
 use hk_base::View;
 use hk_locked::Places;
-use hk_outside::{Clock, Doors, Failed, Job, Spawner, Status};
-use hk_worker::Founded;
+use hk_outside::{Doors, Failed, Job, Spawner, Status};
+use hk_worker::{DeskClock, Founded};
 use std::alloc::Global;
 use std::io::Eprint;
 use std::marker::Brand;
@@ -40,7 +40,7 @@ pub fn start_each<J: Job, S: Spawner>(jobs: Vec<J>, spawner: &mut S) -> Result<(
 fn serve_conns<
     P: Places + Send + Sync + 'static,
     R: Wait + Eprint + Copy + Send + Sync + Drop + 'static,
-    C: Clock + Send + Sync + Drop + 'static,
+    C: DeskClock + Send + Sync + Drop + 'static,
     D: Doors,
     S: Spawner,
 >(
@@ -72,7 +72,7 @@ fn serve_conns<
 fn run<
     P: Places + Send + Sync + 'static,
     R: Wait + Eprint + Copy + Send + Sync + Drop + 'static,
-    C: Clock + Send + Sync + Drop + 'static,
+    C: DeskClock + Send + Sync + Drop + 'static,
     D: Doors,
     S: Spawner,
 >(
@@ -132,7 +132,7 @@ fn run<
 /// nothing. Memory: there was none to make the group. DoorFault: the port could not be opened. SpawnFault: a worker or a manager's loop got no job.
 pub fn serve<
     R: Wait + Eprint + Copy + Send + Sync + Drop + 'static,
-    C: Clock + Send + Sync + Drop + 'static,
+    C: DeskClock + Send + Sync + Drop + 'static,
     D: Doors,
     S: Spawner,
 >(rt: R, alloc: Global, clock: Arc<C>, group: &Group, doors: &mut D, spawner: &mut S) -> Status

@@ -82,6 +82,14 @@ pub record Ticks (now : ℕ) (old new : ReaderState) : Type 0 where
   pub looked : LooksAtLease old.lease new.lease
   pub clock : now ≤ new.lease.now
 
+-- by one load of the lease cell the reader has seen the end and the clock that it showed, and nothing of another cell
+pub record SeesLease (old new : ReaderState) : Type 0 where
+  pub node : new.node ≡ old.node
+  pub number : new.number ≡ old.number
+  pub skew : new.skew ≡ old.skew
+  pub cells : new.cells ≡ old.cells
+  pub looked : LooksAtLease old.lease new.lease
+
 -- For so long a lease serves where clocks may differ by `skew`: its length, or what is left of it, without the skew. Of that less is left than has gone.
 abbrev pub is_short : ℕ → ℕ → ℕ → ℕ → Bool
 is_short length_of_lease skew end now = nat_lt (end - now - skew) (length_of_lease - skew - (end - now - skew))

@@ -1,8 +1,8 @@
 //! What reads a shard without its lock.
 
-ghost use Rattle.std.specs.Prelude.{◌≡◌, ◌≤◌, ◌+◌, ℕ, length, IsTrue, IfOk};
+ghost use Rattle.std.specs.Prelude.{◌≡◌, ◌≤◌, ◌<◌, ◌+◌, ℕ, false, length, IsTrue, IfOk};
 ghost use Rattle.std.specs.Option.{IfSome};
-ghost use Rattle.hk_locked.specs.Steps.{IsGrown, Reads};
+ghost use Rattle.hk_locked.specs.Steps.{IsGrown, Reads, SeesLease};
 ghost use Rattle.hk_snap.specs.Ends.{names};
 ghost use Rattle.hk_locked.specs.Places.{shard_names, node_names};
 
@@ -109,9 +109,18 @@ impl<P: Places> ShardReader<P> {
         self.passes[usize::from(cell_of(key))] = PASSES;
     }
 
-    /// Whether a lease that ends at `end` is sure to run at a reading of the clock.
+    /// The end of the shard's lease, in milliseconds, by one load of its cell.
+    pub fn lease_end<R: Wait>(&mut self, rt: &R) -> u64
+        ensures end { result ≡ self.new.lease.end }
+        ensures looked { SeesLease self.old self.new }
+    {
+        self.lease.end(rt)
+    }
+
+    /// Whether a lease that ends at `end` is sure to run at a reading of the clock: the reading, with the skew, is not past the end.
     pub fn is_within(&self, end: u64, now: u64) -> bool
-        ensures { IsTrue result → now + self.now.skew ≤ end }
+        ensures within { IsTrue result → now + self.now.skew ≤ end }
+        ensures past { result ≡ false → end < now + self.now.skew }
     {
         match now.checked_add(self.skew) {
             Some(latest) => latest <= end,

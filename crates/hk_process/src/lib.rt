@@ -14,7 +14,8 @@
 //! connection that is still open then is left. How it ends, and what shows it, stands in the contract of
 //! `serve_process`; who of those that came counted, and that clients and loops have ended then, is only tested.
 //!
-//! A loop that sends sleeps until something was put for its node.
+//! A loop that sends sleeps until something was put for its node. Such loops, over whichever carriers, are there for other
+//! processes too ([`Sending`]).
 //!
 //! The caller gives the runtime value, a clock, doors, a spawner, and a process within the limits of `specs/Process.antt`.
 //!
@@ -35,4 +36,5 @@ mod server;
 mod visit;
 
 pub use process::Process;
+pub use sending::{SendJob, Sending};
 pub use server::serve_process;

@@ -6,17 +6,8 @@ ghost use Rattle.hk_process.specs.Sending.{HasWhole};
 
 use hk_link::Parcel;
 use hk_outside::Dial;
-use hk_peer::{SendFault, send_parcels};
+use hk_peer::{Carrier, SendFault, send_parcels};
 use std::alloc::Global;
-
-/// Sends parcels to another node.
-pub(crate) trait Forward {
-    /// Sends them together. What can't be sent is lost.
-    fn forward(&mut self, batch: &[Parcel]);
-
-    /// Whether there is a connection on which the last were sent.
-    fn is_connected(&self) -> bool;
-}
 
 /// Leads to whoever serves a port. It dials where it has no connection, and drops one on which writing failed.
 #[derive(Drop)]
@@ -27,7 +18,7 @@ pub(crate) struct Route<D: Dial + Drop> {
     pub(crate) conn: Option<D::Conn>,
 }
 
-impl<D: Dial + Drop> Forward for Route<D> {
+impl<D: Dial + Drop> Carrier for Route<D> {
     // What `hk_peer::forward` does, of several. A job can't call what is generic in a dialer, since the dialer's connections may change threads.
     fn forward(&mut self, batch: &[Parcel])
         ensures whole { HasWhole D.Conn.Sink.held D.Conn.Source.faults D.Conn.Sink.faults (frames_of batch.now) self.old.conn self.new.conn }

@@ -1,11 +1,11 @@
-//! The job that sends what is for one other node.
+//! The job that sends what is for one other actor.
 
-use crate::route::Forward;
 use crossbeam_utils::sync::WaitGroup;
 use hk_base::{Memory, frame_length};
 use hk_group::{Ending, Way};
 use hk_link::{Bell, Inlet, Parcel};
 use hk_outside::Job;
+use hk_peer::Carrier;
 use std::alloc::Global;
 use std::sync::{Arc, Wait};
 
@@ -14,18 +14,19 @@ const PARCELS: u32 = 256;
 
 const BYTES: usize = 65_536;
 
-/// What ends the loops that send, once all that was put is sent.
+/// The loops that send, one for each way, and what ends them once all that was put is sent.
 #[derive(Drop)]
-pub(crate) struct Sending {
-    pub(crate) ending: Arc<Ending>,
-    /// Those of the ways.
-    pub(crate) bells: Vec<Arc<Bell>>,
-    /// Held by each loop until it has ended.
-    pub(crate) jobs: WaitGroup,
+pub struct Sending {
+    ending: Arc<Ending>,
+    // Those of the ways.
+    bells: Vec<Arc<Bell>>,
+    // Held by each loop until it has ended.
+    jobs: WaitGroup,
 }
 
 impl Sending {
-    pub(crate) fn new(alloc: Global) -> Result<Sending, Memory> {
+    /// No loop was started yet.
+    pub fn new(alloc: Global) -> Result<Sending, Memory> {
         Ok(Sending {
             ending: Arc::new(alloc, Ending::new())?,
             bells: Vec::new(alloc),
@@ -33,27 +34,27 @@ impl Sending {
         })
     }
 
-    /// The loop over a way.
-    pub(crate) fn job<R: Wait + Drop, F: Drop>(
+    /// The loop over a way: what is put there it gives to the carrier. It is started by whoever has the job run.
+    pub fn job<R: Wait + Drop, C: Drop>(
         &mut self,
         rt: R,
         alloc: Global,
-        forward: F,
+        carrier: C,
         way: Way,
-    ) -> Result<SendJob<R, F>, Memory> {
+    ) -> Result<SendJob<R, C>, Memory> {
         self.bells.push(Arc::try_clone(&way.bell)?)?;
         Ok(SendJob {
             rt,
             alloc,
-            forward,
+            carrier,
             way,
             ending: Arc::try_clone(&self.ending)?,
             jobs: self.jobs.clone()?,
         })
     }
 
-    /// Has the loops end once nothing waits to be sent, and returns when they have.
-    pub(crate) fn end<R: Wait>(self, rt: &R) {
+    /// Has the loops end once nothing waits to be sent, and returns when they have. A loop whose carrier has no connection then ends with what still waits.
+    pub fn end<R: Wait>(self, rt: &R) {
         let Sending {
             ending,
             bells,
@@ -67,12 +68,12 @@ impl Sending {
     }
 }
 
-/// Sends what is for one other node.
+/// Sends what is put into one way, as long as its [`Sending`] has not ended. It sleeps while nothing is.
 #[derive(Drop)]
-pub(crate) struct SendJob<R: Wait + Drop, F: Drop> {
+pub struct SendJob<R: Wait + Drop, C: Drop> {
     rt: R,
     alloc: Global,
-    forward: F,
+    carrier: C,
     way: Way,
     ending: Arc<Ending>,
     // Left when the job is over.
@@ -95,9 +96,9 @@ fn take_batch<R: Wait>(rt: &R, inlet: &mut Inlet, batch: &mut Vec<Parcel>) {
 
 // Sends all that waits, and gives whether more is to be sent then. Once the ending was told it stops where some could not be sent: each further try may last as
 // long, and nobody waits for it.
-fn send_waiting<R: Wait, F: Forward>(
+fn send_waiting<R: Wait, C: Carrier>(
     rt: &R,
-    forward: &mut F,
+    carrier: &mut C,
     inlet: &mut Inlet,
     ending: &Ending,
     batch: &mut Vec<Parcel>,
@@ -107,9 +108,9 @@ fn send_waiting<R: Wait, F: Forward>(
         if batch.is_empty() {
             return true;
         }
-        forward.forward(batch.as_slice());
+        carrier.forward(batch.as_slice());
         batch.clear();
-        if ending.is_told() && !forward.is_connected() {
+        if ending.is_told() && !carrier.is_connected() {
             return false;
         }
     }
@@ -117,9 +118,9 @@ fn send_waiting<R: Wait, F: Forward>(
 }
 
 // Sends what is put until the ending was told and nothing waits any more. It sleeps in between.
-fn go_on<R: Wait, F: Forward>(
+fn go_on<R: Wait, C: Carrier>(
     rt: &R,
-    forward: &mut F,
+    carrier: &mut C,
     inlet: &mut Inlet,
     bell: &Bell,
     ending: &Ending,
@@ -128,7 +129,7 @@ fn go_on<R: Wait, F: Forward>(
     for _ in rt.forever() {
         let heard = bell.rings();
         let is_last = ending.is_told();
-        let goes_on = send_waiting(rt, forward, inlet, ending, batch);
+        let goes_on = send_waiting(rt, carrier, inlet, ending, batch);
         if is_last || !goes_on {
             return;
         }
@@ -136,12 +137,12 @@ fn go_on<R: Wait, F: Forward>(
     }
 }
 
-impl<R: Wait + Send + Drop + 'static, F: Forward + Send + Drop + 'static> Job for SendJob<R, F> {
+impl<R: Wait + Send + Drop + 'static, C: Carrier + Send + Drop + 'static> Job for SendJob<R, C> {
     fn run(self) {
         let SendJob {
             rt,
             alloc,
-            mut forward,
+            mut carrier,
             way,
             ending,
             jobs,
@@ -152,8 +153,8 @@ impl<R: Wait + Send + Drop + 'static, F: Forward + Send + Drop + 'static> Job fo
             ..
         } = way;
         let mut batch = Vec::new(alloc);
-        go_on(&rt, &mut forward, &mut inlet, &bell, &ending, &mut batch);
-        drop(forward);
+        go_on(&rt, &mut carrier, &mut inlet, &bell, &ending, &mut batch);
+        drop(carrier);
         drop(jobs);
     }
 }

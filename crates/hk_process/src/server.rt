@@ -15,16 +15,24 @@ use crate::route::Route;
 use crate::sending::{SendJob, Sending};
 use crate::visit::House;
 use hk_accept::Desks;
-use hk_base::{Memory, NodeId};
+use hk_base::{Actor, Memory, NodeId};
 use hk_group::{Member, Way, first_view, found_node, start_each};
 use hk_link::{Bell, Outlet};
 use hk_locked::Places;
-use hk_outside::{Clock, Doors, Job, Spawner, Status};
-use hk_worker::{Founded, Tickets};
+use hk_outside::{Doors, Job, Spawner, Status};
+use hk_worker::{DeskClock, Founded, Tickets};
 use std::alloc::Global;
 use std::io::Eprint;
 use std::marker::Brand;
 use std::sync::{Arc, Mutex, Wait};
+
+// The number of a node. Ways lead to nodes alone here, since the group has no managers.
+fn number_of(to: Actor) -> u16 {
+    match to {
+        Actor::Node(node) => node.0,
+        Actor::Manager(number) => u16::from(number),
+    }
+}
 
 // The loops that send, each with a dialer of its own.
 fn send_jobs<R: Wait + Copy + Drop, D: Doors>(
@@ -40,7 +48,7 @@ fn send_jobs<R: Wait + Copy + Drop, D: Doors>(
 {
     let mut jobs = Vec::new(alloc);
     for way in ways {
-        let port = process.port.saturating_add(way.node.0);
+        let port = process.port.saturating_add(number_of(way.to));
         let route = Route {
             alloc,
             dialer: doors.dialer(),
@@ -215,7 +223,7 @@ fn serve_node<
 fn serve_member<
     P: Places + Send + Sync + 'static,
     R: Wait + Eprint + Copy + Send + Sync + Drop + 'static,
-    C: Clock + Send + Sync + Drop + 'static,
+    C: DeskClock + Send + Sync + Drop + 'static,
     D: Doors,
     S: Spawner,
 >(
@@ -266,7 +274,7 @@ fn serve_member<
 fn run<
     P: Places + Send + Sync + 'static,
     R: Wait + Eprint + Copy + Send + Sync + Drop + 'static,
-    C: Clock + Send + Sync + Drop + 'static,
+    C: DeskClock + Send + Sync + Drop + 'static,
     D: Doors,
     S: Spawner,
 >(
@@ -304,7 +312,7 @@ fn run<
 #[tactic(auto, using(crate::proofs::Groups::is_below))]
 pub fn serve_process<
     R: Wait + Eprint + Copy + Send + Sync + Drop + 'static,
-    C: Clock + Send + Sync + Drop + 'static,
+    C: DeskClock + Send + Sync + Drop + 'static,
     D: Doors,
     S: Spawner,
 >(rt: R, alloc: Global, clock: Arc<C>, process: &Process, doors: &mut D, spawner: &mut S) -> Status

@@ -6,10 +6,10 @@ ghost use Rattle.hk_outside.specs.First.{first_bytes};
 use crate::guests::{Guests, Knock};
 use crossbeam_utils::sync::WaitGroup;
 use hk_accept::{Desks, Reception};
-use hk_base::{Memory, NodeId};
+use hk_base::{Actor, Memory, NodeId};
 use hk_link::Outlet;
 use hk_outside::{Connection, Job, Primed, Source};
-use hk_peer::serve_peer;
+use hk_peer::{Course, serve_peer};
 use std::alloc::Global;
 use std::sync::{Arc, Mutex, Wait};
 
@@ -92,7 +92,8 @@ fn first_byte<N: Source>(conn: &mut N) -> Option<u8>
 fn take_in<R: Wait + Drop, N: Source, K: Drop, G: Drop>(house: &House<R, K, G>, conn: &mut N) {
     let split = house.outlet.lock(&house.rt).split();
     if let Ok(mut outlet) = split {
-        serve_peer(&house.rt, house.alloc, conn, house.node, &mut outlet);
+        let course = Course::to(Actor::Node(house.node));
+        serve_peer(&house.rt, house.alloc, conn, course, &mut outlet);
     }
 }
 

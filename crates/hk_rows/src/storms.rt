@@ -1,11 +1,13 @@
 //! Storms, through the top call.
 
-ghost use Rattle.std.specs.Prelude.{None};
+ghost use Rattle.std.specs.Prelude.{⊤, None};
 
 use hk_cli::hermes;
+use hk_locked::{Places, ShardReader};
 use hk_outside::{
     Clock, HandClock, MemoryDoors, MemorySink, MemorySource, NoSpawner, Status, TcpConnection,
 };
+use hk_worker::DeskClock;
 use std::alloc::Global;
 use std::collections::VecDeque;
 use std::io::Eprint;
@@ -25,7 +27,7 @@ struct Outcome {
 // Makes the top call with the words of a storm that starts at 1, and this clock.
 fn storm<
     R: Threads + Wait + Eprint + Abort + Copy + Send + Sync + 'static,
-    C: Clock + Send + Sync + Drop + 'static,
+    C: DeskClock + Send + Sync + Drop + 'static,
 >(rt: R, alloc: Global, words: &[&str], clock: Arc<C>) -> Outcome {
     let mut owned = Vec::new(alloc);
     for word in ["storm", "--start", "1"] {
@@ -94,6 +96,14 @@ impl Clock for MeetingClock {
             self.wait_for_another();
         }
         1
+    }
+}
+
+impl DeskClock for MeetingClock {
+    ghost was_read = { λ clock. λ seen. λ now. ⊤ };
+
+    fn read_behind<P: Places>(&self, _seen: &ShardReader<P>) -> u64 {
+        self.now()
     }
 }
 

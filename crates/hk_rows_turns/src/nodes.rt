@@ -42,9 +42,9 @@ fn found<R: Wait + Abort>(rt: &R, alloc: Global, node: NodeId, tickets: &Arc<Tic
 {
     let tickets = Arc::try_clone(tickets).expect(rt, "memory");
     let view = view(rt, alloc);
-    Shards::<Quiet, Brand>::founders(rt, alloc, node, &view, MAX_TIME, 0, 0, tickets).expect(
-        rt, "memory",
-    )
+    Shards::<Quiet, Brand>::founders(
+        rt, alloc, node, &view, MAX_TIME, MAX_TIME, 0, 0, tickets,
+    ).expect(rt, "memory")
 }
 
 // A post of the node with these shards, whose letters go to the other node by this outlet.

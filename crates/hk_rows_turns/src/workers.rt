@@ -53,9 +53,17 @@ fn found<R: Wait + Abort>(rt: &R, alloc: Global) -> Founded
 {
     let tickets = Arc::new(alloc, Tickets::new()).expect(rt, "memory");
     let view = view(rt, alloc);
-    Shards::<Quiet, Brand>::founders(rt, alloc, NodeId(0), &view, 1_000, 0, 1, tickets).expect(
-        rt, "memory",
-    )
+    Shards::<Quiet, Brand>::founders(
+        rt,
+        alloc,
+        NodeId(0),
+        &view,
+        1_000,
+        1_000,
+        0,
+        1,
+        tickets,
+    ).expect(rt, "memory")
 }
 
 // The post of a worker, with the outlet that leads to it, and what it sends to node 1 and to the manager.

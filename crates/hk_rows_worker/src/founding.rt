@@ -50,29 +50,53 @@ fn view(rt: &impl Abort, alloc: Global, pair: bool) -> View
     }
 }
 
-fn found_until<R: Wait + Abort>(rt: &R, alloc: Global, pair: bool, end: u64) -> Founded
-    requires { end ≤ MAX_TIME }
+fn found_until<R: Wait + Abort>(
+    rt: &R,
+    alloc: Global,
+    pair: bool,
+    end: u64,
+    lease: u64,
+    managers: u8,
+) -> Founded
+    requires end { end ≤ MAX_TIME }
+    requires managers { managers ≤ 9 }
     ensures { result.node ≡ record { 0 = 0 } }
 {
     let tickets = Arc::new(alloc, Tickets::new()).expect(rt, "memory");
     let view = view(rt, alloc, pair);
-    Shards::<Quiet, Brand>::founders(rt, alloc, NodeId(0), &view, end, 0, 0, tickets).expect(
-        rt, "memory",
+    Shards::<Quiet, Brand>::founders(
+        rt,
+        alloc,
+        NodeId(0),
+        &view,
+        end,
+        lease,
+        0,
+        managers,
+        tickets,
     )
+    .expect(rt, "memory")
 }
 
 // The shards of node 0, with node 1 or alone.
 pub fn found<R: Wait + Abort>(rt: &R, alloc: Global, pair: bool) -> Founded
     ensures { result.node ≡ record { 0 = 0 } }
 {
-    found_until(rt, alloc, pair, MAX_TIME)
+    found_until(rt, alloc, pair, MAX_TIME, MAX_TIME, 0)
 }
 
 // The shards of node 0 that is alone, with a lease that ends at 10.
 pub fn found_for_a_while<R: Wait + Abort>(rt: &R, alloc: Global) -> Founded
     ensures { result.node ≡ record { 0 = 0 } }
 {
-    found_until(rt, alloc, false, 10)
+    found_until(rt, alloc, false, 10, 10, 0)
+}
+
+// The shards of node 0 that is alone and has two managers, with leases that are 1,000 long, the first of which is over.
+pub fn found_without_lease<R: Wait + Abort>(rt: &R, alloc: Global) -> Founded
+    ensures { result.node ≡ record { 0 = 0 } }
+{
+    found_until(rt, alloc, false, 0, 1_000, 2)
 }
 
 // A desk of node 0 with no outlets.

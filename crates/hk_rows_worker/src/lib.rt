@@ -10,3 +10,5 @@ mod conns;
 mod desks;
 #[cfg(test)]
 mod founding;
+#[cfg(test)]
+mod late;

@@ -57,7 +57,7 @@ fn found_one<R: Wait>(
 {
     let tickets = Arc::try_clone(tickets)?;
     let id = NodeId(u16::from(node));
-    Shards::<Quiet, Brand>::founders(rt, alloc, id, view, MAX_TIME, 0, 0, tickets)
+    Shards::<Quiet, Brand>::founders(rt, alloc, id, view, MAX_TIME, MAX_TIME, 0, 0, tickets)
 }
 
 // Puts the founder of this number behind those of lower numbers.

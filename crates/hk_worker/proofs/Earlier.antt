@@ -1,10 +1,11 @@
 -- What an ask tells is told too from before a look that came first.
-use Rattle.std.proofs.Common.{◌≡◌, inl, inr, ℕ, ◌+◌, ◌-◌, ◌≤◌, min, List, ◌∷◌, ◌++◌, Option, Some, None, true, Result, Ok, Err, sym, ap, ◌∙◌, subst, arith, append_assoc, le_refl, le_trans}
+use Rattle.std.proofs.Common.{◌≡◌, ◌≢◌, inl, inr, ℕ, ◌+◌, ◌-◌, ◌≤◌, min, List, ◌∷◌, ◌++◌, Option, Some, None, true, Result, Ok, Err, refl, sym, ap, ◌∙◌, subst, arith, append_assoc, le_refl, le_trans}
 use Rattle.std.specs.Option.{IfSome}
 use mathlib.Core.List.{IsPrefix}
 use Rattle.hk_base.specs.declared.time.TheConstants.{MAX_TIME}
 use Rattle.hk_base.specs.declared.call.CallNo.{CallNo}
 use Rattle.hk_base.specs.declared.call.Op.{Op}
+use Rattle.hk_base.specs.declared.call.Op.TheVariants.{Read}
 use Rattle.hk_base.specs.declared.call.Answer.{Answer}
 use Rattle.hk_base.specs.declared.call.Answer.TheVariants as word
 use Rattle.hk_outside.specs.declared.desk.DeskReply.{DeskReply}
@@ -18,7 +19,9 @@ use Rattle.hk_locked.specs.Locked.{ReaderState}
 use Rattle.hk_locked.specs.Steps.{end_at, IsGrown}
 use Rattle.hk_locked.proofs.Reading.{grown_on}
 use Rattle.hk_worker.specs.Asking.{PostState, Tells, HasAsked, AsksAtPost, call_number, reader_of}
-use Rattle.hk_worker.specs.Reading.{HasLooked, HasAskedByClock, AsksByClock}
+use Rattle.hk_worker.specs.Reading.{HasLooked, HasRisen, TellsByClock, TellsRead, AsksByClock}
+use Rattle.hk_worker.proofs.Freely.{looked_itself, looked_on}
+use Rattle.hk_base.specs.declared.memory.Memory.{Memory}
 use Rattle.hk_outside.specs.declared.desk.Begun.{Begun as DeskBegun}
 use Rattle.hk_worker.specs.declared.opening.OpenAsk.{OpenAsk}
 use Rattle.hk_outside.specs.declared.desk.Begun.TheVariants as opened
@@ -87,7 +90,7 @@ module _ (call : CallNo) (key : List ℕ) (op : Op) (old mid new : End) (more : 
     not_ended_from old.seen more.0 t.0 call key op (subst (λ (l : List Publication). NotEnded l t.0 call key op) (sym more.1) t.5),
   )
 
-tells_earlier : (call : CallNo) (key : List ℕ) (op : Op) (old mid new : ReaderState) (reply : DeskReply) → IsGrown key old mid → Tells call key op mid new reply → Tells call key op old new reply
+pub tells_earlier : (call : CallNo) (key : List ℕ) (op : Op) (old mid new : ReaderState) (reply : DeskReply) → IsGrown key old mid → Tells call key op mid new reply → Tells call key op old new reply
 tells_earlier call key op old mid new (Told answer) grown t = (
   tells_from call key op (end_at key old) (end_at key mid) (end_at key new) grown.seen grown.loads new.lease.end new.lease.now new.skew answer t.0,
   (let p = grown.lease.loads in let q = t.1 in omega (arith, p, q)),
@@ -95,6 +98,28 @@ tells_earlier call key op old mid new (Told answer) grown t = (
 tells_earlier call key op old mid new (Unknown turns) grown t =
     (unknown_from call key op (end_at key old) (end_at key mid) (end_at key new) grown.seen grown.loads turns t.0, t.1)
 tells_earlier call key op old mid new (Spent asks) grown t = t
+
+-- so is what a clock tells
+by_clock_earlier : (was_read : ReaderState → ℕ → Type 0) (call : CallNo) (key : List ℕ) (op : Op) (old mid new : ReaderState) (reply : DeskReply) → IsGrown key old mid
+    → TellsByClock was_read call key op mid new reply → TellsByClock was_read call key op old new reply
+by_clock_earlier was_read call key op old mid new (Told answer) grown (inl t) = inl (t.0, tells_earlier call key op old mid new (Told answer) grown t.1)
+by_clock_earlier was_read call key op old mid new (Told answer) grown (inr t) = inr (
+  t.0,
+  t.1,
+  tells_from call key op (end_at key old) (end_at key mid) (end_at key new) grown.seen grown.loads new.lease.end t.0 new.skew answer t.2,
+  (let p = grown.lease.loads in let q = t.3 in omega (arith, p, q)),
+)
+by_clock_earlier was_read call key op old mid new (Unknown turns) grown t = tells_earlier call key op old mid new (Unknown turns) grown t
+by_clock_earlier was_read call key op old mid new (Spent asks) grown t = t
+
+pub read_earlier : (was_read : ReaderState → ℕ → Type 0) (key : List ℕ) (old mid new : ReaderState) (answer : Answer) → IsGrown key old mid → TellsRead was_read key mid new answer
+    → TellsRead was_read key old new answer
+read_earlier was_read key old mid new answer grown t = (
+  t.0,
+  t.1,
+  (λ call. tells_from call key Read (end_at key old) (end_at key mid) (end_at key new) grown.seen grown.loads new.lease.end t.0 new.skew answer (t.2 call)),
+  (let p = grown.lease.loads in let q = t.3 in omega (arith, p, q)),
+)
 
 -- ---- at a post
 asked_earlier : (key : List ℕ) (old mid new : PostState) → HasLooked key old mid → HasAsked key mid new → HasAsked key old new
@@ -110,6 +135,19 @@ asked_earlier key old mid new l a = record {
   others = λ shard apart. a.others shard apart ∙ l.others shard apart;
 }
 
+asked_later : (key : List ℕ) (old mid new : PostState) → HasAsked key old mid → HasLooked key mid new → HasAsked key old new
+asked_later key old mid new a l = record {
+  may = a.may;
+  asks = l.asks ∙ a.asks;
+  node = l.node ∙ a.node;
+  lease = l.lease ∙ a.lease;
+  number = l.number ∙ a.number;
+  ticked = l.ticked ∙ a.ticked;
+  worker = l.worker ∙ a.worker;
+  grown = grown_on key (reader_of key old) (reader_of key mid) (reader_of key new) a.grown l.grown;
+  others = λ shard apart. l.others shard apart ∙ a.others shard apart;
+}
+
 pub number_earlier : (key : List ℕ) (old mid : PostState) → HasLooked key old mid → call_number mid.number (mid.asks + 1) ≡ call_number old.number (old.asks + 1)
 number_earlier key old mid l = ap (λ n. call_number n (mid.asks + 1)) l.number ∙ ap (λ n. call_number old.number (n + 1)) l.asks
 
@@ -117,33 +155,86 @@ risen : (reading : Option ℕ) (value a b : ℕ) → IfSome reading (λ time. va
 risen None value a b told above later = tt
 risen (Some time) value a b told above later = subst (λ t. min t MAX_TIME ≤ b) told (le_trans above later)
 
-module _ (reading : Option ℕ) (value : ℕ) (key : List ℕ) (op : Op) (old mid new : PostState) (l : HasLooked key old mid) (told : IfSome reading (λ time. value ≡ time))
-    (above : min value MAX_TIME ≤ (reader_of key mid).lease.now) where
-  by_clock : (reply : DeskReply) → HasAsked key mid new → Tells (call_number mid.number (mid.asks + 1)) key op (reader_of key mid) (reader_of key new) reply
-      → HasAskedByClock reading key op old new reply
-  by_clock reply a t = (
+still_risen : (reading : Option ℕ) (a b : ℕ) → IfSome reading (λ time. min time MAX_TIME ≤ a) → a ≤ b → IfSome reading (λ time. min time MAX_TIME ≤ b)
+still_risen None a b above later = tt
+still_risen (Some time) a b above later = le_trans above later
+
+-- a reply that an ask was told is given by a reading behind it
+module _ (was_read : ReaderState → ℕ → Type 0) (reading : Option ℕ) (key : List ℕ) (op : Op) (before asked new : PostState) (l : HasLooked key asked new) (rose : HasRisen reading key asked) where
+  still : HasRisen reading key new
+  still = still_risen reading (reader_of key asked).lease.now (reader_of key new).lease.now rose l.grown.lease.now
+
+  pub gives_answer : (answer given : Answer)
+      → ((call : CallNo) (op : Op) (old : ReaderState) → Tells call key op old (reader_of key asked) (Told answer) → TellsByClock was_read call key op old (reader_of key new) (Told given))
+      → AsksAtPost {E = Memory} key op before asked (Ok (Told answer)) → AsksByClock {E = Memory} was_read reading key op before new (Ok (Told given))
+  gives_answer answer given gives h =
+      inr (asked_later key before asked new h.0 l, still, gives (call_number before.number (before.asks + 1)) op (reader_of key before) h.1)
+
+-- any other reply is given as it is
+module _ (was_read : ReaderState → ℕ → Type 0) (reading : Option ℕ) (key : List ℕ) (op : Op) (before asked : PostState) (reply : DeskReply) where
+  pub gives_unknown : (turns : ℕ) → reply ≡ Unknown turns → HasRisen reading key asked → AsksAtPost {E = Memory} key op before asked (Ok reply)
+      → AsksByClock {E = Memory} was_read reading key op before asked (Ok (Unknown turns))
+  gives_unknown turns is rose h = let a = subst (λ (r : DeskReply). AsksAtPost {E = Memory} key op before asked (Ok r)) is h in (a.0, rose, a.1)
+
+  pub gives_spent : (asks : ℕ) → reply ≡ Spent asks → AsksAtPost {E = Memory} key op before asked (Ok reply) → AsksByClock {E = Memory} was_read reading key op before asked (Ok (Spent asks))
+  gives_spent asks is h =
+      let a = subst (λ (r : DeskReply). AsksAtPost {E = Memory} key op before asked (Ok r)) is h in
+      (a.0, a.1, subst (HasLooked key before) (sym a.2) (looked_itself key before))
+
+-- what was asked behind a look was asked before it
+module _ (was_read : ReaderState → ℕ → Type 0) (reading : Option ℕ) (key : List ℕ) (op : Op) (old mid new : PostState) (l : HasLooked key old mid) where
+  by_clock : (reply : DeskReply) → HasAsked key mid new → HasRisen reading key new → TellsByClock was_read (call_number mid.number (mid.asks + 1)) key op (reader_of key mid) (reader_of key new) reply
+      → HasAsked key old new × HasRisen reading key new × TellsByClock was_read (call_number old.number (old.asks + 1)) key op (reader_of key old) (reader_of key new) reply
+  by_clock reply a rose t = (
     asked_earlier key old mid new l a,
-    risen reading value (reader_of key mid).lease.now (reader_of key new).lease.now told above a.grown.lease.now,
-    subst (λ n. Tells n key op (reader_of key old) (reader_of key new) reply) (number_earlier key old mid l)
-        (tells_earlier (call_number mid.number (mid.asks + 1)) key op (reader_of key old) (reader_of key mid) (reader_of key new) reply l.grown t),
+    rose,
+    subst (λ n. TellsByClock was_read n key op (reader_of key old) (reader_of key new) reply) (number_earlier key old mid l)
+        (by_clock_earlier was_read (call_number mid.number (mid.asks + 1)) key op (reader_of key old) (reader_of key mid) (reader_of key new) reply l.grown t),
   )
 
-  pub asks_by_clock : {E : Type 0} (result : Result DeskReply E) → AsksAtPost key op mid new result → AsksByClock reading key op old new result
-  asks_by_clock (Ok (Told answer)) h = inr (by_clock (Told answer) h.0 h.1)
-  asks_by_clock (Ok (Unknown turns)) h = by_clock (Unknown turns) h.0 h.1
-  asks_by_clock (Ok (Spent asks)) h = (sym l.asks ∙ h.0, h.1, subst (HasLooked key old) (sym h.2) l)
-  asks_by_clock (Err e) h = inr (asked_earlier key old mid new l h)
+  pub asks_earlier : {E : Type 0} (result : Result DeskReply E) → AsksByClock was_read reading key op mid new result → AsksByClock was_read reading key op old new result
+  asks_earlier (Ok (Told answer)) (inl h) =
+      inl (h.0, looked_on key old mid new l h.1, read_earlier was_read key (reader_of key old) (reader_of key mid) (reader_of key new) answer l.grown h.2)
+  asks_earlier (Ok (Told answer)) (inr h) = inr (by_clock (Told answer) h.0 h.1 h.2)
+  asks_earlier (Ok (Unknown turns)) h = by_clock (Unknown turns) h.0 h.1 h.2
+  asks_earlier (Ok (Spent asks)) h = (sym l.asks ∙ h.0, h.1, looked_on key old mid new l h.2)
+  asks_earlier (Err e) (inl h) = inl (looked_on key old mid new l h)
+  asks_earlier (Err e) (inr h) = inr (asked_earlier key old mid new l h)
 
-  pub begins_by_clock : {E : Type 0} (result : Result (DeskBegun OpenAsk) E) → BeginsAtPost key op mid new result → BeginsByClock reading key op old new result
-  begins_by_clock {E = E} (Ok (opened.Told reply)) h = asks_by_clock {E = E} (Ok reply) h
-  begins_by_clock (Ok (opened.Waits w)) h = (mid, l, risen reading value (reader_of key mid).lease.now (reader_of key mid).lease.now told above (le_refl (reader_of key mid).lease.now), h)
-  begins_by_clock (Err e) h = asks_by_clock (Err e) h
+-- of a post that asked behind a tick
+module _ (reading : Option ℕ) (value : ℕ) (key : List ℕ) (mid : PostState) (told : IfSome reading (λ time. value ≡ time)) (above : min value MAX_TIME ≤ (reader_of key mid).lease.now) where
+  pub risen_at : HasRisen reading key mid
+  risen_at = risen reading value (reader_of key mid).lease.now (reader_of key mid).lease.now told above (le_refl (reader_of key mid).lease.now)
 
--- where no memory was found for the tick
-pub fails_by_clock : {E : Type 0} (reading : Option ℕ) (key : List ℕ) (op : Op) (old new : PostState) (fault : E) (result : Result DeskReply E) → result ≡ Err fault → HasLooked key old new
-    → AsksByClock reading key op old new result
-fails_by_clock reading key op old new fault result is looked = subst (AsksByClock reading key op old new) (sym is) (inl looked)
+  pub risen_asked : {E : Type 0} (op : Op) (new : PostState) (result : Result DeskReply E) → AsksAtPost key op mid new result → HasRisen reading key new
+  risen_asked op new (Ok (Told answer)) h = risen reading value (reader_of key mid).lease.now (reader_of key new).lease.now told above h.0.grown.lease.now
+  risen_asked op new (Ok (Unknown turns)) h = risen reading value (reader_of key mid).lease.now (reader_of key new).lease.now told above h.0.grown.lease.now
+  risen_asked op new (Ok (Spent asks)) h = subst (HasRisen reading key) (sym h.2) risen_at
+  risen_asked op new (Err e) h = risen reading value (reader_of key mid).lease.now (reader_of key new).lease.now told above h.grown.lease.now
 
-pub begin_fails_by_clock : {E : Type 0} (reading : Option ℕ) (key : List ℕ) (op : Op) (old new : PostState) (fault : E) (result : Result (DeskBegun OpenAsk) E) → result ≡ Err fault → HasLooked key old new
-    → BeginsByClock reading key op old new result
-begin_fails_by_clock reading key op old new fault result is looked = subst (BeginsByClock reading key op old new) (sym is) (inl looked)
+  pub risen_begun : (op : Op) (new : PostState) (begun : DeskBegun OpenAsk) → BeginsAtPost {E = Memory} key op mid new (Ok begun) → HasRisen reading key new
+  risen_begun op new (opened.Told reply) h = risen_asked {E = Memory} op new (Ok reply) h
+  risen_begun op new (opened.Waits w) h = risen reading value (reader_of key mid).lease.now (reader_of key new).lease.now told above h.0.grown.lease.now
+
+-- where no memory was found for the tick, or for the ask
+pub fails_by_clock : {E : Type 0} (was_read : ReaderState → ℕ → Type 0) (reading : Option ℕ) (key : List ℕ) (op : Op) (old new : PostState) (fault : E) (result : Result DeskReply E) → result ≡ Err fault
+    → HasLooked key old new → AsksByClock was_read reading key op old new result
+fails_by_clock was_read reading key op old new fault result is looked = subst (AsksByClock was_read reading key op old new) (sym is) (inl looked)
+
+pub ask_fails_by_clock : {E : Type 0} (was_read : ReaderState → ℕ → Type 0) (reading : Option ℕ) (key : List ℕ) (op : Op) (old mid new : PostState) (fault : E) (result : Result DeskReply E) → result ≡ Err fault
+    → HasLooked key old mid → HasAsked key mid new → AsksByClock was_read reading key op old new result
+ask_fails_by_clock was_read reading key op old mid new fault result is l a = subst (AsksByClock was_read reading key op old new) (sym is) (inr (asked_earlier key old mid new l a))
+
+pub begin_fails_by_clock : {E : Type 0} (was_read : ReaderState → ℕ → Type 0) (reading : Option ℕ) (key : List ℕ) (op : Op) (old new : PostState) (fault : E) (result : Result (DeskBegun OpenAsk) E)
+    → result ≡ Err fault → HasLooked key old new → BeginsByClock was_read reading key op old new result
+begin_fails_by_clock was_read reading key op old new fault result is looked = subst (BeginsByClock was_read reading key op old new) (sym is) (inl looked)
+
+pub failed_begin_by_clock : {E : Type 0} (was_read : ReaderState → ℕ → Type 0) (reading : Option ℕ) (key : List ℕ) (op : Op) (old mid new : PostState) (fault : E) (result : Result (DeskBegun OpenAsk) E)
+    → result ≡ Err fault → HasLooked key old mid → HasAsked key mid new → BeginsByClock was_read reading key op old new result
+failed_begin_by_clock was_read reading key op old mid new fault result is l a =
+    subst (BeginsByClock was_read reading key op old new) (sym is) (inr (asked_earlier key old mid new l a))
+
+-- what waits does so by the call behind the tick
+pub waits_by_clock : (was_read : ReaderState → ℕ → Type 0) (reading : Option ℕ) (key : List ℕ) (op : Op) (old mid new : PostState) (begun : DeskBegun OpenAsk) (w : OpenAsk) → begun ≡ opened.Waits w
+    → HasLooked key old mid → HasRisen reading key mid → BeginsAtPost {E = Memory} key op mid new (Ok begun) → BeginsByClock {E = Memory} was_read reading key op old new (Ok (opened.Waits w))
+waits_by_clock was_read reading key op old mid new begun w is l rose h = (mid, l, rose, subst (λ (b : DeskBegun OpenAsk). BeginsAtPost {E = Memory} key op mid new (Ok b)) is h)

@@ -38,46 +38,47 @@ finishes_grown : (w : OpenAsk) (other : List ℕ) (old new : PostState) (result 
 finishes_grown w other old new (Ok reply) h = seen_grown w.key other old new h.0.grown h.0.others
 finishes_grown w other old new (Err e) h = seen_grown w.key other old new h.grown h.others
 
-step_grown : (event : PostEvent) (other : List ℕ) (old new : PostState) → Makes event old new → IsPrefix (seen_of other old) (seen_of other new)
-step_grown (PostEvent.Asks key op result) other old new h = asked_at key other op old new result h
-step_grown (PostEvent.AsksTimed reading key op result) other old new h = grown_by_clock reading key other op old new result h
-step_grown (PostEvent.Looks key) other old new h = seen_grown key other old new h.grown h.others
-step_grown (PostEvent.Begins key op result) other old new h = begins_grown key other op old new result h
-step_grown (PostEvent.Finishes w result) other old new h = finishes_grown w other old new result h
+step_grown : (was_read : ReaderState → ℕ → Type 0) (event : PostEvent) (other : List ℕ) (old new : PostState) → Makes was_read event old new → IsPrefix (seen_of other old) (seen_of other new)
+step_grown was_read (PostEvent.Asks key op result) other old new h = asked_at key other op old new result h
+step_grown was_read (PostEvent.AsksTimed reading key op result) other old new h = grown_by_clock was_read reading key other op old new result h
+step_grown was_read (PostEvent.Looks key) other old new h = seen_grown key other old new h.grown h.others
+step_grown was_read (PostEvent.Begins key op result) other old new h = begins_grown key other op old new result h
+step_grown was_read (PostEvent.Finishes w result) other old new h = finishes_grown w other old new result h
 
 -- from one moment to the end of a step
-through_step : (key : List ℕ) (post : PostState) (step : PostStep) → IsUnasked post step.before → Makes step.event step.before step.after → IsPrefix (seen_of key post) (seen_of key step.after)
-through_step key post step un made = subst (λ (seen : List Publication). IsPrefix seen (seen_of key step.after)) (same_seen key post step.before un) (step_grown step.event key step.before step.after made)
+through_step : (was_read : ReaderState → ℕ → Type 0) (key : List ℕ) (post : PostState) (step : PostStep) → IsUnasked post step.before → Makes was_read step.event step.before step.after → IsPrefix (seen_of key post) (seen_of key step.after)
+through_step was_read key post step un made = subst (λ (seen : List Publication). IsPrefix seen (seen_of key step.after)) (same_seen key post step.before un) (step_grown was_read step.event key step.before step.after made)
 
-pub step_lists_grow : StepListsGrow
-step_lists_grow post [] key run = prefix_self (seen_of key post)
-step_lists_grow post (step ∷ steps) key run =
-    prefix_trans (seen_of key post) (seen_of key step.after) (seen_of key (post_after_steps step.after steps)) (through_step key post step run.0 run.1) (step_lists_grow step.after steps key run.2)
+pub step_lists_grow : (was_read : ReaderState → ℕ → Type 0) → StepListsGrow was_read
+step_lists_grow was_read post [] key run = prefix_self (seen_of key post)
+step_lists_grow was_read post (step ∷ steps) key run =
+    prefix_trans (seen_of key post) (seen_of key step.after) (seen_of key (post_after_steps step.after steps)) (through_step was_read key post step run.0 run.1) (step_lists_grow was_read step.after steps key run.2)
 
 -- and to the beginning of a later one
-grown_to : (post : PostState) (mid back : List PostStep) (step : PostStep) (key : List ℕ) → StepsInTurn post (mid ++ step ∷ back) → IsPrefix (seen_of key post) (seen_of key step.before)
-grown_to post [] back step key run = subst (λ (seen : List Publication). IsPrefix seen (seen_of key step.before)) (same_seen key post step.before run.0) (prefix_self (seen_of key step.before))
-grown_to post (s ∷ mid) back step key run =
-    prefix_trans (seen_of key post) (seen_of key s.after) (seen_of key step.before) (through_step key post s run.0 run.1) (grown_to s.after mid back step key run.2)
+grown_to : (was_read : ReaderState → ℕ → Type 0) (post : PostState) (mid back : List PostStep) (step : PostStep) (key : List ℕ) → StepsInTurn was_read post (mid ++ step ∷ back) → IsPrefix (seen_of key post) (seen_of key step.before)
+grown_to was_read post [] back step key run = subst (λ (seen : List Publication). IsPrefix seen (seen_of key step.before)) (same_seen key post step.before run.0) (prefix_self (seen_of key step.before))
+grown_to was_read post (s ∷ mid) back step key run =
+    prefix_trans (seen_of key post) (seen_of key s.after) (seen_of key step.before) (through_step was_read key post s run.0 run.1) (grown_to was_read s.after mid back step key run.2)
 
 -- ---- one step of a run, and what follows
-run_at : (post : PostState) (front back : List PostStep) (step : PostStep) → StepsInTurn post (front ++ step ∷ back) → Makes step.event step.before step.after × StepsInTurn step.after back
-run_at post [] back step run = (run.1, run.2)
-run_at post (s ∷ front) back step run = run_at s.after front back step run.2
+run_at : (was_read : ReaderState → ℕ → Type 0) (post : PostState) (front back : List PostStep) (step : PostStep) → StepsInTurn was_read post (front ++ step ∷ back) → Makes was_read step.event step.before step.after × StepsInTurn was_read step.after back
+run_at was_read post [] back step run = (run.1, run.2)
+run_at was_read post (s ∷ front) back step run = run_at was_read s.after front back step run.2
 
-asks_at_once : (key : List ℕ) (op : Op) (result : Result DeskReply Memory) (event : PostEvent) (old new : PostState) → ToldAtOnce key op result event → Makes event old new → AsksAtPost key op old new result
-asks_at_once key op result event old new (inl is) made = subst (λ e. Makes e old new) is made
-asks_at_once key op result event old new (inr (reply, same, is)) made = subst (λ (r : Result DeskReply Memory). AsksAtPost key op old new r) (sym same) (subst (λ e. Makes e old new) is made)
+asks_at_once : (was_read : ReaderState → ℕ → Type 0) (key : List ℕ) (op : Op) (result : Result DeskReply Memory) (event : PostEvent) (old new : PostState) → ToldAtOnce key op result event → Makes was_read event old new → AsksAtPost key op old new result
+asks_at_once was_read key op result event old new (inl is) made = subst (λ e. Makes was_read e old new) is made
+asks_at_once was_read key op result event old new (inr (reply, same, is)) made = subst (λ (r : Result DeskReply Memory). AsksAtPost key op old new r) (sym same) (subst (λ e. Makes was_read e old new) is made)
 
-pub step_asks_are_shown : StepAsksAreShown
-step_asks_are_shown post front back step key op result run told =
-    let r = run_at post front back step run in
-    shown_in key op step.before step.after result (seen_of key (post_after_steps step.after back)) (asks_at_once key op result step.event step.before step.after told r.0) (step_lists_grow step.after back key r.1)
+pub step_asks_are_shown : (was_read : ReaderState → ℕ → Type 0) → StepAsksAreShown was_read
+step_asks_are_shown was_read post front back step key op result run told =
+    let r = run_at was_read post front back step run in
+    shown_in key op step.before step.after result (seen_of key (post_after_steps step.after back)) (asks_at_once was_read key op result step.event step.before step.after told r.0) (step_lists_grow was_read step.after back key r.1)
 
-pub step_timed_are_shown : StepTimedAreShown
-step_timed_are_shown post front back step reading key op result run is =
-    let r = run_at post front back step run in
-    shown_by_clock reading key op step.before step.after result (seen_of key (post_after_steps step.after back)) (subst (λ e. Makes e step.before step.after) is r.0) (step_lists_grow step.after back key r.1)
+pub step_timed_are_shown : (was_read : ReaderState → ℕ → Type 0) → StepTimedAreShown was_read
+step_timed_are_shown was_read post front back step reading key op result run is =
+    let r = run_at was_read post front back step run in
+    shown_by_clock was_read reading key op step.before step.after (seen_of key (post_after_steps step.after back)) (step_lists_grow was_read step.after back key r.1) result
+    (subst (λ e. Makes was_read e step.before step.after) is r.0)
 
 -- ---- an update that waited
 -- what was seen as it was finished, as if by no load
@@ -116,13 +117,13 @@ module _ (post_old post_begun post_before post_after : PostState) (key : List �
       late reply (subst (λ (n : ℕ). FinishesAt key n (reader_of key post_before) (reader_of key post_after) reply) same k)
   late_is_shown w (Err e) is same h = tt
 
-pub step_finishes_are_shown : StepFinishesAreShown
-step_finishes_are_shown post front mid back b f key op w result run is_begin is_finish =
-    let r = run_at post front (mid ++ f ∷ back) b run in
-    let begins = subst (λ e. Makes e b.before b.after) is_begin r.0 in
-    let q = run_at b.after mid back f r.1 in
-    let finishes = subst (λ e. Makes e f.before f.after) is_finish q.0 in
-    late_is_shown b.before b.after f.before f.after key op w.ticket (seen_of key (post_after_steps f.after back)) begins.2 (grown_to b.after mid back f key r.1) (step_lists_grow f.after back key q.1) w result begins.1.0 refl finishes
+pub step_finishes_are_shown : (was_read : ReaderState → ℕ → Type 0) → StepFinishesAreShown was_read
+step_finishes_are_shown was_read post front mid back b f key op w result run is_begin is_finish =
+    let r = run_at was_read post front (mid ++ f ∷ back) b run in
+    let begins = subst (λ e. Makes was_read e b.before b.after) is_begin r.0 in
+    let q = run_at was_read b.after mid back f r.1 in
+    let finishes = subst (λ e. Makes was_read e f.before f.after) is_finish q.0 in
+    late_is_shown b.before b.after f.before f.after key op w.ticket (seen_of key (post_after_steps f.after back)) begins.2 (grown_to was_read b.after mid back f key r.1) (step_lists_grow was_read f.after back key q.1) w result begins.1.0 refl finishes
 
 -- ---- counts
 -- a step asks nothing, or makes the next ask
@@ -135,32 +136,32 @@ asked_counts key op old new (Ok (Unknown turns)) h = inr (h.0.asks, h.0.may)
 asked_counts key op old new (Ok (Spent asks)) h = inl (ap (λ (p : PostState). p.asks) h.2)
 asked_counts key op old new (Err e) h = inr (h.asks, h.may)
 
-timed_counts : (reading : Option ℕ) (key : List ℕ) (op : Op) (old new : PostState) (result : Result DeskReply Memory) → AsksByClock reading key op old new result → Counts old new
-timed_counts reading key op old new (Ok (Told answer)) (inl h) = inl h.1.asks
-timed_counts reading key op old new (Ok (Told answer)) (inr h) = inr (h.0.asks, h.0.may)
-timed_counts reading key op old new (Ok (Unknown turns)) h = inr (h.0.asks, h.0.may)
-timed_counts reading key op old new (Ok (Spent asks)) h = inl h.2.asks
-timed_counts reading key op old new (Err e) (inl h) = inl h.asks
-timed_counts reading key op old new (Err e) (inr h) = inr (h.asks, h.may)
+timed_counts : (was_read : ReaderState → ℕ → Type 0) (reading : Option ℕ) (key : List ℕ) (op : Op) (old new : PostState) (result : Result DeskReply Memory) → AsksByClock was_read reading key op old new result → Counts old new
+timed_counts was_read reading key op old new (Ok (Told answer)) (inl h) = inl h.1.asks
+timed_counts was_read reading key op old new (Ok (Told answer)) (inr h) = inr (h.0.asks, h.0.may)
+timed_counts was_read reading key op old new (Ok (Unknown turns)) h = inr (h.0.asks, h.0.may)
+timed_counts was_read reading key op old new (Ok (Spent asks)) h = inl h.2.asks
+timed_counts was_read reading key op old new (Err e) (inl h) = inl h.asks
+timed_counts was_read reading key op old new (Err e) (inr h) = inr (h.asks, h.may)
 
-step_counts : (event : PostEvent) (old new : PostState) → Makes event old new → Counts old new
-step_counts (PostEvent.Asks key op result) old new h = asked_counts key op old new result h
-step_counts (PostEvent.AsksTimed reading key op result) old new h = timed_counts reading key op old new result h
-step_counts (PostEvent.Looks key) old new h = inl h.asks
-step_counts (PostEvent.Begins key op (Ok (opened.Told reply))) old new h = asked_counts key op old new (Ok reply) h
-step_counts (PostEvent.Begins key op (Ok (opened.Waits w))) old new h = inr (h.0.asks, h.0.may)
-step_counts (PostEvent.Begins key op (Err e)) old new h = inr (h.asks, h.may)
-step_counts (PostEvent.Finishes w (Ok reply)) old new h = inl h.0.asks
-step_counts (PostEvent.Finishes w (Err e)) old new h = inl h.asks
+step_counts : (was_read : ReaderState → ℕ → Type 0) (event : PostEvent) (old new : PostState) → Makes was_read event old new → Counts old new
+step_counts was_read (PostEvent.Asks key op result) old new h = asked_counts key op old new result h
+step_counts was_read (PostEvent.AsksTimed reading key op result) old new h = timed_counts was_read reading key op old new result h
+step_counts was_read (PostEvent.Looks key) old new h = inl h.asks
+step_counts was_read (PostEvent.Begins key op (Ok (opened.Told reply))) old new h = asked_counts key op old new (Ok reply) h
+step_counts was_read (PostEvent.Begins key op (Ok (opened.Waits w))) old new h = inr (h.0.asks, h.0.may)
+step_counts was_read (PostEvent.Begins key op (Err e)) old new h = inr (h.asks, h.may)
+step_counts was_read (PostEvent.Finishes w (Ok reply)) old new h = inl h.0.asks
+step_counts was_read (PostEvent.Finishes w (Err e)) old new h = inl h.asks
 
 step_counted : (old new : PostState) (counts : List ℕ) → Counts old new → Rise new.asks counts → Rise old.asks (if new.asks == old.asks then counts else new.asks ∷ counts)
 step_counted old new counts (inl same) later = same_count old.asks new.asks counts same later
 step_counted old new counts (inr next) later = next_count old.asks new.asks counts next.0 next.1 later
 
-pub step_counts_rise : StepCountsRise
-step_counts_rise post [] run = tt
-step_counts_rise post (step ∷ steps) run = rise_from post.asks step.before.asks (counts_of_steps (step ∷ steps)) run.0.asks
-    (step_counted step.before step.after (counts_of_steps steps) (step_counts step.event step.before step.after run.1) (step_counts_rise step.after steps run.2))
+pub step_counts_rise : (was_read : ReaderState → ℕ → Type 0) → StepCountsRise was_read
+step_counts_rise was_read post [] run = tt
+step_counts_rise was_read post (step ∷ steps) run = rise_from post.asks step.before.asks (counts_of_steps (step ∷ steps)) run.0.asks
+    (step_counted step.before step.after (counts_of_steps steps) (step_counts was_read step.event step.before step.after run.1) (step_counts_rise was_read step.after steps run.2))
 
 -- ---- at a post: an update is finished
 module _ (w : OpenAsk) (old now : PostState) (i : ℕ) (before r : ReaderState) (same : old ≡ now) (is : i ≡ shard_of w.key) (short : i < 8) (are : AreReadersBelow 8 old.node old.readers) (value : before ≡ slice_index_or old.readers i before)

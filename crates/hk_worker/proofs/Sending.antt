@@ -7,6 +7,8 @@ use Rattle.hk_base.specs.declared.letter.Letter.{Letter}
 use Rattle.hk_base.specs.declared.stamp.NodeId.{NodeId}
 use Rattle.hk_base.specs.declared.call.CallNo.{CallNo}
 use Rattle.hk_base.specs.declared.call.Op.{Op}
+use Rattle.hk_base.specs.declared.call.Answer.{Answer}
+use Rattle.hk_base.specs.declared.memory.Memory.{Memory}
 use Rattle.hk_outside.specs.declared.desk.DeskReply.{DeskReply}
 use Rattle.hk_outside.specs.declared.desk.DeskReply.TheVariants.{Told, Unknown, Spent}
 use Rattle.hk_link.specs.Ends.{End as LinkEnd}
@@ -15,6 +17,7 @@ use Rattle.hk_shard.specs.Shard.{shard_of}
 use Rattle.hk_locked.specs.Places.{NodeNames}
 use Rattle.hk_locked.specs.Locked.{ReaderState}
 use Rattle.hk_locked.specs.Steps.{IsGrown}
+use Rattle.hk_locked.proofs.Reading.{grown_on}
 use Rattle.hk_worker.specs.Moments.{WasCalled}
 use Rattle.hk_worker.specs.Asking.{Tells, PostState, no_reader, reader_of, IsReaderOf, AreReadersBelow, call_number}
 use Rattle.hk_worker.specs.Reading.{HasLooked}
@@ -127,6 +130,39 @@ module _ (places : List NodeNames) (key : List ℕ) (op : Op) (old mid new : Pos
   begin_sends_by_clock (Ok (opened.Waits w)) s = earlier s
   begin_sends_by_clock (Err e) (inl s) = inl (earlier s)
   begin_sends_by_clock (Err e) (inr same) = inr (same ∙ l.outlets)
+
+  pub failed_sends_by_clock : {E : Type 0} (fault : E) (result : Result DeskReply E) → result ≡ Err fault → Sends places key op mid new (Err fault) → SendsByClock places key op old new result
+  failed_sends_by_clock fault result is s = subst (SendsByClock places key op old new) (sym is) (sends_by_clock (Err fault) s)
+
+  pub failed_begin_sends_by_clock : {E : Type 0} (fault : E) (result : Result (Begun OpenAsk) E) → result ≡ Err fault → BeginSends places key op mid new (Err fault)
+      → BeginSendsByClock places key op old new result
+  failed_begin_sends_by_clock fault result is s = subst (BeginSendsByClock places key op old new) (sym is) (begin_sends_by_clock (Err fault) s)
+
+-- what begins and is told at once sends as an ask does
+pub begins_as_ask : (places : List NodeNames) (key : List ℕ) (op : Op) (old new : PostState) (reply : DeskReply) → BeginSends {E = Memory} places key op old new (Ok (opened.Told reply))
+    → Sends {E = Memory} places key op old new (Ok reply)
+begins_as_ask places key op old new (Told answer) s = s
+begins_as_ask places key op old new (Unknown turns) s = s
+begins_as_ask places key op old new (Spent asks) s = s
+
+pub ask_as_begins : (places : List NodeNames) (key : List ℕ) (op : Op) (old new : PostState) (reply : DeskReply) → Sends {E = Memory} places key op old new (Ok reply)
+    → BeginSends {E = Memory} places key op old new (Ok (opened.Told reply))
+ask_as_begins places key op old new (Told answer) s = s
+ask_as_begins places key op old new (Unknown turns) s = s
+ask_as_begins places key op old new (Spent asks) s = s
+
+-- nothing is sent by a look behind the ask
+pub sends_later : (places : List NodeNames) (key : List ℕ) (op : Op) (before asked new : PostState) → HasLooked key asked new → (reply : DeskReply) (answer given : Answer) → reply ≡ Told answer
+    → Sends {E = Memory} places key op before asked (Ok reply) → Sends {E = Memory} places key op before new (Ok (Told given))
+sends_later places key op before asked new l reply answer given is s =
+    let t = subst (λ (r : DeskReply). Sends {E = Memory} places key op before asked (Ok r)) is s in
+    record {
+      letters = t.letters;
+      mid = t.mid;
+      called = t.called;
+      later = grown_on key t.mid (reader_of key asked) (reader_of key new) t.later l.grown;
+      sent = subst (λ (o : List (Actor × LinkEnd)). AreSent (shard_of key) t.letters before.outlets o) (sym l.outlets) t.sent;
+    }
 
 -- what was looked at only sends nothing
 pub failed_sends_nothing : {E : Type 0} (places : List NodeNames) (key : List ℕ) (op : Op) (old new : PostState) (fault : E) (result : Result DeskReply E) → result ≡ Err fault → HasLooked key old new

@@ -76,39 +76,40 @@ pub record PostStep : Type 0 where
   pub event : PostEvent
   pub after : PostState
 
-abbrev pub Makes : PostEvent → PostState → PostState → Type 0
-Makes (PostEvent.Asks key op result) old new = AsksAtPost key op old new result
-Makes (PostEvent.AsksTimed reading key op result) old new = AsksByClock reading key op old new result
-Makes (PostEvent.Looks key) old new = HasLooked key old new
-Makes (PostEvent.Begins key op result) old new = BeginsAtPost key op old new result
-Makes (PostEvent.Finishes w result) old new = FinishesAtPost w old new result
+-- those by a clock all by one
+abbrev pub Makes : (ReaderState → ℕ → Type 0) → PostEvent → PostState → PostState → Type 0
+Makes was_read (PostEvent.Asks key op result) old new = AsksAtPost key op old new result
+Makes was_read (PostEvent.AsksTimed reading key op result) old new = AsksByClock was_read reading key op old new result
+Makes was_read (PostEvent.Looks key) old new = HasLooked key old new
+Makes was_read (PostEvent.Begins key op result) old new = BeginsAtPost key op old new result
+Makes was_read (PostEvent.Finishes w result) old new = FinishesAtPost w old new result
 
 -- any of them, one after the other, with ticks between
-abbrev pub StepsInTurn : PostState → List PostStep → Type 0
-StepsInTurn post [] = ⊤
-StepsInTurn post (step ∷ steps) = IsUnasked post step.before × Makes step.event step.before step.after × StepsInTurn step.after steps
+abbrev pub StepsInTurn : (ReaderState → ℕ → Type 0) → PostState → List PostStep → Type 0
+StepsInTurn was_read post [] = ⊤
+StepsInTurn was_read post (step ∷ steps) = IsUnasked post step.before × Makes was_read step.event step.before step.after × StepsInTurn was_read step.after steps
 
 abbrev pub post_after_steps : PostState → List PostStep → PostState
 post_after_steps post [] = post
 post_after_steps post (step ∷ steps) = post_after_steps step.after steps
 
 -- of each key's cell the post sees what it saw before, and more
-abbrev pub StepListsGrow : Type 0
-StepListsGrow = (post : PostState) (steps : List PostStep) (key : List ℕ) → StepsInTurn post steps → IsPrefix (seen_of key post) (seen_of key (post_after_steps post steps))
+abbrev pub StepListsGrow : (ReaderState → ℕ → Type 0) → Type 0
+StepListsGrow was_read = (post : PostState) (steps : List PostStep) (key : List ℕ) → StepsInTurn was_read post steps → IsPrefix (seen_of key post) (seen_of key (post_after_steps post steps))
 
 -- what a step told at once, of which ask
 abbrev pub ToldAtOnce : List ℕ → Op → Result DeskReply Memory → PostEvent → Type 0
 ToldAtOnce key op result event = (event ≡ PostEvent.Asks key op result) ⊎ ((reply : DeskReply) × (result ≡ Ok reply) × (event ≡ PostEvent.Begins key op (Ok (opened.Told reply))))
 
 -- What was told at once is shown by what the post has seen of the key's cell in the end.
-abbrev pub StepAsksAreShown : Type 0
-StepAsksAreShown = (post : PostState) (front back : List PostStep) (step : PostStep) (key : List ℕ) (op : Op) (result : Result DeskReply Memory) → StepsInTurn post (front ++ step ∷ back) → ToldAtOnce key op result step.event
+abbrev pub StepAsksAreShown : (ReaderState → ℕ → Type 0) → Type 0
+StepAsksAreShown was_read = (post : PostState) (front back : List PostStep) (step : PostStep) (key : List ℕ) (op : Op) (result : Result DeskReply Memory) → StepsInTurn was_read post (front ++ step ∷ back) → ToldAtOnce key op result step.event
     → IsShownIn (seen_of key (post_after_steps step.after back)) key op step.before step.after result
 
 -- the same of one by a clock
-abbrev pub StepTimedAreShown : Type 0
-StepTimedAreShown = (post : PostState) (front back : List PostStep) (step : PostStep) (reading : Option ℕ) (key : List ℕ) (op : Op) (result : Result DeskReply Memory) → StepsInTurn post (front ++ step ∷ back)
-    → step.event ≡ PostEvent.AsksTimed reading key op result → IsShownByClock (seen_of key (post_after_steps step.after back)) reading key op step.before step.after result
+abbrev pub StepTimedAreShown : (ReaderState → ℕ → Type 0) → Type 0
+StepTimedAreShown was_read = (post : PostState) (front back : List PostStep) (step : PostStep) (reading : Option ℕ) (key : List ℕ) (op : Op) (result : Result DeskReply Memory) → StepsInTurn was_read post (front ++ step ∷ back)
+    → step.event ≡ PostEvent.AsksTimed reading key op result → IsShownByClock was_read (seen_of key (post_after_steps step.after back)) reading key op step.before step.after result
 
 -- What an update that waited was told is shown by what the post has seen of the key's cell in the end: what it had seen before the ask began, what was added until
 -- it was finished, and what came later. The end of the lease and the clock are those of a load as it began.
@@ -122,9 +123,9 @@ IsShownLate seen key op old begun (Ok (Spent asks)) = ⊥
 IsShownLate seen key op old begun (Err e) = ⊤
 
 -- whatever the post was called for between
-abbrev pub StepFinishesAreShown : Type 0
-StepFinishesAreShown = (post : PostState) (front mid back : List PostStep) (begin finish : PostStep) (key : List ℕ) (op : Op) (w : OpenAsk) (result : Result DeskReply Memory) →
-    StepsInTurn post (front ++ begin ∷ (mid ++ finish ∷ back)) → begin.event ≡ PostEvent.Begins key op (Ok (opened.Waits w)) → finish.event ≡ PostEvent.Finishes w result
+abbrev pub StepFinishesAreShown : (ReaderState → ℕ → Type 0) → Type 0
+StepFinishesAreShown was_read = (post : PostState) (front mid back : List PostStep) (begin finish : PostStep) (key : List ℕ) (op : Op) (w : OpenAsk) (result : Result DeskReply Memory) →
+    StepsInTurn was_read post (front ++ begin ∷ (mid ++ finish ∷ back)) → begin.event ≡ PostEvent.Begins key op (Ok (opened.Waits w)) → finish.event ≡ PostEvent.Finishes w result
     → IsShownLate (seen_of key (post_after_steps finish.after back)) key op begin.before begin.after result
 
 -- ---- no two asks of a post have one count
@@ -133,15 +134,15 @@ abbrev pub counts_of_steps : List PostStep → List ℕ
 counts_of_steps [] = []
 counts_of_steps (step ∷ steps) = if step.after.asks == step.before.asks then counts_of_steps steps else step.after.asks ∷ counts_of_steps steps
 
-abbrev pub StepCountsRise : Type 0
-StepCountsRise = (post : PostState) (steps : List PostStep) → StepsInTurn post steps → Rise post.asks (counts_of_steps steps)
+abbrev pub StepCountsRise : (ReaderState → ℕ → Type 0) → Type 0
+StepCountsRise was_read = (post : PostState) (steps : List PostStep) → StepsInTurn was_read post steps → Rise post.asks (counts_of_steps steps)
 
 -- ---- by a clock
 -- What an ask by a clock comes to that begins: it is told as one by a clock, or waits; before that the post looked, and the clock of the key's shard was raised.
-abbrev pub BeginsByClock : {E : Type 0} → Option ℕ → List ℕ → Op → PostState → PostState → Result (Begun OpenAsk) E → Type 0
-BeginsByClock {E = E} reading key op old new (Ok (opened.Told reply)) = AsksByClock {E = E} reading key op old new (Ok reply)
-BeginsByClock {E = E} reading key op old new (Ok (opened.Waits w)) = (mid : PostState) × HasLooked key old mid × HasRisen reading key mid × BeginsAtPost {E = E} key op mid new (Ok (opened.Waits w))
-BeginsByClock {E = E} reading key op old new (Err e) = AsksByClock reading key op old new (Err e)
+abbrev pub BeginsByClock : {E : Type 0} → (ReaderState → ℕ → Type 0) → Option ℕ → List ℕ → Op → PostState → PostState → Result (Begun OpenAsk) E → Type 0
+BeginsByClock {E = E} was_read reading key op old new (Ok (opened.Told reply)) = AsksByClock {E = E} was_read reading key op old new (Ok reply)
+BeginsByClock {E = E} was_read reading key op old new (Ok (opened.Waits w)) = (mid : PostState) × HasLooked key old mid × HasRisen reading key mid × BeginsAtPost {E = E} key op mid new (Ok (opened.Waits w))
+BeginsByClock {E = E} was_read reading key op old new (Err e) = AsksByClock was_read reading key op old new (Err e)
 
 -- what it sends
 abbrev pub BeginSendsByClock : {E : Type 0} → List NodeNames → List ℕ → Op → PostState → PostState → Result (Begun OpenAsk) E → Type 0

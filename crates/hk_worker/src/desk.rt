@@ -7,12 +7,13 @@ ghost use Rattle.hk_worker.specs.Asking.{AsksAtPost};
 ghost use Rattle.hk_worker.specs.Reading.{AsksByClock};
 ghost use Rattle.hk_worker.specs.Sending.{Sends, SendsByClock};
 
+use crate::desk_clock::DeskClock;
 use crate::opening::OpenAsk;
 use crate::post::Post;
 use hk_base::{Key, Memory, Op};
 use hk_callback::Completion;
 use hk_locked::Places;
-use hk_outside::{Begun, Clock, Desk, DeskReply};
+use hk_outside::{Begun, Desk, DeskReply};
 use std::sync::Wait;
 
 /// Asks operations at a post.
@@ -31,28 +32,28 @@ impl<R: Wait + Drop, F: Completion + Copy + Drop, P: Places> NodeDesk<R, F, P> {
     }
 
     // Asks one operation by a clock.
-    pub(crate) fn ask_by<C: Clock>(
+    pub(crate) fn ask_by<C: DeskClock>(
         &mut self,
         clock: &C,
         key: &Key,
         op: &Op,
     ) -> Result<DeskReply, Memory>
         ensures suits { Suits op.now result }
-        ensures told { AsksByClock (C.reading clock.now) key.now op.now self.old.post self.new.post result }
+        ensures told { AsksByClock (C.was_read clock.now) (C.reading clock.now) key.now op.now self.old.post self.new.post result }
         ensures sent { SendsByClock P.places key.now op.now self.old.post self.new.post result }
     {
         self.post.ask_by(&self.rt, clock, key, op)
     }
 
     // Begins to ask one operation by a clock.
-    pub(crate) fn begin_by<C: Clock>(
+    pub(crate) fn begin_by<C: DeskClock>(
         &mut self,
         clock: &C,
         key: &Key,
         op: &Op,
     ) -> Result<Begun<OpenAsk>, Memory>
         ensures suits { BeginSuits (λ waits. waits.op) op.now result }
-        ensures told { BeginsByClock (C.reading clock.now) key.now op.now self.old.post self.new.post result }
+        ensures told { BeginsByClock (C.was_read clock.now) (C.reading clock.now) key.now op.now self.old.post self.new.post result }
         ensures sent { BeginSendsByClock P.places key.now op.now self.old.post self.new.post result }
     {
         self.post.begin_by(&self.rt, clock, key, op)

@@ -19,8 +19,11 @@
 //! What is proved of asks, all eight operations (`AsksAtPost`). An answer is that of its row of the table (`Shown`) by
 //! what the post has seen of the key's cell and its lease, with a load of both. `Unknown` comes only after 100,000
 //! looks, at each of which the update had not ended; `Spent` exactly where the post has made 4,294,967,295 asks. A
-//! [`ClockDesk`] tells a read so by its clock's reading and a lease loaded in this read, or asks its post behind a tick
-//! to the reading (`AsksByClock`). An update that was begun is told as of the load at its beginning, whatever the post
+//! [`ClockDesk`] tells a read so by a lease loaded in this read and a reading of its clock behind these loads, or asks its
+//! post behind a tick (`AsksByClock`). What is told there without beginning an update is given only where the lease runs
+//! by a reading behind the step; else it is told that the lease may be over, and may be asked again (`TellsByClock`). That
+//! the reading came behind what was seen, [`DeskClock`] tells of both (`was_read`). Where a lease never ends no clock is
+//! read for that. An update that was begun is told as of the load at its beginning, whatever the post
 //! was called for between (`begun_asks_are_shown`). Over every list of calls each answer is shown by what the post has
 //! seen in the end (`asks_are_shown`, `clock_asks_are_shown`), and no publication begins the updates of two asks
 //! (`updates_stay_apart`). Just the letters of the call's step go out, in turn, by the first outlet to each, and of
@@ -35,7 +38,8 @@
 //! those before the refused shard have; where it rose, each shard with less than half of a lease left is to ask each
 //! manager, and no other (`IsTicked`; `requests_due` is exact). A new post has the inlets, outlets and number that it
 //! was given. Founders are shards at which nothing has happened (`founders`); they come under locks where the list of
-//! names has their cells (`named`).
+//! names has their cells (`named`). Their first lease may be over from the beginning: its end and the length of those that
+//! are asked for are two numbers.
 //!
 //! What no clause says. `WasApplied`, `WasDue`, `WasOpen`, `WasQuiet` and `WasJournal` speak of some state with the
 //! cells of the node's shard, so `step_at`, `due`, `has_open_at` and `journal` could have other bodies. Nor why a
@@ -48,6 +52,7 @@ mod asking;
 mod changes;
 mod clock_desk;
 mod desk;
+mod desk_clock;
 mod doubts;
 mod eight;
 mod laws;
@@ -63,6 +68,7 @@ pub use asking::TURNS;
 pub use changes::Changes;
 pub use clock_desk::ClockDesk;
 pub use desk::NodeDesk;
+pub use desk_clock::DeskClock;
 pub use eight::Eight;
 pub use laws::{asks_are_shown, begun_asks_are_shown, clock_asks_are_shown, updates_stay_apart};
 pub use opening::OpenAsk;

@@ -1,5 +1,5 @@
 use Rattle.hk_group.proofs.Views.{is_view, has_member}
-use Rattle.hk_group.proofs.founding.found_node.Goals as goal
+use Rattle.hk_group.proofs.founding.found_with.Goals as goal
 
 pub founders-requires-clause-view : goal.founders-requires-clause-view
 founders-requires-clause-view g c = is_view c.args.group.now c.args.view.now c.requires.group c.requires.view
