@@ -13,7 +13,6 @@ use Rattle.hk_inside.specs.declared.board.BoardLine.{BoardLine}
 use Rattle.hk_fields.specs.declared.hosts.HostTickets.{HostTickets}
 use Rattle.hk_inside.specs.declared.inquiry.Inquiry.{Inquiry}
 use Rattle.hk_inside.specs.declared.inquiry.Inquiry.TheVariants as asks
-use Rattle.hk_inside.specs.Messages.{IsInquiryInRange}
 use Rattle.hk_inside.specs.Parts.{IsLineInRange, IsBoardInRange}
 use Rattle.hk_log.specs.Entries.{IsActorInRange, IsEntryInRange}
 use Rattle.hk_stage.specs.declared.event.StageAnswer.{StageAnswer}
@@ -45,7 +44,7 @@ use Rattle.hk_office.specs.Founding.{opening_logged, fits_at, fits, stage_answer
 use Rattle.hk_office.specs.Seating.{roll_answer, seating_of, binding_taken_by, seat_noted_if, seat_given, number_claimed}
 use Rattle.hk_office.specs.Leaving.{leaver_of, against_leave, left_by, left_at, left}
 use Rattle.hk_office.specs.Steps.{Made, stays, with_report, found_by, found_step, found, if_open, inquired}
-use Rattle.hk_office.specs.Ranges.{IsAnswerInRange, StaysInRange}
+use Rattle.hk_office.specs.Ranges.{IsAnswerInRange, HasFoundingInRange, StaysInRange}
 
 -- ---- boards
 
@@ -258,7 +257,7 @@ module _ (rule : BindsByTheRule) (reserved : FoundWhileReserved) where
           (λ number is. subst (λ (n : ℕ). 1 ≤ n) (same_founding f number (reserved o.opening number now (event.Found f) is).0) some)
           place (omega (arith, count, few))
 
-  logs_fit : (o : Office) (now : ℕ) (views : List View) (told : List (Option Ticket)) (inquiry : Inquiry) → o.terms.managers ≤ 9 → IsInquiryInRange inquiry → Logs (inquired o now views told inquiry)
+  logs_fit : (o : Office) (now : ℕ) (views : List View) (told : List (Option Ticket)) (inquiry : Inquiry) → o.terms.managers ≤ 9 → HasFoundingInRange inquiry → Logs (inquired o now views told inquiry)
   logs_fit o now views told (asks.Report report) few is = tt
   logs_fit o now views told (asks.Seat ticket) few is =
       let step : RollStep = seated o.roll views (seating_of o now views ticket) ticket in

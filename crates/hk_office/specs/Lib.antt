@@ -11,3 +11,4 @@ pub mod Wishing
 pub mod Steps
 pub mod Laws
 pub mod Ranges
+pub mod Telling

@@ -1,8 +1,8 @@
 //! What a manager answers.
 
-ghost use Rattle.std.specs.Prelude.{◌≡◌, ◌≤◌, IfOk, OnErr};
+ghost use Rattle.std.specs.Prelude.{◌≡◌, ◌≤◌, true, IfOk, OnErr};
 ghost use Rattle.hk_base.specs.declared.time.TheConstants.{MAX_TIME};
-ghost use Rattle.hk_inside.specs.Messages.{IsInquiryInRange};
+ghost use Rattle.hk_office.specs.Ranges.{HasFoundingInRange};
 ghost use Rattle.hk_office.specs.Answers.{answered, refused};
 ghost use Rattle.hk_office.specs.Steps.{reported, if_open, inquired};
 ghost use Rattle.hk_office.specs.Seating.{seat_given, number_claimed};
@@ -54,6 +54,16 @@ pub fn refused(alloc: Global, refusal: OfficeRefusal) -> OfficeStep
     answered(alloc, OfficeAnswer::No(refusal))
 }
 
+/// Whether a founding that the inquiry asks for is not 0 and has 9 hosts at most, as every one that was read.
+pub fn has_founding_in_range(inquiry: &Inquiry) -> bool
+    ensures { result ≡ true → HasFoundingInRange inquiry.now }
+{
+    match inquiry {
+        Inquiry::Found { founding, hosts } => 0 < *founding && hosts.as_slice().len() <= 9,
+        _ => true,
+    }
+}
+
 impl Office {
     // REPORT.
     fn take_report(
@@ -86,7 +96,7 @@ impl Office {
         told: &[Option<Ticket>],
         inquiry: Inquiry,
     ) -> Result<OfficeStep, Memory>
-        requires inquiry { IsInquiryInRange inquiry }
+        requires inquiry { HasFoundingInRange inquiry }
         requires time { now ≤ MAX_TIME }
         ensures ok { IfOk result (λ made. (made, self.new) ≡ inquired self.old now views.now told.now inquiry) }
         ensures err { OnErr result (self.new ≡ record self.old { reports = self.new.reports }) }

@@ -29,7 +29,7 @@ pub struct Asker {
     pub manager: Option<u8>,
 }
 
-const PLACES: [u8; 9] = [0, 1, 2, 3, 4, 5, 6, 7, 8];
+pub(crate) static PLACES: [u8; 9] = [0, 1, 2, 3, 4, 5, 6, 7, 8];
 
 const MOST_LINES: usize = 255;
 
@@ -59,7 +59,7 @@ fn front_of(text: &[u8]) -> &[u8]
 }
 
 // The address at which a process is reached, by its last report.
-fn inside_of(alloc: Global, came: Option<&Came>) -> Result<Text, Memory>
+pub(crate) fn inside_of(alloc: Global, came: Option<&Came>) -> Result<Text, Memory>
     ensures { IfOk result (λ text. text ≡ inside_of (option_copied came.entry)) }
 {
     match came {

@@ -25,7 +25,7 @@ pub fn nothing_before_it_is_open()
     ensures { NothingBeforeItIsOpen }
 {}
 
-/// Of an inquiry that is in range, what is logged may stand in a log, and what is answered in a frame.
+/// Of an inquiry that names no founding out of range, what is logged may stand in a log, and what is answered in a frame.
 pub fn answers_stay_in_range()
     ensures { StaysInRange }
 {
