@@ -1,0 +1,4 @@
+pub mod Fitting
+pub mod Identities
+pub mod Standings
+pub mod Notices

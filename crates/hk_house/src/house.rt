@@ -1,0 +1,113 @@
+//! What the threads of a process share.
+
+ghost use Rattle.std.specs.Prelude.{◌≡◌, IfOk, IfSome};
+ghost use Rattle.hk_house.specs.Identities.{ours_of};
+ghost use Rattle.hk_house.specs.Standings.{IsOwnTicket, IsLookedUp, IsReachedThen};
+
+use crate::identity::Identity;
+use crate::inbox::Inbox;
+use crate::standing::Standing;
+use hk_base::{Actor, Memory};
+use hk_fields::Ticket;
+use hk_greet::LookUp;
+use hk_hello::{Hello, LookedUp, Ours};
+use hk_hosts::Address;
+use hk_link::Outlet;
+use std::alloc::Global;
+use std::sync::{Arc, Mutex, Wait};
+
+/// The outlets to the actors of a process, which are split for each connection that brings letters.
+#[derive(Drop)]
+pub struct Entrances {
+    /// That of its manager, once this is open.
+    pub manager: Option<Outlet>,
+    /// That of its node, once this has a number.
+    pub node: Option<Outlet>,
+}
+
+/// What the threads of a process share.
+#[derive(Drop)]
+pub struct House<R: Wait + Drop, C: Drop> {
+    pub rt: R,
+    pub alloc: Global,
+    pub clock: Arc<C>,
+    /// What the process is.
+    pub identity: Identity,
+    /// What it has come to know.
+    pub standing: Mutex<Standing>,
+    /// Where letters go in.
+    pub entrances: Mutex<Entrances>,
+    /// What comes to the loop of its manager.
+    pub inbox: Inbox,
+}
+
+// One outlet more.
+fn split(outlet: &mut Option<Outlet>) -> Option<Outlet> {
+    match outlet {
+        Some(outlet) => outlet.split().ok(),
+        None => None,
+    }
+}
+
+impl<R: Wait + Drop, C: Drop> House<R, C> {
+    /// The number of the founding, 0 unless it is open.
+    pub fn founding(&self) -> u64 {
+        let guard = self.standing.lock(&self.rt);
+        guard.founding
+    }
+
+    /// The ticket of an actor of this process, as it stands at some moment of the call.
+    pub fn own_ticket(&self, actor: Actor) -> Option<Ticket>
+        ensures { IsOwnTicket self.now.identity actor result }
+    {
+        let guard = self.standing.lock(&self.rt);
+        let standing = &*guard;
+        standing.own_ticket(&self.identity, actor)
+    }
+
+    /// What is known of a hello's actors, as it stands at some moment of the call.
+    pub fn look_up(&self, hello: &Hello) -> LookedUp
+        ensures { IsLookedUp self.now.identity hello.now result }
+    {
+        let guard = self.standing.lock(&self.rt);
+        let standing = &*guard;
+        standing.look_up(&self.identity, hello)
+    }
+
+    /// Where an actor is reached, as it stands at some moment of the call.
+    pub fn address_of(&self, actor: Actor) -> Option<Address>
+        ensures { IsReachedThen self.now.identity actor result }
+    {
+        let guard = self.standing.lock(&self.rt);
+        let standing = &*guard;
+        standing.address_of(self.alloc, &self.identity, actor)
+    }
+
+    /// One outlet more to the manager, or to the node, of this process, if it takes letters and there is memory for it. Which
+    /// place or number it has is for [`House::look_up`] to tell.
+    pub fn outlet_to(&self, actor: Actor) -> Option<Outlet> {
+        let mut guard = self.entrances.lock(&self.rt);
+        let entrances = &mut *guard;
+        match actor {
+            Actor::Manager(_) => split(&mut entrances.manager),
+            Actor::Node(_) => split(&mut entrances.node),
+        }
+    }
+
+    /// What an acceptor of this process is of.
+    pub fn ours(&self) -> Result<Ours, Memory>
+        ensures { IfOk result (λ ours. ours ≡ ours_of self.now.identity) }
+    {
+        self.identity.ours(self.alloc)
+    }
+}
+
+impl<R: Wait + Drop, C: Drop> LookUp for House<R, C> {
+    ghost use Rattle.hk_house.specs.Standings.{IsLookedUp};
+
+    ghost finds = { λ house. IsLookedUp house.identity };
+
+    fn look_up(&self, hello: &Hello) -> LookedUp {
+        House::look_up(self, hello)
+    }
+}

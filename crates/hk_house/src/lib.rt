@@ -1,0 +1,42 @@
+//! What the threads of a process of a group over hosts share.
+//!
+//! A process is a node and, on a host that has one, a manager. Many threads serve it: some take connections and letters,
+//! some report to the managers and hear their boards, one is the manager's loop. In a [`House`] they share what the
+//! process is ([`Identity`], which does not change), what it has come to know ([`Standing`], under a lock), where letters
+//! go in ([`Entrances`], under another one) and what waits for the manager's loop ([`Inbox`]).
+//!
+//! Whom the process knows: itself, since its manager takes requests at every stage and letters once it is open, and its
+//! node takes letters once it has a number; managers by the roll of its own manager, once that is open; nodes by what the
+//! last boards of a majority of the managers bind. A hello is judged by that ([`House`] is the `LookUp` of greetings).
+//!
+//! What is proved. An identity is exactly what words, a secret and a ticket tell, or it is told that no process may be so
+//! (`specs/Identities.antt`). Its type keeps that the group has a name, that it has 1 to 9 hosts, that this host is one of
+//! them if it has a manager, and that its addresses stand in a message: so each hello of it is in range, and is exactly
+//! the one that was asked for. What a standing tells of actors is that of the definitions in `specs/Standings.antt`,
+//! exactly: own tickets, what a hello is judged by, addresses. Behind the lock it is that of some standing, as another
+//! thread may change it at any moment. At most 1,024 wait in an inbox, in their order. A refusal is told again a minute
+//! later at the soonest.
+//!
+//! Its caller owes, with each board that it has a standing hear, the place of the manager that sent it.
+//!
+//! No clause says which standing stood behind the lock at a moment, that what was put into an inbox is taken, that who
+//! waits at a [`Slot`] is woken, or that the answer there is the one to its inquiry: each inquiry has a slot of its own,
+//! to which nothing else leads. Nor does one say that a line for the operator was written.
+#![tactic(auto)]
+
+mod house;
+mod identity;
+mod inbox;
+mod making;
+mod notices;
+mod resting;
+mod standing;
+mod terms;
+
+pub use house::{Entrances, House};
+pub use identity::Identity;
+pub use inbox::{Coming, Inbox, Slot};
+pub use making::{IdentityFault, digest_of};
+pub use notices::{Told, tell_log_ended, tell_open, tell_ready, tell_refused};
+pub use resting::rest;
+pub use standing::{Standing, copy_of};

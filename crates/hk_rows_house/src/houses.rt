@@ -1,0 +1,56 @@
+//! What threads are told of a process, behind its locks.
+
+use crate::outside::{OWN, second};
+use crate::standings::{OWN_MANAGER, open};
+use hk_base::{Actor, NodeId};
+use hk_house::{Entrances, House, Inbox};
+use hk_link::link;
+use std::alloc::Global;
+use std::process::Abort;
+use std::sync::{Arc, Mutex, Wait};
+
+// The second host's process, whose manager alone takes letters.
+fn house<R: Wait + Abort + Copy + Drop>(rt: R, alloc: Global) -> House<R, u8> {
+    let inbox = Inbox::new(alloc).expect(&rt, "memory");
+    let (outlet, _) = link(alloc, 4).expect(&rt, "memory");
+    House {
+        rt,
+        alloc,
+        clock: Arc::new(alloc, 0).expect(&rt, "memory"),
+        identity: second(&rt, alloc, 1_000),
+        standing: Mutex::new(open(&rt, alloc)),
+        entrances: Mutex::new(Entrances {
+            manager: Some(outlet),
+            node: None,
+        }),
+        inbox,
+    }
+}
+
+#[test]
+fn a_process_tells_who_is_here(rt: HostRuntime) {
+    let house = house(rt, rt.alloc());
+    assert_eq!(rt; house.founding(), 9);
+    assert_eq!(rt; house.own_ticket(Actor::Manager(1)), Some(OWN_MANAGER));
+    assert_eq!(rt; house.own_ticket(Actor::Manager(0)), None);
+    assert_eq!(rt; house.own_ticket(Actor::Node(NodeId(1))), Some(OWN));
+    assert_eq!(rt; house.own_ticket(Actor::Node(NodeId(0))), None);
+    assert!(rt; house.outlet_to(Actor::Manager(1)).is_some());
+    assert!(rt; house.outlet_to(Actor::Node(NodeId(1))).is_none());
+}
+
+#[test]
+fn a_process_tells_where_others_are(rt: HostRuntime) {
+    let house = house(rt, rt.alloc());
+    let first = house
+        .address_of(Actor::Node(NodeId(0)))
+        .expect(&rt, "an address");
+    let third = house
+        .address_of(Actor::Manager(2))
+        .expect(&rt, "an address");
+    assert_eq!(rt; first.host.as_slice(), b"10.0.0.1".as_slice());
+    assert_eq!(rt; first.port, 11_400);
+    assert_eq!(rt; third.host.as_slice(), b"10.0.0.3".as_slice());
+    assert!(rt; house.address_of(Actor::Node(NodeId(2))).is_none());
+    assert!(rt; house.address_of(Actor::Manager(3)).is_none());
+}

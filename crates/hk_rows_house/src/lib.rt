@@ -1,0 +1,13 @@
+//! The tests of what the threads of a process share: what it is, whom it knows, and what waits for its manager.
+#![tactic(auto)]
+
+#[cfg(test)]
+mod houses;
+#[cfg(test)]
+mod identities;
+#[cfg(test)]
+mod inboxes;
+#[cfg(test)]
+mod outside;
+#[cfg(test)]
+mod standings;
