@@ -1,0 +1,2 @@
+mod Welcomed
+mod Answered

@@ -1,0 +1,6 @@
+pub mod Retrying
+pub mod Greeted
+pub mod Dialled
+pub mod Sending
+pub mod Asking
+pub mod Answering

@@ -1,0 +1,141 @@
+//! The way to an actor of another process.
+
+ghost use Rattle.std.specs.Prelude.{◌≡◌, Some, IfSome, IfOk};
+ghost use Rattle.std.specs.Arc.{arc_value};
+ghost use Rattle.hk_hello.specs.Hellos.{IsHelloInRange};
+ghost use Rattle.hk_greet.specs.Greeting.{Knocks};
+ghost use Rattle.hk_house.specs.Standings.{IsReachedThen};
+ghost use Rattle.hk_passage.specs.Greeted.{IsOwn, Says};
+ghost use Rattle.hk_passage.specs.Dialled.{Begins};
+
+use crate::retry::Retry;
+use hk_base::{Actor, Memory};
+use hk_fields::Ticket;
+use hk_greet::{Buffered, KnockFault, knock};
+use hk_hello::{Hello, Party, Purpose};
+use hk_hosts::{Address, Patient};
+use hk_house::{House, Told, tell_refused};
+use hk_outside::Clock;
+use std::io::Eprint;
+use std::sync::Wait;
+
+/// A connection is dialled within so many milliseconds.
+pub const DIAL_MILLIS: u64 = 1_000;
+
+/// Who dials, and what for.
+#[derive(Clone, Copy, Debug)]
+pub struct Speaker {
+    pub purpose: Purpose,
+    pub from: Party,
+    /// The ticket of `from`; of nobody its process's.
+    pub ticket: Ticket,
+}
+
+/// Leads to an actor of another process: to be tried, but not too often.
+#[derive(Drop)]
+pub struct Approach {
+    pub to: Actor,
+    pub retry: Retry,
+    pub told: Told,
+}
+
+/// A call that may be made now.
+#[derive(Drop)]
+pub struct Call {
+    /// What is said.
+    pub hello: Hello,
+    /// Where the actor is reached.
+    pub address: Address,
+}
+
+// What a speaker says where it dials for an actor.
+fn hello_of<R: Wait + Drop, C: Drop>(
+    house: &House<R, C>,
+    speaker: Speaker,
+    to: Actor,
+) -> Result<Hello, Memory>
+    requires { IsOwn house.now.identity speaker.from speaker.ticket }
+    ensures range { IfOk result IsHelloInRange }
+    ensures said { IfOk result (Says house.now.identity speaker.purpose speaker.from to) }
+{
+    house.identity.hello(
+        house.alloc,
+        speaker.purpose,
+        speaker.from,
+        Party::Actor(to),
+        house.founding(),
+        speaker.ticket,
+    )
+}
+
+// The call of a speaker for an actor, if there is an address for it.
+fn call_of<R: Wait + Drop, C: Drop>(
+    house: &House<R, C>,
+    speaker: Speaker,
+    to: Actor,
+) -> Option<Call>
+    requires { IsOwn house.now.identity speaker.from speaker.ticket }
+    ensures range { IfSome result (λ call. IsHelloInRange call.hello) }
+    ensures said { IfSome result (λ call. Says house.now.identity speaker.purpose speaker.from to call.hello) }
+    ensures reached { IfSome result (λ call. IsReachedThen house.now.identity to (Some call.address)) }
+{
+    let hello = hello_of(house, speaker, to).ok()?;
+    let address = house.address_of(to)?;
+    Some(Call { hello, address })
+}
+
+impl Approach {
+    /// Nobody was tried yet. The first pause is of so many milliseconds.
+    pub fn new(to: Actor, pause: u64) -> Approach
+        ensures { result.to ≡ to }
+    {
+        Approach {
+            to,
+            retry: Retry::new(pause),
+            told: Told::new(),
+        }
+    }
+
+    /// The call of a speaker, if one may be made now. From here on it was tried in vain; the caller tells by `retry` if it
+    /// went well after all.
+    pub fn begin<R: Wait + Drop, C: Clock + Drop>(
+        &mut self,
+        house: &House<R, C>,
+        speaker: Speaker,
+    ) -> Option<Call>
+        requires { IsOwn house.now.identity speaker.from speaker.ticket }
+        ensures range { IfSome result (λ call. IsHelloInRange call.hello) }
+        ensures said { IfSome result (λ call. Says house.now.identity speaker.purpose speaker.from self.old.to call.hello) }
+        ensures reached { IfSome result (λ call. IsReachedThen house.now.identity self.old.to (Some call.address)) }
+        ensures begun { Begins (λ now. IfSome (C.reading (arc_value house.now.clock)) (λ time. now ≡ time)) result self.old.retry self.new.retry }
+        ensures to { self.new.to ≡ self.old.to }
+    {
+        let now = house.clock.now();
+        if !self.retry.is_due(now) {
+            return None;
+        }
+        self.retry.failed(now);
+        call_of(house, speaker, self.to)
+    }
+
+    /// Greets whoever accepted a connection that was dialled. The operator is told of a refusal, once a minute.
+    pub fn greet<R: Wait + Eprint + Drop, C: Clock + Drop, N: Patient>(
+        &mut self,
+        house: &House<R, C>,
+        hello: Hello,
+        conn: &mut Buffered<N>,
+    ) -> Result<(), KnockFault>
+        requires { IsHelloInRange hello }
+        ensures knocked { Knocks result house.now.identity.secret hello conn.old conn.new }
+        ensures to { self.new.to ≡ self.old.to }
+        ensures retry { self.new.retry ≡ self.old.retry }
+    {
+        let secret = house.identity.secret.as_slice();
+        let knocked = knock(house.alloc, &*house.clock, conn, secret, hello);
+        if let Err(KnockFault::Refused(refusal)) = &knocked {
+            let now = house.clock.now();
+            tell_refused(&house.rt, &mut self.told, now, self.to, *refusal);
+        }
+        knocked
+    }
+}

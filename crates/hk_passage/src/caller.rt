@@ -1,0 +1,166 @@
+//! Connections that other processes made.
+
+ghost use Rattle.std.specs.Prelude.{◌≡◌, ℕ, true, Ok, IfSome, Some};
+ghost use Rattle.hk_inside.specs.Messages.{IsResponseInRange};
+ghost use Rattle.std.specs.Io.KnownBytes.{prepend_known};
+ghost use Rattle.hk_link.specs.Ends.{IsSameLink};
+ghost use Rattle.hk_peer.specs.Serving.{Serves};
+ghost use Rattle.hk_passage.specs.Answering.{Answers, AreAnswered, EndsBehind};
+
+use crate::ranges::is_in_range;
+use hk_base::Actor;
+use hk_greet::{Buffered, HearFault, RespondFault, admit, next_inquiry, respond};
+use hk_hello::{Challenge, Hello, Party, Purpose};
+use hk_hosts::Patient;
+use hk_house::{Coming, House, Slot};
+use hk_inside::{Inquiry, Response};
+use hk_link::Outlet;
+use hk_outside::Clock;
+use hk_peer::{Course, PeerEnd, serve_peer};
+use std::sync::{Arc, Wait};
+use thiserror::Error;
+
+// A connection for requests on which none comes for so many milliseconds is ended.
+const SILENT_REQUESTS: u64 = 10_000;
+
+// And one for letters, of which there may be none for long: that its other end is gone shows nowhere else.
+const SILENT_LETTERS: u64 = 600_000;
+
+/// Held by a connection until its greeting has ended.
+#[derive(Drop)]
+pub struct Greeting;
+
+/// How a connection for requests ends.
+#[derive(Clone, Copy, Debug, PartialEq, Eq, Error)]
+pub enum RequestsEnd {
+    /// The connection ended between two requests.
+    #[error("no more requests came")]
+    Over,
+    /// No request was heard.
+    #[error("no request: {0}")]
+    Unheard(HearFault),
+    /// A request came, and there was no answer within a lease, or none that can be sent.
+    #[error("there was no answer")]
+    Unanswered,
+    /// The answer was not sent.
+    #[error("{0}")]
+    Unsent(RespondFault),
+}
+
+// What the manager answers, if it does within a lease.
+fn answer_of<R: Wait + Drop, C: Drop>(house: &House<R, C>, inquiry: Inquiry) -> Option<Response>
+    ensures { IfSome result (λ response. IsResponseInRange response) }
+{
+    let slot = Arc::new(house.alloc, Slot::new()).ok()?;
+    let own = Arc::try_clone(&slot).ok()?;
+    house.inbox.put(&house.rt, Coming::Asked { inquiry, slot });
+    let response = own.wait(&house.rt, u64::from(house.identity.lease))?;
+    if is_in_range(&response) {
+        Some(response)
+    } else {
+        None
+    }
+}
+
+// Answers the next request of a connection.
+fn answer_next<R: Wait + Drop, C: Drop, N: Patient>(
+    house: &House<R, C>,
+    conn: &mut Buffered<N>,
+) -> Result<(), RequestsEnd>
+    ensures { Answers result conn.old conn.new }
+{
+    let inquiry = match next_inquiry(house.alloc, conn) {
+        Ok(Some(inquiry)) => inquiry,
+        Ok(None) => return Err(RequestsEnd::Over),
+        Err(fault) => return Err(RequestsEnd::Unheard(fault)),
+    };
+    let Some(response) = answer_of(house, inquiry) else {
+        return Err(RequestsEnd::Unanswered);
+    };
+    match respond(house.alloc, conn, &response) {
+        Ok(()) => Ok(()),
+        Err(fault) => Err(RequestsEnd::Unsent(fault)),
+    }
+}
+
+// Answers the requests of a connection, to its end.
+#[tactic(auto, using(crate::proofs::Answered::none_answered, crate::proofs::Answered::ends_behind))]
+fn answer_requests<R: Wait + Drop, C: Drop, N: Patient>(
+    house: &House<R, C>,
+    conn: &mut Buffered<N>,
+) -> RequestsEnd
+    ensures { EndsBehind result conn.old conn.new }
+{
+    for _ in house.rt.forever() {
+        match answer_next(house, conn) {
+            Ok(()) => {}
+            Err(end) => return end,
+        }
+    }
+    unreachable!()
+}
+
+// Puts the letters of a connection from one actor to another one, to its end.
+fn take_letters<R: Wait + Drop, C: Drop, N: Patient>(
+    house: &House<R, C>,
+    conn: &mut Buffered<N>,
+    from: Actor,
+    to: Actor,
+    outlet: &mut Outlet,
+) -> PeerEnd
+    ensures link { IsSameLink outlet.new outlet.old }
+    ensures served { Serves (record { from = Some from; to = to }) result (prepend_known conn.old.unread conn.old.left) (prepend_known conn.new.unread conn.new.left) (Some conn.old.gave) (Some conn.new.gave) outlet.old.known outlet.new.known }
+{
+    let course = Course {
+        from: Some(from),
+        to,
+    };
+    serve_peer(&house.rt, house.alloc, conn, course, outlet)
+}
+
+// Serves a connection whose hello was taken.
+fn serve_welcome<R: Wait + Drop, C: Clock + Drop, N: Patient>(
+    house: &House<R, C>,
+    conn: &mut Buffered<N>,
+    hello: &Hello,
+) {
+    let lease = u64::from(house.identity.lease);
+    match (hello.purpose, hello.from, hello.to) {
+        (Purpose::Requests, _, _) => {
+            conn.wait_at_most(SILENT_REQUESTS, lease);
+            answer_requests(house, conn);
+        }
+        (Purpose::Letters, Party::Actor(from), Party::Actor(to)) => {
+            conn.wait_at_most(SILENT_LETTERS, lease);
+            if let Some(mut outlet) = house.outlet_to(to) {
+                take_letters(house, conn, from, to, &mut outlet);
+            }
+        }
+        _ => {}
+    }
+}
+
+/// Greets who made the connection, and serves it to its end.
+pub fn serve<R: Wait + Drop, C: Clock + Drop, N: Patient + Drop>(
+    house: &House<R, C>,
+    challenge: Challenge,
+    greeting: Arc<Greeting>,
+    conn: N,
+) {
+    let Ok(ours) = house.ours() else {
+        return;
+    };
+    let mut conn = Buffered::new(house.alloc, conn);
+    let admitted = admit(
+        house.alloc,
+        &*house.clock,
+        &mut conn,
+        challenge,
+        &ours,
+        house,
+    );
+    drop(greeting);
+    if let Ok(hello) = admitted {
+        serve_welcome(house, &mut conn, &hello);
+    }
+}

@@ -1,0 +1,109 @@
+//! The way of letters from an actor of this process to another actor.
+
+ghost use Rattle.std.specs.Prelude.{◌≡◌, IfSome, None};
+ghost use Rattle.std.specs.Arc.{arc_value};
+ghost use Rattle.hk_peer.specs.Parcels.{frames_of};
+ghost use Rattle.hk_passage.specs.Greeted.{IsOwn, SaysForLetters};
+ghost use Rattle.hk_passage.specs.Sending.{Sent, HasWhole};
+ghost use Rattle.hk_passage.specs.Dialled.{Redials};
+
+use crate::approach::{Approach, DIAL_MILLIS, Speaker};
+use hk_base::Actor;
+use hk_greet::Buffered;
+use hk_hello::{Party, Purpose};
+use hk_hosts::{DialAt, Patient};
+use hk_house::House;
+use hk_link::Parcel;
+use hk_outside::Clock;
+use hk_peer::{Carrier, SendFault, send_parcels};
+use std::alloc::Global;
+use std::io::Eprint;
+use std::sync::{Arc, Wait};
+
+/// Leads from an actor of this process to another one. It dials and greets where it has no connection, and drops one on
+/// which writing failed.
+#[derive(Drop)]
+pub struct Passage<R: Wait + Drop, C: Drop, D: DialAt + Drop> {
+    house: Arc<House<R, C>>,
+    dialer: D,
+    from: Actor,
+    approach: Approach,
+    conn: Option<Buffered<D::Conn>>,
+}
+
+impl<R: Wait + Drop, C: Drop, D: DialAt + Drop> Passage<R, C, D> {
+    /// No connection was made yet.
+    pub fn new(house: Arc<House<R, C>>, dialer: D, from: Actor, to: Actor) -> Passage<R, C, D>
+        ensures { result.conn ≡ None }
+    {
+        let pause = house.identity.beat();
+        Passage {
+            house,
+            dialer,
+            from,
+            approach: Approach::new(to, pause),
+            conn: None,
+        }
+    }
+}
+
+// What an actor says where it dials for letters, if it is one of this process.
+fn speaker_of<R: Wait + Drop, C: Drop>(house: &House<R, C>, from: Actor) -> Option<Speaker>
+    ensures purpose { IfSome result (λ speaker. speaker.purpose ≡ Purpose.Letters) }
+    ensures from_actor { IfSome result (λ speaker. speaker.from ≡ Party.Actor from) }
+    ensures own { IfSome result (λ speaker. IsOwn house.now.identity speaker.from speaker.ticket) }
+{
+    let ticket = house.own_ticket(from)?;
+    Some(Speaker {
+        purpose: Purpose::Letters,
+        from: Party::Actor(from),
+        ticket,
+    })
+}
+
+// Sends parcels, and gives whether the connection stays: not where a frame may have been cut.
+fn send<N: Patient>(alloc: Global, conn: &mut Buffered<N>, batch: &[Parcel]) -> bool
+    ensures { Sent result (frames_of batch.now) conn.old.held conn.new.held }
+{
+    match send_parcels(alloc, conn, batch) {
+        Ok(()) => true,
+        Err(SendFault::Memory) => true,
+        Err(SendFault::WriteFault) => false,
+    }
+}
+
+impl<R: Wait + Eprint + Drop, C: Clock + Drop, D: DialAt + Drop> Carrier for Passage<R, C, D> {
+    fn forward(&mut self, batch: &[Parcel])
+        ensures whole { HasWhole (arc_value self.old.house).identity.secret (SaysForLetters (arc_value self.old.house).identity self.old.from self.old.approach.to) (frames_of batch.now) self.old.conn self.new.conn }
+        ensures dials { Redials (arc_value self.old.house).identity self.old.approach.to (λ now. IfSome (C.reading (arc_value (arc_value self.old.house).clock)) (λ time. now ≡ time)) self.old.conn self.new.conn self.old.approach.retry self.new.approach.retry (D.addresses self.old.dialer) (D.addresses self.new.dialer) }
+    {
+        if let Some(conn) = &mut self.conn {
+            if !send(self.house.alloc, conn, batch) {
+                self.conn = None;
+            }
+            return;
+        }
+        let Some(speaker) = speaker_of(&*self.house, self.from) else {
+            return;
+        };
+        let Some(call) = self.approach.begin(&*self.house, speaker) else {
+            return;
+        };
+        let Ok(dialled) = self.dialer.dial(&call.address, DIAL_MILLIS) else {
+            return;
+        };
+        let mut conn = Buffered::new(self.house.alloc, dialled);
+        let Ok(()) = self.approach.greet(&*self.house, call.hello, &mut conn) else {
+            return;
+        };
+        conn.wait_at_most(0, u64::from(self.house.identity.lease));
+        if send(self.house.alloc, &mut conn, batch) {
+            self.approach.retry.went_well();
+            self.conn = Some(conn);
+        }
+    }
+
+    fn is_connected(&self) -> bool {
+        self.conn.is_some()
+    }
+}

@@ -1,0 +1,152 @@
+//! Passages for letters.
+
+use crate::outside::{
+    FakeDialer, Reached, Seen, SetClock, TICKET, dialer, greeting_of, hello, house, joined, shut,
+};
+use hk_base::{Actor, Body, Key, Letter, NodeId, Stamp};
+use hk_frame::print_letter;
+use hk_hello::{Party, Purpose};
+use hk_house::House;
+use hk_link::Parcel;
+use hk_passage::Passage;
+use hk_peer::Carrier;
+use std::alloc::Global;
+use std::collections::VecDeque;
+use std::process::Abort;
+use std::sync::{Arc, Wait};
+
+const FROM: Actor = Actor::Node(NodeId(0));
+
+const TO: Actor = Actor::Manager(1);
+
+// A letter of the node.
+#[tactic(auto, unfolding(hk_base::specs::Lengths::body_length))]
+fn letter(rt: &impl Abort, alloc: Global) -> Parcel {
+    let key = Key::read(alloc, b"k").expect(rt, "memory");
+    let stamp = Stamp {
+        version: 2,
+        node: 0,
+    };
+    let letter = Letter {
+        epoch: 1,
+        from: FROM,
+        to: TO,
+        body: Body::Ack {
+            key,
+            stamp,
+            top: stamp,
+        },
+    };
+    Parcel { shard: 3, letter }
+}
+
+fn frame_of(rt: &impl Abort, alloc: Global, parcel: &Parcel) -> Vec<u8> {
+    let mut frame = Vec::new(alloc);
+    print_letter(parcel.shard, &parcel.letter, &mut frame).expect(rt, "memory");
+    frame
+}
+
+// What a passage says first, and what its acceptor says where it takes that.
+#[derive(Drop)]
+struct Talk {
+    hello: Vec<u8>,
+    challenge: Vec<u8>,
+    accepted: Vec<u8>,
+}
+
+fn make_talk(rt: &impl Abort, alloc: Global) -> Talk {
+    let hello = hello(
+        rt,
+        alloc,
+        Purpose::Letters,
+        Party::Actor(FROM),
+        Party::Actor(TO),
+        TICKET,
+    );
+    let parts = greeting_of(rt, alloc, hello);
+    let accepted = joined(rt, alloc, &[&parts.challenge, &parts.welcome]);
+    Talk {
+        hello: parts.dialled,
+        challenge: parts.challenge,
+        accepted,
+    }
+}
+
+// A passage over these dials, and what is seen of it.
+fn passage<R: Wait + Abort + Copy + Send + Drop + 'static>(
+    rt: R,
+    alloc: Global,
+    house: &Arc<House<R, SetClock>>,
+    seen: &Arc<Seen>,
+    reached: VecDeque<Reached>,
+) -> Passage<R, SetClock, FakeDialer<R>> {
+    let house = Arc::try_clone(house).expect(&rt, "memory");
+    Passage::new(house, dialer(rt, alloc, seen, reached), FROM, TO)
+}
+
+#[test]
+fn who_is_not_reached_is_dialled_again_behind_a_pause(rt: HostRuntime) {
+    let alloc = rt.alloc();
+    let house = house(rt, alloc, shut());
+    let seen = Arc::new(alloc, Seen::new(alloc)).expect(&rt, "memory");
+    let mut passage = passage(rt, alloc, &house, &seen, VecDeque::new(alloc));
+    let batch = [letter(&rt, alloc)];
+    for (at, dials) in [(0, 1), (61, 1), (62, 2), (185, 2), (186, 3)] {
+        house.clock.set(at);
+        passage.forward(&batch);
+        assert_eq!(rt; seen.dials(), dials, "{at}");
+        assert!(rt; !passage.is_connected(), "{at}");
+    }
+    assert!(rt; seen.is(&rt, b""));
+}
+
+#[test]
+fn letters_stand_behind_the_welcome(rt: HostRuntime) {
+    let alloc = rt.alloc();
+    let house = house(rt, alloc, shut());
+    let seen = Arc::new(alloc, Seen::new(alloc)).expect(&rt, "memory");
+    let talk = make_talk(&rt, alloc);
+    let batch = [letter(&rt, alloc)];
+    let frame = frame_of(&rt, alloc, &batch[0]);
+    let said = joined(&rt, alloc, &[&talk.hello, &frame, &frame]);
+    let mut reached = VecDeque::new(alloc);
+    let first = Reached::Somebody {
+        bytes: talk.accepted,
+        writes: 3,
+    };
+    reached.push_back(first).expect(&rt, "memory");
+    let mut passage = passage(rt, alloc, &house, &seen, reached);
+    passage.forward(&batch);
+    passage.forward(&batch);
+    assert!(rt; passage.is_connected());
+    assert!(rt; seen.is(&rt, &said));
+    // A write fails: the connection is dropped, and the next letter dials at once.
+    passage.forward(&batch);
+    assert!(rt; !passage.is_connected());
+    assert_eq!(rt; seen.dials(), 1);
+    passage.forward(&batch);
+    assert_eq!(rt; seen.dials(), 2);
+}
+
+#[test]
+fn nothing_but_the_hello_is_written_where_it_is_refused(rt: HostRuntime) {
+    let alloc = rt.alloc();
+    let house = house(rt, alloc, shut());
+    let seen = Arc::new(alloc, Seen::new(alloc)).expect(&rt, "memory");
+    let talk = make_talk(&rt, alloc);
+    // no such actor
+    let refused = joined(&rt, alloc, &[&talk.challenge, &[6]]);
+    let mut reached = VecDeque::new(alloc);
+    let first = Reached::Somebody {
+        bytes: refused,
+        writes: 9,
+    };
+    reached.push_back(first).expect(&rt, "memory");
+    let mut passage = passage(rt, alloc, &house, &seen, reached);
+    let batch = [letter(&rt, alloc)];
+    passage.forward(&batch);
+    passage.forward(&batch);
+    assert!(rt; !passage.is_connected());
+    assert!(rt; seen.is(&rt, &talk.hello));
+    assert_eq!(rt; seen.dials(), 1);
+}
