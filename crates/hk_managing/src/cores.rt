@@ -1,0 +1,188 @@
+//! The cores of a manager, and its log.
+
+ghost use Rattle.std.specs.Prelude.{◌≡◌, ◌∷◌, [], List, OnOk, IfOk};
+ghost use Rattle.hk_log.specs.declared.entry.Entry.{Entry};
+ghost use Rattle.hk_disk.specs.Writing.{IsSureLog};
+ghost use Rattle.hk_durable.specs.Turns.{PostState, recorded, IsTurn};
+ghost use Rattle.hk_managing.specs.Turns.{all_noted, no_intents, views_held};
+
+use crate::notes::{are_notes, is_note};
+use hk_base::{Memory, View};
+use hk_disk::{LogFile, LogWriter};
+use hk_durable::{DurablePost, Intent, LateClock, Managers};
+use hk_link::Inlet;
+use hk_log::Entry;
+use hk_overseer::Outlets;
+use std::alloc::Global;
+use std::mem;
+use std::sync::Wait;
+use thiserror::Error;
+
+/// The log did not take what the manager did, so nothing of it may be told: it is stopped for good.
+#[derive(Clone, Copy, Debug, PartialEq, Eq, Error)]
+#[error("the log can't be written")]
+pub struct Unlogged;
+
+/// The cores of a manager, and its log.
+#[derive(Drop)]
+pub enum Cores<F: LogFile + Drop> {
+    /// The group is not open. The cores hold the first view, made no step, and take and send no letter.
+    Shut {
+        managers: Managers,
+        inlet: Inlet,
+        outlets: Outlets,
+        writer: LogWriter<F>,
+    },
+    Open(DurablePost<F>),
+    /// The manager is stopped for good: its log can't be written.
+    Ended,
+}
+
+const NOTHING: [Intent; 8] = [Intent::Nothing; 8];
+
+// The log of a group that is not open takes a record of these entries, if there are any.
+fn log<F: LogFile + Drop>(
+    alloc: Global,
+    writer: &mut LogWriter<F>,
+    notes: &[Entry],
+) -> Result<(), Unlogged>
+    ensures { OnOk result ((records : List (List Entry)) → IsSureLog F.holds F.is_sure writer.old.file writer.old.check.0 records → IsSureLog F.holds F.is_sure writer.new.file writer.new.check.0 (recorded notes.now records)) }
+{
+    if notes.is_empty() {
+        return Ok(());
+    }
+    if !are_notes(notes) {
+        return Err(Unlogged);
+    }
+    match writer.append(alloc, notes) {
+        Ok(()) => Ok(()),
+        Err(_) => Err(Unlogged),
+    }
+}
+
+// One entry more waits for the next record of the cores.
+fn note<F: LogFile + Drop>(post: &mut DurablePost<F>, entry: Entry) -> Result<(), Unlogged>
+    ensures noted { OnOk result (post.new.batch ≡ all_noted post.old.batch (entry ∷ [])) }
+    ensures inlet { post.new.inlet ≡ post.old.inlet }
+    ensures outlets { post.new.outlets ≡ post.old.outlets }
+    ensures writer { post.new.writer ≡ post.old.writer }
+{
+    if !is_note(&entry) {
+        return Err(Unlogged);
+    }
+    match post.note(entry) {
+        Ok(()) => Ok(()),
+        Err(_) => Err(Unlogged),
+    }
+}
+
+fn note_all<F: LogFile + Drop>(post: &mut DurablePost<F>, notes: Vec<Entry>) -> Result<(), Unlogged>
+    ensures noted { OnOk result (post.new.batch ≡ all_noted post.old.batch notes.items) }
+    ensures inlet { post.new.inlet ≡ post.old.inlet }
+    ensures outlets { post.new.outlets ≡ post.old.outlets }
+    ensures writer { post.new.writer ≡ post.old.writer }
+{
+    for entry in notes {
+        note(post, entry)?;
+    }
+    Ok(())
+}
+
+// The cores take what came for them, and the log takes these entries in front of the steps that they make. Only then are their letters sent.
+fn turn<F: LogFile + Drop, C: LateClock, R: Wait>(
+    rt: &R,
+    alloc: Global,
+    clock: &C,
+    post: &mut DurablePost<F>,
+    notes: Vec<Entry>,
+) -> Result<(), Unlogged>
+    ensures { OnOk result (IsTurn (C.was_read clock.now) F.holds F.is_sure no_intents (record { batch = all_noted post.old.batch notes.items; inlet = post.old.inlet; outlets = post.old.outlets.items; file = post.old.writer.file; check = post.old.writer.check.0 }) (record { batch = post.new.batch; inlet = post.new.inlet; outlets = post.new.outlets.items; file = post.new.writer.file; check = post.new.writer.check.0 })) }
+{
+    note_all(post, notes)?;
+    match post.turn(rt, alloc, clock, &NOTHING) {
+        Ok(()) => Ok(()),
+        Err(_) => Err(Unlogged),
+    }
+}
+
+// The views that these cores hold, by their shards.
+fn views_of(alloc: Global, managers: &Managers) -> Result<Vec<View>, Memory>
+    ensures { IfOk result (λ views. views.items ≡ views_held managers.now) }
+{
+    let mut views = Vec::new(alloc);
+    for shard in 0..8 {
+        let view = managers.of(shard).held().copy(alloc)?;
+        views.push(view)?;
+    }
+    Ok(views)
+}
+
+impl<F: LogFile + Drop> Cores<F> {
+    /// The cores as the process begins. No letter was taken or sent yet.
+    pub fn new(
+        alloc: Global,
+        is_open: bool,
+        managers: Managers,
+        inlet: Inlet,
+        outlets: Outlets,
+        writer: LogWriter<F>,
+    ) -> Cores<F> {
+        if is_open {
+            return Cores::Open(DurablePost::new(alloc, managers, inlet, outlets, writer));
+        }
+        Cores::Shut {
+            managers,
+            inlet,
+            outlets,
+            writer,
+        }
+    }
+
+    /// Whether the group is not open.
+    pub fn is_shut(&self) -> bool {
+        matches!(self, Cores::Shut { .. })
+    }
+
+    /// The group opens: from now on they take letters and send them.
+    pub fn open(&mut self, alloc: Global) {
+        *self = match mem::replace(self, Cores::Ended) {
+            Cores::Shut {
+                managers,
+                inlet,
+                outlets,
+                writer,
+            } => Cores::Open(DurablePost::new(alloc, managers, inlet, outlets, writer)),
+            Cores::Open(post) => Cores::Open(post),
+            Cores::Ended => Cores::Ended,
+        };
+    }
+
+    /// The views that they hold, by their shards. None while the group is not open.
+    pub fn views(&self, alloc: Global) -> Result<Vec<View>, Memory> {
+        match self {
+            Cores::Shut { .. } => Ok(Vec::new(alloc)),
+            Cores::Open(post) => views_of(alloc, post.managers()),
+            Cores::Ended => Ok(Vec::new(alloc)),
+        }
+    }
+
+    /// The log takes these entries, and they are sure. Those of an open group stand in front of the steps that its cores make in the same turn, whose letters are
+    /// sent behind that. After an error nothing of this manager may be told any more.
+    pub fn log<C: LateClock, R: Wait>(
+        &mut self,
+        rt: &R,
+        alloc: Global,
+        clock: &C,
+        notes: Vec<Entry>,
+    ) -> Result<(), Unlogged> {
+        let taken = match self {
+            Cores::Shut { writer, .. } => log(alloc, writer, &notes),
+            Cores::Open(post) => turn(rt, alloc, clock, post, notes),
+            Cores::Ended => Err(Unlogged),
+        };
+        if taken.is_err() {
+            *self = Cores::Ended;
+        }
+        taken
+    }
+}

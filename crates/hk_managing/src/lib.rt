@@ -1,0 +1,44 @@
+//! The manager of a host: how it begins by its log, and its loop.
+//!
+//! [`begin_manager`] takes up the log of a file and gives with what the manager of this host begins: its office
+//! (`hk_office`), its cores (`hk_durable`), and the writer of the log. A manager whose log tells of a founding is the one
+//! that was founded, by the ticket of then; its node's ticket is new with each process. Where the group is open the cores
+//! are those that return; else they hold the first view and made no step.
+//!
+//! [`ManagerJob`] is the loop. A turn takes what came: inquiries of processes, and boards of other managers. What the
+//! office logs is gathered ([`Gathered`]), and the answers wait. Then the log takes what was gathered, in one record and in
+//! front of the steps that the cores make in this turn, and letters of these steps go only behind that. Only where the log
+//! took it are there answers to leave: [`Replies`] come of [`Gathered::sure`] alone, which gives none where the record was
+//! not made sure. Where it is in the log that the group opens, the cores begin to take letters and to send them.
+//!
+//! Where the log can't be written, or memory is wanting for what the office did, nothing of this manager is told any more:
+//! it is stopped for good ([`Cores::Ended`]), and its process goes on with its node. An inquiry for which memory is wanting
+//! before the office did anything is not answered. Who asks then asks again.
+//!
+//! Its caller owes that the outlets lead to whom they are named for, that one process at a time has the log, that the
+//! clock of the house keeps its rate, and that the first view is that of the group's hosts.
+//!
+//! What is proved. [`begin_by`] gives just what the log's records give (`IsBegun`, of `hk_restore`'s `restored`), or just
+//! its fault, or memory was wanting. [`begin_manager`] gives that of records which the file has and which are sure, and the
+//! office is the one of which they tell (`Begins`). No step of the office in a turn is without its note: what told the
+//! office before it, with what was gathered, tells the office behind it (`StayTold`). What the log of a group that is not
+//! open takes is these notes, as one record; what that of an open one takes is a turn of `hk_durable`, of which they are
+//! the front (`IsTurn` behind `all_noted`), and its letters go behind the record.
+//!
+//! What no clause says: which faults of a file are told when; what is left at a slot, and that it is the answer to what
+//! was asked there, which the code does in one place ([`Gathered::ask`]); what others of the process are told
+//! ([`hk_house::Standing`]). `records` counts those that were there at the beginning and those with notes; a record of
+//! steps alone is counted when the process begins again.
+#![tactic(auto)]
+
+mod begin;
+mod cores;
+mod gathered;
+mod managing;
+mod notes;
+
+pub use begin::{BeginFault, Begun, ManagerStart, begin_by, begin_manager};
+pub use cores::{Cores, Unlogged};
+pub use gathered::{Gathered, Replies, Seen};
+pub use managing::{Behind, ManagerJob};
+pub use notes::{are_notes, is_note};

@@ -1,0 +1,7 @@
+//! Tests of the manager of a host.
+#![tactic(auto)]
+
+#[cfg(test)]
+mod begin;
+#[cfg(test)]
+mod turns;
