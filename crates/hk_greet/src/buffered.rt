@@ -10,8 +10,9 @@ ghost use Rattle.hk_greet.specs.Hearing.{Fills};
 use crate::fault::HearFault;
 use crate::stream::{read_some, write_all};
 use crate::taken::Taken;
+use hk_base::Memory;
 use hk_buffer::Buffer;
-use hk_hosts::Patient;
+use hk_hosts::{Ender, Patient};
 use hk_outside::{Connection, Failed, Sink, Source};
 use std::alloc::Global;
 use std::marker::Model;
@@ -125,6 +126,22 @@ impl<C: Connection> Connection for Buffered<C> {
 impl<C: Patient> Patient for Buffered<C> {
     fn wait_at_most(&self, read: u64, write: u64) {
         self.conn.wait_at_most(read, write);
+    }
+
+    fn write_promptly(&self) {
+        self.conn.write_promptly();
+    }
+
+    fn keeps(&self) -> bool {
+        self.conn.keeps()
+    }
+
+    fn catch_up(&mut self) -> Result<(), Failed> {
+        self.conn.catch_up()
+    }
+
+    fn ender(&self) -> Result<Ender, Memory> {
+        self.conn.ender()
     }
 }
 

@@ -3,26 +3,51 @@
 ghost use Rattle.std.specs.Prelude.{◌≡◌, None, Some, [], refl, IfOk};
 ghost use Rattle.std.specs.List.{concat};
 
+use crate::ender::Ender;
+use crate::prompt::{Manner, PromptEnd};
 use hk_base::Memory;
 use hk_outside::{Connection, Failed, MemoryConnection, ReaderSource, Sink, Source, WriterSink};
 use std::alloc::Global;
-use std::io::{self, Read, Write};
+use std::io::{self, Read};
 use std::net::TcpStream;
 use std::sync::Arc;
 use std::time::Duration;
 
-/// A connection whose calls can be told how long they may wait.
+/// A connection whose calls can be told how long they may wait, and which another thread can end.
 pub trait Patient: Connection {
     /// From now on a read that has waited for so many milliseconds fails, and so does a write; 0 is for as long as it takes.
     /// Where the machine can't be told, a call waits as long as before.
     fn wait_at_most(&self, read: u64, write: u64);
+
+    /// From now on a write does not wait for the other end: what that can't take yet is kept, and leaves with the next
+    /// [`Patient::catch_up`]. It counts as written. Where the machine can't be told, a write waits as before.
+    fn write_promptly(&self) {}
+
+    /// Whether something that was written is kept. Then more is kept behind it.
+    fn keeps(&self) -> bool {
+        false
+    }
+
+    /// Has what is kept leave, and waits for that as long as a write may. After `Failed` a front of it may have left.
+    fn catch_up(&mut self) -> Result<(), Failed>
+        ensures { Self.held self.new ≡ Self.held self.old }
+    {
+        Ok(())
+    }
+
+    /// What ends the connection from another thread.
+    fn ender(&self) -> Result<Ender, Memory>;
 }
 
 impl Patient for MemoryConnection {
     fn wait_at_most(&self, _read: u64, _write: u64) {}
+
+    fn ender(&self) -> Result<Ender, Memory> {
+        Ok(Ender::Nothing)
+    }
 }
 
-// One of the two ends that a connection's reader and writer share.
+// What a connection's reader has of its stream.
 #[derive(Drop)]
 struct End(Arc<TcpStream>);
 
@@ -33,23 +58,13 @@ impl Read for End {
     }
 }
 
-impl Write for End {
-    fn write(&mut self, piece: &[u8]) -> io::Result<usize> {
-        let mut stream = &*self.0;
-        stream.write(piece)
-    }
-
-    fn flush(&mut self) -> io::Result<()> {
-        Ok(())
-    }
-}
-
 /// A connection over TCP. It records the bytes that came and those that were taken, and can't tell what is left.
 #[derive(Drop)]
 pub struct HostConnection {
     stream: Arc<TcpStream>,
+    manner: Arc<Manner>,
     source: ReaderSource<End>,
-    sink: WriterSink<End>,
+    sink: WriterSink<PromptEnd>,
 }
 
 impl HostConnection {
@@ -63,9 +78,12 @@ impl HostConnection {
         let _ = stream.set_nodelay(true);
         let stream = Arc::new(alloc, stream)?;
         let source = ReaderSource::new(End(stream.clone()?));
-        let sink = WriterSink::new(End(stream.clone()?));
+        let manner = Arc::new(alloc, Manner::patient())?;
+        let end = PromptEnd::new(alloc, stream.clone()?, manner.clone()?);
+        let sink = WriterSink::new(end);
         Ok(HostConnection {
             stream,
+            manner,
             source,
             sink,
         })
@@ -120,5 +138,28 @@ impl Patient for HostConnection {
     fn wait_at_most(&self, read: u64, write: u64) {
         let _ = self.stream.set_read_timeout(limit_of(read));
         let _ = self.stream.set_write_timeout(limit_of(write));
+    }
+
+    fn write_promptly(&self) {
+        if self.stream.set_nonblocking(true).is_ok() {
+            self.manner.hurry();
+        }
+    }
+
+    fn keeps(&self) -> bool {
+        self.manner.keeps()
+    }
+
+    fn catch_up(&mut self) -> Result<(), Failed> {
+        // a write of nothing has what is kept leave
+        match self.sink.write(&[]) {
+            Ok(_) => Ok(()),
+            Err(Failed) => Err(Failed),
+        }
+    }
+
+    fn ender(&self) -> Result<Ender, Memory> {
+        let stream = Arc::try_clone(&self.stream)?;
+        Ok(Ender::Stream(stream))
     }
 }

@@ -9,15 +9,17 @@
 //! rose.
 //!
 //! What no clause says: that a name means the host that is meant, that a connection reaches it, that a call waits no
-//! longer than it was told, and that random bytes can't be guessed.
+//! longer than it was told, that an [`Ender`] ends its connection, and that random bytes can't be guessed.
 #![tactic(auto)]
 
 mod address;
 mod conn;
 mod dial;
 mod doors;
+mod ender;
 mod hosts;
 mod parts;
+mod prompt;
 mod random;
 
 ghost use Rattle.hk_hosts.specs.Laws.{TextsAreOfOneAddress, PrintedAddressesAreRead, SamenessIsEquality};
@@ -26,6 +28,7 @@ pub use address::{Address, AddressFault, MAX_ADDRESS_LEN, read_address};
 pub use conn::{HostConnection, Patient};
 pub use dial::{DialAt, HostDialer};
 pub use doors::{DoorsAt, HostDoors};
+pub use ender::Ender;
 pub use hosts::{Hosts, HostsFault, put_hosts, read_hosts};
 pub use random::{FakeRandom, Random, SystemRandom};
 

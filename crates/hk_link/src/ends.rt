@@ -147,6 +147,11 @@ impl Outlet {
         }
     }
 
+    /// For what was put quietly nobody has to be rung any more: whoever calls has it taken.
+    pub fn hush(&self) {
+        self.unrung.store(0, Ordering::SeqCst);
+    }
+
     /// The bell that its puts ring, if there is one.
     pub fn bell(&self) -> Option<&Arc<Bell>> {
         self.bell.as_ref()

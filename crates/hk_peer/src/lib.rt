@@ -6,7 +6,10 @@
 //! (`specs/Parcels.antt`), and no definition knows how the bytes were cut into pieces: what is put depends on the bytes
 //! alone (`Serves`, in `specs/Serving.antt`).
 //!
-//! Whoever sends to another actor over connections is a [`Carrier`].
+//! What was put is taken by threads that wait at the link's bell ([`Elsewhere`]), or by the very thread that put it, behind
+//! each read ([`Taker`]).
+//!
+//! Whoever sends to another actor over connections is a [`Carrier`], or a [`PromptCarrier`] that can do so without waiting.
 //!
 //! That a frame comes, or that a parcel is ever taken, is no part of this: a connection that ends loses what was under way.
 //!
@@ -37,17 +40,19 @@ mod pass;
 mod send;
 mod serve;
 mod step;
+mod taker;
 
 ghost use Rattle.hk_peer.specs.Laws.{CutInOneWay, StepsStay, PutsAddUp};
 
 pub use batch::{send_parcels, write_parcels};
-pub use carrier::Carrier;
+pub use carrier::{Carrier, PromptCarrier, Prompted};
 pub use course::Course;
 pub use cutter::PeerCutter;
 pub use ends::PeerEnd;
 pub use send::{ForwardFault, SendFault, forward, send_parcel};
 pub use serve::serve_peer;
 pub use step::PeerStep;
+pub use taker::{Elsewhere, Taker};
 
 /// Bytes are cut into parcels in one way, whatever comes behind them; and what is told of them but `Need` stays so.
 pub fn pieces_do_not_matter()

@@ -9,6 +9,7 @@ use crate::course::Course;
 use crate::cutter::PeerCutter;
 use crate::ends::PeerEnd;
 use crate::step::PeerStep;
+use crate::taker::Taker;
 use hk_link::{Full, Outlet, Parcel};
 use std::alloc::Global;
 use std::sync::Wait;
@@ -51,8 +52,13 @@ impl Waiting {
     }
 }
 
-// Puts the parcel, as often as the link is full, unless nobody takes from it any more. Before it waits it rings for what was put.
-fn put<R: Wait>(rt: &R, outlet: &mut Outlet, parcel: Parcel) -> Result<(), Untaken>
+// Puts the parcel, as often as the link is full, unless nobody takes from it any more. Before it waits it rings for what was put, and has it taken.
+fn put<R: Wait, T: Taker>(
+    rt: &R,
+    outlet: &mut Outlet,
+    taker: &mut T,
+    parcel: Parcel,
+) -> Result<(), Untaken>
     ensures link { IsSameLink outlet.new outlet.old }
     ensures put { OnOk result (IsPut outlet.old.known parcel outlet.new.known) }
     ensures untaken { OnErr result (outlet.new.known ≡ outlet.old.known) }
@@ -68,6 +74,7 @@ fn put<R: Wait>(rt: &R, outlet: &mut Outlet, parcel: Parcel) -> Result<(), Untak
                 }
                 unput = back;
                 outlet.ring(rt);
+                taker.take();
                 waiting.wait(rt);
             }
         }
@@ -76,10 +83,11 @@ fn put<R: Wait>(rt: &R, outlet: &mut Outlet, parcel: Parcel) -> Result<(), Untak
 }
 
 // Puts a parcel that the connection carries. Any other is lost.
-fn pass_on<R: Wait>(
+fn pass_on<R: Wait, T: Taker>(
     rt: &R,
     course: Course,
     outlet: &mut Outlet,
+    taker: &mut T,
     parcel: Parcel,
 ) -> Result<(), Untaken>
     ensures link { IsSameLink outlet.new outlet.old }
@@ -88,18 +96,19 @@ fn pass_on<R: Wait>(
     ensures untaken { OnErr result (outlet.new.known ≡ outlet.old.known) }
 {
     if course.carries(&parcel) {
-        return put(rt, outlet, parcel);
+        return put(rt, outlet, taker, parcel);
     }
     Ok(())
 }
 
 // Puts the parcels that the connection carries whose frames are there, in their order. They are rung for later.
-fn put_all<R: Wait>(
+fn put_all<R: Wait, T: Taker>(
     rt: &R,
     alloc: Global,
     cutter: &mut PeerCutter,
     course: Course,
     outlet: &mut Outlet,
+    taker: &mut T,
 ) -> Result<(), PeerEnd>
     ensures link { IsSameLink outlet.new outlet.old }
     ensures passed { PassesUnlessEnded result course cutter.old.unread cutter.new.unread outlet.old.known outlet.new.known }
@@ -107,7 +116,7 @@ fn put_all<R: Wait>(
 {
     loop {
         match cutter.next(alloc) {
-            Ok(PeerStep::Parcel(parcel)) => match pass_on(rt, course, outlet, parcel) {
+            Ok(PeerStep::Parcel(parcel)) => match pass_on(rt, course, outlet, taker, parcel) {
                 Ok(()) => {}
                 Err(Untaken) => return Err(PeerEnd::Memory),
             },
@@ -118,19 +127,21 @@ fn put_all<R: Wait>(
     }
 }
 
-/// Puts the parcels that the connection carries whose frames are there, in their order, and rings once for all of them.
-pub fn pass<R: Wait>(
+/// Puts the parcels that the connection carries whose frames are there, in their order, rings once for all of them, and has them taken.
+pub fn pass<R: Wait, T: Taker>(
     rt: &R,
     alloc: Global,
     cutter: &mut PeerCutter,
     course: Course,
     outlet: &mut Outlet,
+    taker: &mut T,
 ) -> Result<(), PeerEnd>
     ensures link { IsSameLink outlet.new outlet.old }
     ensures passed { PassesUnlessEnded result course cutter.old.unread cutter.new.unread outlet.old.known outlet.new.known }
     ensures stop { IsStop result cutter.new.unread }
 {
-    let ends = put_all(rt, alloc, cutter, course, outlet);
+    let ends = put_all(rt, alloc, cutter, course, outlet, taker);
     outlet.ring(rt);
+    taker.take();
     ends
 }

@@ -10,6 +10,7 @@ use crate::course::Course;
 use crate::cutter::PeerCutter;
 use crate::ends::PeerEnd;
 use crate::pass::pass;
+use crate::taker::Taker;
 use hk_link::Outlet;
 use hk_outside::Source;
 use std::alloc::Global;
@@ -36,15 +37,17 @@ fn read_piece<C: Source>(cutter: &mut PeerCutter, conn: &mut C) -> Result<usize,
 }
 
 /// Serves the connection of a peer: puts each parcel that it carries into the link, in the order in which they came, and passes over any other. A put
-/// waits while the link is full, unless the link's bell is closed: then nobody takes from it any more, and the connection ends.
+/// waits while the link is full, unless the link's bell is closed: then nobody takes from it any more, and the connection ends. Behind each read, and where the
+/// link is full, `taker` takes what was put.
 ///
 /// What was put is all that the bytes hold which were read before the connection ended, but at `Memory`, where it is a beginning of that.
-pub fn serve_peer<R: Wait, C: Source>(
+pub fn serve_peer<R: Wait, C: Source, T: Taker>(
     rt: &R,
     alloc: Global,
     conn: &mut C,
     course: Course,
     outlet: &mut Outlet,
+    taker: &mut T,
 ) -> PeerEnd
     ensures link { IsSameLink outlet.new outlet.old }
     // What was put is what the bytes that were read hold for its course, whatever the pieces in which they came.
@@ -62,7 +65,7 @@ pub fn serve_peer<R: Wait, C: Source>(
         if count == 0 {
             return PeerEnd::End;
         }
-        match pass(rt, alloc, &mut cutter, course, outlet) {
+        match pass(rt, alloc, &mut cutter, course, outlet, taker) {
             Ok(()) => {}
             Err(end) => return end,
         }

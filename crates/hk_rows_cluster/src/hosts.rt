@@ -147,3 +147,58 @@ fn a_connection_is_dialled_and_taken(rt: HostRuntime) {
     doors.close();
     assert!(rt; dialer.dial(&address, 100).is_err());
 }
+
+// Reads what comes, until nothing comes for a moment, and gives how many bytes that were. None where they are not rising by one.
+fn read_rising<C: Source>(conn: &mut C, first: usize) -> Option<usize> {
+    let mut room = [0; 4_096];
+    let mut count: usize = 0;
+    for _ in 0..100_000 {
+        let Ok(read) = conn.read(&mut room) else {
+            return Some(count);
+        };
+        for byte in &room[..read] {
+            if *byte != (first.wrapping_add(count) % 251) as u8 {
+                return None;
+            }
+            count = count.wrapping_add(1);
+        }
+    }
+    None
+}
+
+#[test]
+fn a_prompt_connection_keeps_what_cannot_leave(rt: HostRuntime) {
+    let alloc = rt.alloc();
+    let address = read_address(alloc, "127.0.1.7:11410", 11400).expect(&rt, "an address");
+    let mut doors = HostDoors::new(rt, alloc);
+    assert!(rt; doors.open(&address).is_ok());
+    let mut own = HostDialer::new(rt, alloc)
+        .dial(&address, 1_000)
+        .expect(&rt, "a connection");
+    let Ok(Some(mut other)) = doors.accept() else {
+        panic!(rt; "no connection came");
+    };
+    own.wait_at_most(0, 1_000);
+    other.wait_at_most(100, 100);
+    own.write_promptly();
+    let mut piece = [0; 2_510];
+    for (at, byte) in piece.iter_mut().enumerate() {
+        *byte = (at % 251) as u8;
+    }
+    // nobody reads
+    let mut written: usize = 0;
+    for _ in 0..10_000 {
+        if own.keeps() {
+            break;
+        }
+        assert_eq!(rt; own.write(&piece).ok(), Some(2_510));
+        written = written.wrapping_add(2_510);
+    }
+    assert!(rt; own.keeps());
+    let first = read_rising(&mut other, 0).expect(&rt, "rising bytes");
+    assert!(rt; first < written);
+    assert!(rt; own.catch_up().is_ok());
+    assert!(rt; !own.keeps());
+    let rest = read_rising(&mut other, first).expect(&rt, "rising bytes");
+    assert_eq!(rt; first.wrapping_add(rest), written);
+}

@@ -7,7 +7,7 @@ use hk_base::{Actor, NodeId};
 use hk_frame::FrameFault;
 use hk_link::{Inlet, Parcel, link};
 use hk_outside::{Failed, MemorySource, Source};
-use hk_peer::{Course, PeerEnd, serve_peer};
+use hk_peer::{Course, Elsewhere, PeerEnd, serve_peer};
 use std::alloc::Global;
 use std::process::Abort;
 use std::sync::Wait;
@@ -80,6 +80,7 @@ fn served<R: Wait + Abort>(
         &mut conn,
         Course::to(Actor::Node(NodeId(me))),
         &mut outlet,
+        &mut Elsewhere,
     );
     let first = taken(rt, &mut inlet);
     let second = taken(rt, &mut inlet);

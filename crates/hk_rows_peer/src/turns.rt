@@ -7,7 +7,7 @@ use crate::serve::ACK;
 use hk_base::{Actor, NodeId};
 use hk_link::{Inlet, link};
 use hk_outside::{Failed, MemorySource, Source};
-use hk_peer::{Course, PeerEnd, serve_peer};
+use hk_peer::{Course, Elsewhere, PeerEnd, serve_peer};
 use std::alloc::Global;
 use std::process::Abort;
 use std::sync::Wait;
@@ -69,6 +69,7 @@ fn serve_two<R: Wait + Copy + Drop + Abort>(rt: R, alloc: Global) -> (PeerEnd, I
         &mut conn,
         Course::to(Actor::Node(NodeId(0))),
         &mut outlet,
+        &mut Elsewhere,
     );
     (end, conn)
 }
