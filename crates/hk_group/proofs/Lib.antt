@@ -1,3 +1,4 @@
+pub mod Alone
 mod Views
 mod Naming
 pub mod Started

@@ -48,9 +48,9 @@ impl LeaseTerms {
         left < self.serves().saturating_sub(left)
     }
 
-    // How long a desk waits for a lease that serves.
-    fn patience(self) -> Patience {
-        Patience::new(self.length.saturating_mul(2).max(LEASE_WAIT))
+    // How long a desk waits for a lease that serves, in milliseconds.
+    fn wait(self) -> u64 {
+        self.length.saturating_mul(2).max(LEASE_WAIT)
     }
 }
 
@@ -98,7 +98,8 @@ impl<C: Clock + Drop> Ringing<C> {
         requires { shard < 8 }
     {
         let steps = post.shards().steps_at(shard);
-        let mut patience = self.terms.patience();
+        let until = self.clock.now().saturating_add(self.terms.wait());
+        let mut patience = Patience::new(self.terms.wait());
         let mut asks = true;
         for _ in rt.forever() {
             let seen = steps.seen();
@@ -106,7 +107,7 @@ impl<C: Clock + Drop> Ringing<C> {
             if asks {
                 self.ask_if_short(rt, left);
             }
-            if left.is_some() || self.is_out || patience.is_over() {
+            if left.is_some() || self.is_out || patience.is_over() || self.clock.now() >= until {
                 return left.is_some();
             }
             post.ring(rt);
@@ -158,6 +159,13 @@ pub struct GroupDesk<C: DeskClock + Drop, R: Wait + Drop, P: Places> {
     pub(crate) desk: ClockDesk<C, R, Unheard, P>,
     pub(crate) ringing: Ringing<C>,
     pub(crate) reserve: Reserve,
+}
+
+impl<C: DeskClock + Drop, R: Wait + Drop, P: Places> GroupDesk<C, R, P> {
+    /// For the letters of what was begun nobody has to be woken any more: whoever calls has them leave.
+    pub fn hush(&self) {
+        self.desk.desk.post.hush();
+    }
 }
 
 // Keeps the lease that an ask needs, and gives whether memory is left for what it brings.

@@ -6,6 +6,7 @@ use crate::completion::Unheard;
 use crate::desk::{GroupDesk, LeaseTerms, Ringing};
 use crate::lines::split_all;
 use crate::load::Load;
+use crate::reader::Reader;
 use crate::reserve::Reserve;
 use hk_accept::{Desks, serve_at};
 use hk_base::{Actor, Memory};
@@ -19,6 +20,9 @@ use hk_turns::Inlets;
 use hk_worker::{ClockDesk, DeskClock, NodeDesk, Post, Shards};
 use std::alloc::Global;
 use std::sync::{Arc, Mutex, Wait};
+
+// The number of posts that ask nothing.
+const READERS: u32 = u32::MAX;
 
 /// What all desks share.
 #[derive(Drop)]
@@ -105,8 +109,25 @@ impl<R: Wait + Copy + Drop, C: DeskClock + Drop, P: Places> GroupDesks<R, C, P> 
         }
     }
 
-    // The desk of the connection of this number. Its node is that number modulo the number of nodes.
-    fn desk(&self, number: u32) -> Result<GroupDesk<C, R, P>, Memory> {
+    /// What makes the steps of parcels for the first node, and the outlet that leads to it.
+    pub fn reader(&self) -> Result<(Outlet, Reader<R, P>), Memory> {
+        let Some(shards) = self.nodes.first() else {
+            return Err(Memory);
+        };
+        let station = &self.station;
+        let outlets = split_all(station.alloc, &mut *self.outlets.lock(&station.rt))?;
+        Reader::new(
+            station.rt,
+            station.alloc,
+            shards,
+            &station.load,
+            READERS,
+            outlets,
+        )
+    }
+
+    /// The desk of the connection of this number. Its node is that number modulo the number of nodes.
+    pub fn desk(&self, number: u32) -> Result<GroupDesk<C, R, P>, Memory> {
         let count = self.nodes.len();
         if count == 0 {
             return Err(Memory);

@@ -44,13 +44,16 @@ mod managing;
 mod member;
 mod notices;
 mod program;
+mod reader;
 mod reserve;
 mod server;
 mod working;
 
+pub use desk::GroupDesk;
 pub use desks::GroupDesks;
 pub use founding::{first_view, found_node, found_without_lease};
 pub use gate::Ending;
 pub use group::Group;
 pub use member::{Member, Running, Way};
+pub use reader::Reader;
 pub use server::{serve, start_each};

@@ -15,7 +15,7 @@ use hk_base::{Actor, Memory, NodeId};
 use hk_link::{Bell, Inlet, Outlet};
 use hk_locked::Places;
 use hk_outside::Clock;
-use hk_worker::Founded;
+use hk_worker::{Founded, Waits};
 use std::alloc::Global;
 use std::sync::{Arc, Wait};
 
@@ -114,6 +114,18 @@ fn new_ways(alloc: Global, number: u8, group: &Group, lines: &mut Lines) -> Resu
     Ok(ways)
 }
 
+// How long those wait who ask at a node of this group: where managers replace members, two lengths of a lease for a row and eight for an answer, in which the others
+// get on without one that is lost.
+fn waits_of(group: &Group) -> Waits {
+    if group.managers == 0 {
+        return Waits::usual();
+    }
+    Waits {
+        settle: group.lease.saturating_mul(2),
+        answer: group.lease.saturating_mul(8),
+    }
+}
+
 // The workers of a node, and what makes its desks.
 fn new_staff<
     R: Wait + Copy + Send + Sync + Drop + 'static,
@@ -154,6 +166,7 @@ impl<
         ensures ways { IfOk result (λ member. length member.ways.items + 1 ≡ group.now.nodes + group.now.managers) }
     {
         let mut lines = Lines::new(alloc);
+        let founded = founded.with_waits(waits_of(group));
         let seat = seat_node::<P>(alloc, founded, &mut lines)?;
         let shared = Shared::new(rt, alloc, clock)?;
         let ways = new_ways(alloc, number, group, &mut lines)?;

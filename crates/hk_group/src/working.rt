@@ -12,7 +12,7 @@ use std::io::Eprint;
 use std::sync::{Arc, Wait};
 
 /// A worker makes at most so many turns before it looks at the clock and the journals. Each may bring a mebibyte.
-const TURNS: u64 = 16;
+pub(crate) const TURNS: u64 = 16;
 
 /// A worker of a node.
 #[derive(Drop)]
@@ -41,8 +41,8 @@ fn raise<R: Wait, P: Places>(
     }
 }
 
-// Behind so many turns journals begin anew, where they are full or much was brought. Where memory is wanting, they do later.
-fn tend<R: Wait, P: Places>(
+/// Behind so many turns journals begin anew, where they are full or much was brought. Where memory is wanting, they do later.
+pub(crate) fn tend<R: Wait, P: Places>(
     rt: &R,
     post: &mut Post<Unheard, P>,
     load: &Load,

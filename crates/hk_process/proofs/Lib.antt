@@ -1,4 +1,3 @@
-mod Alone
 mod First
 mod Groups
 mod Taking

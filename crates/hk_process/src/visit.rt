@@ -9,7 +9,7 @@ use hk_accept::{Desks, Reception};
 use hk_base::{Actor, Memory, NodeId};
 use hk_link::Outlet;
 use hk_outside::{Connection, Job, Primed, Source};
-use hk_peer::{Course, serve_peer};
+use hk_peer::{Course, Elsewhere, serve_peer};
 use std::alloc::Global;
 use std::sync::{Arc, Mutex, Wait};
 
@@ -93,7 +93,14 @@ fn take_in<R: Wait + Drop, N: Source, K: Drop, G: Drop>(house: &House<R, K, G>, 
     let split = house.outlet.lock(&house.rt).split();
     if let Ok(mut outlet) = split {
         let course = Course::to(Actor::Node(house.node));
-        serve_peer(&house.rt, house.alloc, conn, course, &mut outlet);
+        serve_peer(
+            &house.rt,
+            house.alloc,
+            conn,
+            course,
+            &mut outlet,
+            &mut Elsewhere,
+        );
     }
 }
 

@@ -13,7 +13,7 @@ ghost use Rattle.hk_worker.specs.Sending.{SendsOrFails};
 
 use crate::opening::OpenAsk;
 use crate::shards::Shards;
-use crate::waiting::{ANSWER, Patience, SETTLE, wait_for};
+use crate::waiting::{Patience, wait_for};
 use hk_base::{Actor, Answer, CallNo, Key, Memory, Op};
 use hk_callback::Completion;
 use hk_link::Outlet;
@@ -49,7 +49,7 @@ fn settle<F: Completion + Copy + Drop, P: Places, R: Wait>(
     key: &Key,
 ) {
     let steps = shards.steps_at(shard);
-    let mut patience = Patience::new(SETTLE);
+    let mut patience = shards.waits().for_row();
     for _ in rt.forever() {
         let seen = steps.seen();
         if patience.is_over() || is_settled(rt, shards, shard, key) {
@@ -255,7 +255,7 @@ pub(crate) fn ask<F: Completion + Copy + Drop, P: Places, R: Wait>(
     if let Some(answer) = answer {
         return Ok(DeskReply::Told(answer));
     }
-    let mut patience = Patience::new(ANSWER);
+    let mut patience = shards.waits().for_answer();
     if let Some(answer) = wait(
         rt,
         shards,

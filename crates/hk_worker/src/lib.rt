@@ -75,5 +75,5 @@ pub use opening::OpenAsk;
 pub use post::Post;
 pub use shards::{Founded, Shards};
 pub use tickets::Tickets;
-pub use waiting::Patience;
+pub use waiting::{Patience, Waits};
 pub use working::work;

@@ -13,7 +13,6 @@ ghost use Rattle.hk_worker.specs.Working.{HasWorked, WereQuietBelow};
 use crate::asking::{ask, begin_ask, finish_ask};
 use crate::opening::OpenAsk;
 use crate::shards::Shards;
-use crate::waiting::Patience;
 use hk_base::{Actor, Answer, CallNo, Key, MAX_TIME, Memory, NodeId, Op};
 use hk_callback::Completion;
 use hk_link::Outlet;
@@ -181,7 +180,7 @@ impl<F: Completion + Copy + Drop, P: Places> Post<F, P> {
     {
         let shard = usize::from(shard_of(&waits.key));
         let passed = self.waited.saturating_sub(waits.since);
-        let mut patience = Patience::behind(passed);
+        let mut patience = self.shards.waits().for_answer_behind(passed);
         let told = finish_ask(
             rt,
             &self.shards,
@@ -236,6 +235,13 @@ impl<F: Completion + Copy + Drop, P: Places> Post<F, P> {
     /// Rings for the letters of asks that were begun, if it was not done yet.
     pub fn ring<R: Wait>(&self, rt: &R) {
         ring_all(rt, self.outlets.as_slice());
+    }
+
+    /// For the letters of asks that were begun nobody has to be rung any more: whoever calls has them taken.
+    pub fn hush(&self) {
+        for (_, outlet) in &self.outlets {
+            outlet.hush();
+        }
     }
 
     /// How many requests for leases are due.

@@ -2,8 +2,8 @@
 //!
 //! | Who waits | for what | looks | and goes on |
 //! |---|---|---|---|
-//! | an ask whose update other nodes have to acknowledge | what it is told | under the shard's lock, behind each answer to an ask of its post | behind 100,000 looks, and not before 2 s since it began ([`ANSWER`]), of which 0.2 are its own: its outcome is unknown then. The looks that are left then are made at once, a thousand under one lock |
-//! | a desk that is to make a call | the key's row to be Valid | under the lock, behind each step of a worker at the shard | after 32 ms ([`SETTLE`]): the call is made then, and told Busy of the row |
+//! | an ask whose update other nodes have to acknowledge | what it is told | under the shard's lock, behind each answer to an ask of its post | behind 100,000 looks, and not before 2 s since it began ([`Waits`]), of which 0.2 are its own: its outcome is unknown then. The looks that are left then are made at once, a thousand under one lock |
+//! | a desk that is to make a call | the key's row to be Valid | under the lock, behind each step of a worker at the shard | after 32 ms ([`Waits`]): the call is made then, and told Busy of the row |
 //! | a read | the same | at the key's cell, with no lock, behind each step | after 32 ms: it is told Busy of the row then |
 //! | a desk whose node's lease has run out (`hk_group`) | one that serves | at the lease's cell, behind each step at the key's shard | after two lengths of a lease, and not before 1 s; until there is one again it waits no more |
 //! | a worker, a manager's loop | a ring of its bell (`hk_link`) | at its inlets | when it is rung |
@@ -12,6 +12,8 @@
 //!
 //! All but the last look again also where nothing has changed for a millisecond, and once they waited for long, for ten: a wake-up that is lost costs that, and
 //! no answer. A connection asks again what was told Busy, 64 times in all (`hk_conn`): so `busy` of a row comes after 2 s.
+//!
+//! A node may be given other times ([`crate::Founded::with_waits`]): these are those that it has where nobody gives it any.
 //!
 //! What got lost on its way is sent again for who waits: after 3 milliseconds, after 9, 27, and then at each 64th it has its key noted
 //! ([`crate::Shards::want`]) and rings, and a worker sends what is open of that key, however many others are.
@@ -31,14 +33,14 @@ use std::sync::Wait;
 use std::sync::atomic::AtomicU64;
 use std::time::Duration;
 
-/// So long, in milliseconds, an ask waits for what it is told at least, before its outcome is unknown.
-pub(crate) const ANSWER: u64 = 2_000;
+// So long, in milliseconds, an ask waits for what it is told at least, before its outcome is unknown, where nobody said for how long.
+const ANSWER: u64 = 2_000;
 
 // So long, in milliseconds, each is waited for at least: the looks that are left behind that follow at once, a thousand under one lock.
 const STILL: u64 = 200;
 
-/// So long, in milliseconds, whoever finds a row that is not Valid waits for it to become so.
-pub(crate) const SETTLE: u64 = 32;
+// So long, in milliseconds, whoever finds a row that is not Valid waits for it to become so, where nobody said for how long.
+const SETTLE: u64 = 32;
 
 // For so many milliseconds a look follows each; then it follows each ten.
 const SOON: u64 = 32;
@@ -52,6 +54,39 @@ const BETWEEN_RINGS: u64 = 64;
 
 // So many changes may end a sleep.
 const WAKES: u64 = 50_000;
+
+/// How long who asks at a node waits for other nodes, in milliseconds.
+#[derive(Clone, Copy, Debug, PartialEq, Eq)]
+pub struct Waits {
+    /// For the key's row to be Valid. Then a call is made, or a read told Busy.
+    pub settle: u64,
+    /// For what an update that began is told. Then its outcome is unknown.
+    pub answer: u64,
+}
+
+impl Waits {
+    /// 32 ms for a row, and 2 s for an answer.
+    pub fn usual() -> Waits {
+        Waits {
+            settle: SETTLE,
+            answer: ANSWER,
+        }
+    }
+
+    /// For a row, and for an answer, each once.
+    pub(crate) fn for_row(self) -> Patience {
+        Patience::new(self.settle)
+    }
+
+    pub(crate) fn for_answer(self) -> Patience {
+        Patience::new(self.answer)
+    }
+
+    /// For the answer to an update that has waited for so many milliseconds while others were waited for.
+    pub(crate) fn for_answer_behind(self, passed: u64) -> Patience {
+        Patience::new(self.answer.saturating_sub(passed).max(STILL))
+    }
+}
 
 /// How long someone goes on waiting.
 #[derive(Drop)]
@@ -79,11 +114,6 @@ impl Patience {
             woken: 0,
             next_ring: FIRST_RING,
         }
-    }
-
-    /// For the answer to an update that has waited for so many milliseconds while others were waited for.
-    pub(crate) fn behind(passed: u64) -> Patience {
-        Patience::new(ANSWER.saturating_sub(passed).max(STILL))
     }
 
     /// So many milliseconds at least someone waited.

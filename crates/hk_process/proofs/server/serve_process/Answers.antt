@@ -1,7 +1,7 @@
 use Rattle.std.proofs.Common.{subst}
 use Rattle.hk_process.specs.Process.{process_jobs}
 use Rattle.hk_process.specs.Serving.{HasTakenBeside}
-use Rattle.hk_process.proofs.Alone.{alone_named}
+use Rattle.hk_group.proofs.Alone.{alone_named}
 use Rattle.hk_process.proofs.server.serve_process.Goals as goal
 
 pub run-requires-clause-named : goal.run-requires-clause-named

@@ -1,4 +1,4 @@
-use Rattle.hk_process.proofs.Alone.{alone}
+use Rattle.hk_group.proofs.Alone.{alone}
 use Rattle.hk_process.proofs.server.serve_process.Given as goal
 
 -- the cells that were just made
