@@ -22,8 +22,8 @@ use Rattle.hk_inside.specs.declared.board.Party.TheVariants as parties
 use Rattle.hk_inside.specs.declared.board.BoardLine.{BoardLine}
 use Rattle.hk_roll.specs.Boards.{is_by_most, flat}
 use Rattle.hk_boards.specs.declared.heard.HeardBoard.{HeardBoard}
-use Rattle.hk_boards.specs.Heard.{is_of, is_node, is_left_out, binds, ticket_of, ticket_told}
-use Rattle.hk_boards.specs.Holders.{ByPlaces, tickets_told, is_held, AreHeld}
+use Rattle.hk_boards.specs.Heard.{is_of, is_node, is_left_out, binds, ticket_of, ticket_told, tells_ready}
+use Rattle.hk_boards.specs.Holders.{ByPlaces, tickets_told, is_held, AreHeld, AreReady}
 use Rattle.hk_boards.specs.Gathering.{numbers_by, numbers_of, numbers_in, numbered, held_among}
 
 -- ---- what a dedup keeps
@@ -152,3 +152,27 @@ pub gathered : (founding : ℕ) (boards : ByPlaces) (numbers : List ℕ) (r : Re
     AreHeld founding boards (held_among founding boards numbers) → IfOk r (λ nodes. AreHeld founding boards nodes.items)
 gathered founding boards numbers (Ok nodes) is held = subst (λ (xs : List NodeId). AreHeld founding boards xs) (sym is) held
 gathered founding boards numbers (Err memory) is held = is
+
+-- ---- those that are ready, of all that are held
+
+numbers_left : (test : NodeId → Bool) (nodes : List NodeId) → member_numbers (filter test nodes) ≡ filter (λ k. test (numbered k)) (member_numbers nodes)
+numbers_left test [] = refl
+numbers_left test (n ∷ ns) = at (test n) refl (numbers_left test ns)
+  where
+    at : (b : Bool) → test n ≡ b → member_numbers (filter test ns) ≡ filter (λ k. test (numbered k)) (member_numbers ns) →
+        member_numbers (cond b (n ∷ filter test ns) (filter test ns)) ≡ cond b (n.0 ∷ filter (λ k. test (numbered k)) (member_numbers ns)) (filter (λ k. test (numbered k)) (member_numbers ns))
+    at true is rest = ap (λ (xs : List ℕ). n.0 ∷ xs) rest
+    at false is rest = rest
+
+pub are_ready : (founding : ℕ) (boards : ByPlaces) (nodes left : List NodeId) → AreHeld founding boards nodes → left ≡ filter (λ node. list_any (tells_ready founding node) boards) nodes →
+    AreReady founding boards left
+are_ready founding boards nodes left held is = subst (λ (xs : List NodeId). AreReady founding boards xs) (sym is) (record {
+  rising = subst (λ (xs : List ℕ). IsStrictlyIncreasing xs) (sym (numbers_left ready nodes)) (IsStrictlyIncreasing-filter (λ k. ready (numbered k)) (member_numbers nodes) held.rising);
+  ready = λ node. any-filter_same (λ n. n.0 == node.0) ready (ready node) (alike node) nodes ∙ ap (λ (b : Bool). ready node && b) (held.held node);
+})
+  where
+    ready : NodeId → Bool
+    ready node = list_any (tells_ready founding node) boards
+
+    alike : (node n : NodeId) → (n.0 == node.0) ≡ true → ready n ≡ ready node
+    alike node n e = ap (λ (k : ℕ). ready (numbered k)) (eqb-true n.0 node.0 e)

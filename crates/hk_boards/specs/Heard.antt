@@ -71,3 +71,41 @@ abbrev pub tells_out : ℕ → NodeId → Ticket → Option HeardBoard → Bool
 tells_out founding node ticket None = false
 tells_out founding node ticket (Some heard) =
     if is_of founding heard then list_any (leaves_out node ticket) heard.board.lines else false
+
+-- ---- who is ready
+
+-- whoever is a member, also one that is to leave
+abbrev pub is_member_mark : Mark → Bool
+is_member_mark marks.Bound = false
+is_member_mark marks.Member = true
+is_member_mark marks.ToLeave = true
+is_member_mark marks.Out = false
+
+-- the line tells of a member that is ready
+abbrev pub is_ready : Option BoardLine → Bool
+is_ready None = false
+is_ready (Some line) = line.ready && is_member_mark line.mark
+
+-- the manager tells that the node of the number is a member, and ready
+abbrev pub tells_ready : ℕ → NodeId → Option HeardBoard → Bool
+tells_ready founding node None = false
+tells_ready founding node (Some heard) = is_ready (line_of founding node heard)
+
+-- ---- what is told of managers
+
+abbrev pub is_manager : ℕ → Party → Bool
+is_manager place (parties.Node node) = false
+is_manager place (parties.Manager other) = place == other
+is_manager place parties.Neither = false
+
+abbrev pub is_manager_line : ℕ → BoardLine → Bool
+is_manager_line place line = is_manager place line.party
+
+-- the line of the manager of a place, of a board of the group
+abbrev pub manager_line : ℕ → ℕ → HeardBoard → Option BoardLine
+manager_line founding place heard = if is_of founding heard then find (is_manager_line place) heard.board.lines else None
+
+-- the ticket to which the manager binds the manager of a place
+abbrev pub manager_told : ℕ → ℕ → Option HeardBoard → Option Ticket
+manager_told founding place None = None
+manager_told founding place (Some heard) = ticket_of (manager_line founding place heard)

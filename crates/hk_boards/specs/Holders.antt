@@ -1,6 +1,6 @@
 -- Who holds which number, by the last board of each manager, by their places.
 use Rattle.std.specs.Prelude.{◌≡◌, ◌/◌, ℕ, Bool, false, ◌==◌, ◌&&◌, nat_lt, if◌then◌else◌, List, length, map, max, Option, None, Some, is_some}
-use Rattle.std.specs.List.{find, reduce, filter_map, count_by}
+use Rattle.std.specs.List.{find, reduce, filter_map, count_by, list_any}
 use Rattle.std.specs.List.Sorted.{IsStrictlyIncreasing}
 use Rattle.std.specs.Option.{option_map, option_flatten}
 use Rattle.hk_base.specs.declared.stamp.NodeId.{NodeId}
@@ -8,7 +8,7 @@ use Rattle.hk_base.specs.View.{is_member, member_numbers}
 use Rattle.hk_fields.specs.declared.tickets.Ticket.{Ticket}
 use Rattle.hk_roll.specs.Boards.{named}
 use Rattle.hk_boards.specs.declared.heard.HeardBoard.{HeardBoard}
-use Rattle.hk_boards.specs.Heard.{line_of, ticket_told, tells, tells_out}
+use Rattle.hk_boards.specs.Heard.{line_of, ticket_told, tells, tells_out, tells_ready}
 
 -- the last board of each manager, if one came, by their places
 abbrev pub ByPlaces : Type 0
@@ -73,3 +73,14 @@ is_held founding boards node = is_some (holder founding node boards)
 pub record AreHeld (founding : ℕ) (boards : ByPlaces) (nodes : List NodeId) : Type 0 where
   pub rising : IsStrictlyIncreasing (member_numbers nodes)
   pub held : (node : NodeId) → is_member node nodes ≡ is_held founding boards node
+
+-- ---- all that are ready
+
+-- some manager tells that the node of the number is a member, and ready; and the number has a holder
+abbrev pub is_told_ready : ℕ → ByPlaces → NodeId → Bool
+is_told_ready founding boards node = list_any (tells_ready founding node) boards && is_held founding boards node
+
+-- Those nodes, in rising order.
+pub record AreReady (founding : ℕ) (boards : ByPlaces) (nodes : List NodeId) : Type 0 where
+  pub rising : IsStrictlyIncreasing (member_numbers nodes)
+  pub ready : (node : NodeId) → is_member node nodes ≡ is_told_ready founding boards node

@@ -1,9 +1,11 @@
 -- Which managers answered, and what they told the asker of itself and of the group.
-use Rattle.std.specs.Prelude.{ℕ, ◌+◌, ◌-◌, ◌/◌, Bool, false, not, ◌==◌, ◌&&◌, nat_lt, nat_le, if◌then◌else◌, length, max, Option, None, Some, is_some, slice_get}
-use Rattle.std.specs.List.{reduce, filter_map, count_by, position}
+use Rattle.std.specs.Prelude.{ℕ, ◌+◌, ◌-◌, ◌/◌, Bool, false, not, ◌==◌, ◌&&◌, nat_lt, nat_le, if◌then◌else◌, List, length, map, max, Option, None, Some, slice_get}
+use Rattle.std.specs.List.{reduce, filter_map, count_by, find, position}
 use Rattle.std.specs.Option.{option_flatten}
+use Rattle.hk_fields.specs.declared.tickets.Ticket.{Ticket}
+use Rattle.hk_roll.specs.Boards.{named}
 use Rattle.hk_boards.specs.declared.heard.HeardBoard.{HeardBoard}
-use Rattle.hk_boards.specs.Heard.{is_open}
+use Rattle.hk_boards.specs.Heard.{is_open, is_of, manager_told}
 use Rattle.hk_boards.specs.Holders.{ByPlaces}
 
 -- the last board of the manager of this place, if one came
@@ -19,17 +21,55 @@ answered_lately now within (Some heard) = is_open heard.board.stage && nat_le (n
 abbrev pub least_heard : ℕ → ℕ → ByPlaces → Option ℕ
 least_heard now within boards = position (answered_lately now within) boards
 
--- of how many managers a board came
-abbrev pub answered : ByPlaces → ℕ
-answered boards = count_by (λ heard. is_some heard) boards
+-- a board that was asked for behind a reading
+abbrev pub is_answered : ℕ → Option HeardBoard → Bool
+is_answered since None = false
+is_answered since (Some heard) = nat_lt since heard.asked
+
+-- of how many managers one came
+abbrev pub answered : ℕ → ByPlaces → ℕ
+answered since boards = count_by (is_answered since) boards
+
+abbrev pub has_answered : ℕ → ℕ → ByPlaces → Bool
+has_answered own since boards = is_answered since (heard_at own boards)
 
 -- the same, with the manager of this place counted in any case
-abbrev pub answered_with : ℕ → ByPlaces → ℕ
-answered_with own boards = if is_some (heard_at own boards) then answered boards else answered boards + 1
+abbrev pub answered_with : ℕ → ℕ → ByPlaces → ℕ
+answered_with own since boards = if has_answered own since boards then answered since boards else answered since boards + 1
 
 -- they are more than half of all
-abbrev pub majority_answered : ℕ → ByPlaces → Bool
-majority_answered own boards = nat_lt (length boards / 2) (answered_with own boards)
+abbrev pub majority_answered : ℕ → ℕ → ByPlaces → Bool
+majority_answered own since boards = nat_lt (length boards / 2) (answered_with own since boards)
+
+-- ---- the founding of the group
+
+-- the founding with which the manager is open
+abbrev pub founding_told : Option HeardBoard → Option ℕ
+founding_told None = None
+founding_told (Some heard) = if is_open heard.board.stage then Some heard.board.founding else None
+
+-- the manager is open with this founding
+abbrev pub tells_open : ℕ → Option HeardBoard → Bool
+tells_open founding None = false
+tells_open founding (Some heard) = is_of founding heard
+
+-- more than half of all managers are so
+abbrev pub is_open_with : ByPlaces → ℕ → Bool
+is_open_with boards founding = nat_lt (length boards / 2) (count_by (tells_open founding) boards)
+
+-- The founding with which more than half of all managers are open. Two can't be so.
+abbrev pub open_founding : ByPlaces → Option ℕ
+open_founding boards = find (is_open_with boards) (filter_map founding_told boards)
+
+-- ---- the tickets of managers
+
+-- to which ticket each manager binds the manager of a place
+abbrev pub managers_told : ℕ → ℕ → ByPlaces → List (Option Ticket)
+managers_told founding place boards = map (manager_told founding place) boards
+
+-- the ticket to which more than half of all managers bind it
+abbrev pub manager : ℕ → ℕ → ByPlaces → Option Ticket
+manager founding place boards = named (managers_told founding place boards)
 
 -- ---- another founding
 

@@ -3,9 +3,9 @@
 ghost use Rattle.std.specs.Prelude.{◌≡◌};
 ghost use Rattle.std.specs.List.{find, list_any};
 ghost use Rattle.std.specs.Option.{option_copied};
-ghost use Rattle.hk_boards.specs.Heard.{is_open, is_of, is_node, is_left_out, binds, leaves_out, line_of, ticket_told, tells, tells_out};
+ghost use Rattle.hk_boards.specs.Heard.{is_open, is_of, is_node, is_left_out, is_member_mark, is_manager, is_manager_line, binds, leaves_out, line_of, manager_line, ticket_told, tells, tells_out, tells_ready, manager_told};
 ghost use Rattle.hk_boards.specs.Holders.{came_telling, is_told_at};
-ghost use Rattle.hk_boards.specs.Managers.{answered_lately, tells_another, records_told, tells_records};
+ghost use Rattle.hk_boards.specs.Managers.{answered_lately, is_answered, founding_told, tells_open, tells_another, records_told, tells_records};
 
 use hk_base::NodeId;
 use hk_fields::Ticket;
@@ -47,6 +47,27 @@ fn is_left_out(mark: Mark) -> bool
         Mark::Member => false,
         Mark::ToLeave => false,
         Mark::Out => true,
+    }
+}
+
+fn is_member_mark(mark: Mark) -> bool
+    ensures { result ≡ is_member_mark mark }
+{
+    match mark {
+        Mark::Bound => false,
+        Mark::Member => true,
+        Mark::ToLeave => true,
+        Mark::Out => false,
+    }
+}
+
+fn is_manager(place: u8, party: Party) -> bool
+    ensures { result ≡ is_manager place party }
+{
+    match party {
+        Party::Node(_) => false,
+        Party::Manager(other) => place == other,
+        Party::Neither => false,
     }
 }
 
@@ -92,6 +113,26 @@ impl HeardBoard {
     {
         if self.is_of(founding) {
             self.binding_line(node)
+        } else {
+            None
+        }
+    }
+
+    fn line_of_manager(&self, place: u8) -> Option<&BoardLine>
+        ensures { option_copied result ≡ find (is_manager_line place) self.now.board.lines }
+    {
+        self.board
+            .lines
+            .as_slice()
+            .iter()
+            .find(|line| is_manager(place, line.party))
+    }
+
+    fn manager_line(&self, founding: u64, place: u8) -> Option<&BoardLine>
+        ensures { option_copied result ≡ manager_line founding place self.now }
+    {
+        if self.is_of(founding) {
+            self.line_of_manager(place)
         } else {
             None
         }
@@ -193,6 +234,15 @@ pub(crate) fn answered_lately(heard: &Option<HeardBoard>, now: u64, within: u64)
     }
 }
 
+pub(crate) fn is_answered(heard: &Option<HeardBoard>, since: u64) -> bool
+    ensures { result ≡ is_answered since heard.now }
+{
+    match heard {
+        Some(heard) => since < heard.asked,
+        None => false,
+    }
+}
+
 pub(crate) fn tells_another(heard: &Option<HeardBoard>, founding: u64) -> bool
     ensures { result ≡ tells_another founding heard.now }
 {
@@ -216,6 +266,58 @@ pub(crate) fn tells_records(heard: &Option<HeardBoard>, records: u64) -> bool
 {
     match heard {
         Some(heard) => heard.board.records == records,
+        None => false,
+    }
+}
+
+// The founding with which the manager is open, if it is.
+pub(crate) fn founding_told(heard: &Option<HeardBoard>) -> Option<u64>
+    ensures { result ≡ founding_told heard.now }
+{
+    match heard {
+        Some(heard) => {
+            if is_open(heard.board.stage) {
+                Some(heard.board.founding)
+            } else {
+                None
+            }
+        }
+        None => None,
+    }
+}
+
+// Whether the manager is open with this founding.
+pub(crate) fn tells_open(heard: &Option<HeardBoard>, founding: u64) -> bool
+    ensures { result ≡ tells_open founding heard.now }
+{
+    match heard {
+        Some(heard) => heard.is_of(founding),
+        None => false,
+    }
+}
+
+// To which ticket a manager of this founding, if it is open, binds the manager of a place.
+pub(crate) fn manager_told(heard: &Option<HeardBoard>, founding: u64, place: u8) -> Option<Ticket>
+    ensures { result ≡ manager_told founding place heard.now }
+{
+    match heard {
+        Some(heard) => match heard.manager_line(founding, place) {
+            Some(line) => Some(line.ticket),
+            None => None,
+        },
+        None => None,
+    }
+}
+
+// Whether the manager tells that the node of a number is a member, and ready.
+pub(crate) fn tells_ready(heard: &Option<HeardBoard>, founding: u64, node: NodeId) -> bool
+    ensures { result ≡ tells_ready founding node heard.now }
+{
+    match heard {
+        Some(heard) => match heard.line_of(founding, node) {
+            Some(line) => line.ready && is_member_mark(line.mark),
+            None => false,
+        },
         None => false,
     }
 }

@@ -1,11 +1,18 @@
 //! Which managers answered, and what they told.
 
-ghost use Rattle.std.specs.Prelude.{◌≡◌, ◌<◌, ◌≤◌, max, is_some, IfSome};
+ghost use Rattle.std.specs.Prelude.{◌≡◌, ◌<◌, ◌≤◌, max, IfSome};
 ghost use Rattle.std.specs.List.{reduce, filter_map, count_by, position};
-ghost use Rattle.hk_boards.specs.Managers.{least_heard, answered_lately, answered, answered_with, majority_answered, tells_another, has_another_founding, records_told, tells_records, most_records};
+ghost use Rattle.hk_boards.specs.Heard.{manager_told};
+ghost use Rattle.hk_boards.specs.Managers.{least_heard, answered_lately, is_answered, answered, has_answered, answered_with, majority_answered, founding_told, tells_open, is_open_with, open_founding, managers_told, manager, tells_another, has_another_founding, records_told, tells_records, most_records};
 
 use crate::boards::Boards;
-use crate::heard::{answered_lately, records_told, tells_another, tells_records};
+use crate::heard::{
+    answered_lately, founding_told, is_answered, manager_told, records_told, tells_another,
+    tells_open, tells_records,
+};
+use crate::told::TicketsTold;
+use hk_fields::Ticket;
+use hk_roll::named;
 
 impl Boards {
     /// The manager that a newcomer asks for a number: that of the least place which is open and whose last board came
@@ -26,30 +33,43 @@ impl Boards {
             .position(|heard| answered_lately(heard, now, within))
     }
 
-    fn count_answered(&self) -> usize
-        ensures exact { result ≡ answered self.now }
+    fn count_answered(&self, since: u64) -> usize
+        ensures exact { result ≡ answered since self.now }
         ensures few { result ≤ 9 }
     {
-        self.heard.iter().filter(|heard| heard.is_some()).count()
+        self.heard
+            .iter()
+            .filter(|heard| is_answered(heard, since))
+            .count()
     }
 
-    fn answered_with(&self, own: u8) -> usize
-        ensures { result ≡ answered_with own self.now }
+    // Whether the one of this place did.
+    fn has_answered(&self, own: u8, since: u64) -> bool
+        ensures { result ≡ has_answered own since self.now }
     {
-        let answered = self.count_answered();
-        if self.of(own).is_some() {
+        match self.of(own) {
+            Some(heard) => since < heard.asked,
+            None => false,
+        }
+    }
+
+    fn answered_with(&self, own: u8, since: u64) -> usize
+        ensures { result ≡ answered_with own since self.now }
+    {
+        let answered = self.count_answered(since);
+        if self.has_answered(own, since) {
             answered
         } else {
             answered + 1
         }
     }
 
-    /// Whether the managers that answered are a majority, the one of place `own` counted whether it did or not. A
-    /// manager that returned acts only then.
-    pub fn majority_answered(&self, own: u8) -> bool
-        ensures { result ≡ majority_answered own self.now }
+    /// Whether the managers are a majority that answered what was asked behind a reading, the one of place `own` counted
+    /// whether it did or not. A manager acts only then, by the reading from which on its process reports that it is open.
+    pub fn majority_answered(&self, own: u8, since: u64) -> bool
+        ensures { result ≡ majority_answered own since self.now }
     {
-        self.managers() / 2 < self.answered_with(own)
+        self.managers() / 2 < self.answered_with(own, since)
     }
 
     fn count_another(&self, founding: u64) -> usize
@@ -67,6 +87,48 @@ impl Boards {
         ensures { result ≡ has_another_founding founding self.now }
     {
         self.managers() / 2 < self.count_another(founding)
+    }
+
+    fn count_open(&self, founding: u64) -> usize
+        ensures { result ≡ count_by (tells_open founding) self.now }
+    {
+        self.heard
+            .iter()
+            .filter(|heard| tells_open(heard, founding))
+            .count()
+    }
+
+    fn is_open_with(&self, founding: u64) -> bool
+        ensures { result ≡ is_open_with self.now founding }
+    {
+        self.managers() / 2 < self.count_open(founding)
+    }
+
+    /// The founding with which a majority is open, by its last boards, if there is one.
+    pub fn open_founding(&self) -> Option<u64>
+        ensures { result ≡ open_founding self.now }
+    {
+        self.heard
+            .iter()
+            .filter_map(|heard| founding_told(heard))
+            .find(|founding| self.is_open_with(*founding))
+    }
+
+    fn managers_told(&self, founding: u64, place: u8) -> TicketsTold
+        ensures { result ≡ managers_told founding place self.now }
+    {
+        let mut told = TicketsTold::none();
+        for heard in &self.heard {
+            told.push(manager_told(heard, founding, place));
+        }
+        told
+    }
+
+    /// The ticket to which the last boards of a majority bind the manager of this place, if there is one.
+    pub fn manager(&self, founding: u64, place: u8) -> Option<Ticket>
+        ensures { result ≡ manager founding place self.now }
+    {
+        named(self.managers_told(founding, place).as_slice())
     }
 
     fn greatest_records(&self) -> Option<u64>

@@ -3,11 +3,12 @@
 ghost use Rattle.std.specs.Prelude.{◌≡◌, ◌++◌, ℕ, Bool, map, filter, OnOk, IfOk};
 ghost use Rattle.std.specs.List.{flat_map, list_any};
 ghost use Rattle.std.specs.List.Sorted.{IsStrictlyIncreasing};
-ghost use Rattle.hk_boards.specs.Holders.{is_held, AreHeld};
+ghost use Rattle.hk_boards.specs.Heard.{tells_ready};
+ghost use Rattle.hk_boards.specs.Holders.{is_held, AreHeld, AreReady};
 ghost use Rattle.hk_boards.specs.Gathering.{numbers_of, numbers_in, held_among};
 
 use crate::boards::Boards;
-use crate::heard::HeardBoard;
+use crate::heard::{HeardBoard, tells_ready};
 use hk_base::{Memory, NodeId};
 use hk_inside::{BoardLine, Party};
 use std::alloc::Global;
@@ -92,5 +93,28 @@ impl Boards {
     {
         let numbers = risen(self.numbers(alloc)?);
         self.held_among(alloc, founding, numbers.as_slice())
+    }
+
+    fn is_told_ready(&self, founding: u64, node: NodeId) -> bool
+        ensures { result ≡ list_any (tells_ready founding node) self.now }
+    {
+        self.heard
+            .iter()
+            .any(|heard| tells_ready(heard, founding, node))
+    }
+
+    fn keep_ready(&self, founding: u64, nodes: &mut Vec<NodeId>)
+        ensures { nodes.new.items ≡ filter (λ node. list_any (tells_ready founding node) self.now) nodes.old.items }
+    {
+        nodes.retain(|node| self.is_told_ready(founding, *node));
+    }
+
+    /// The nodes whose numbers have a holder and of which some manager tells that they are members, and ready, in rising order.
+    pub fn ready_nodes(&self, alloc: Global, founding: u64) -> Result<Vec<NodeId>, Memory>
+        ensures { IfOk result (λ nodes. AreReady founding self.now nodes.items) }
+    {
+        let mut nodes = self.nodes(alloc, founding)?;
+        self.keep_ready(founding, &mut nodes);
+        Ok(nodes)
     }
 }

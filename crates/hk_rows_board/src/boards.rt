@@ -289,10 +289,20 @@ fn the_least_open_manager_is_asked_that_answered(rt: HostRuntime) {
 fn a_manager_counts_itself_among_those_that_answered(rt: HostRuntime) {
     let alloc = rt.alloc();
     let boards = boards_of(&rt, alloc, &[board_at(1, 10, &[])]);
-    assert!(rt; boards.majority_answered(0));
-    assert!(rt; !boards.majority_answered(1));
+    assert!(rt; boards.majority_answered(0, 0));
+    assert!(rt; !boards.majority_answered(1, 0));
     let boards = boards_of(&rt, alloc, &[]);
-    assert!(rt; !boards.majority_answered(0));
+    assert!(rt; !boards.majority_answered(0, 0));
+}
+
+#[test]
+fn boards_count_that_were_asked_for_behind_a_reading(rt: HostRuntime) {
+    let alloc = rt.alloc();
+    let boards = boards_of(&rt, alloc, &[board_at(1, 10, &[])]);
+    assert_eq!(rt; boards.of(1).map(|heard| heard.asked), Some(10));
+    assert!(rt; boards.majority_answered(0, 9));
+    assert!(rt; !boards.majority_answered(0, 10));
+    assert!(rt; !boards.majority_answered(2, 10));
 }
 
 #[test]
