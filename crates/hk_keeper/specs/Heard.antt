@@ -34,16 +34,21 @@ is_younger n time = list_all (λ ask. nat_lt ask.age time) n.asks
 abbrev pub told_younger : ManagerHeard → NodeId → ℕ → Bool
 told_younger m node time = list_any (λ told. (told.node.0 == node.0) && nat_lt told.age time) m.ages
 
--- A manager *hears* a node: it is up, and told an age below three quarters of a lease; of itself this one knows it.
+-- A manager *hears* a node that told an age below three quarters of a lease; of itself this one knows it.
 abbrev pub hears : Heard → NodeHeard → ManagerHeard → Bool
-hears h n m = is_up h m && (if m.place == h.place then is_younger n (3 * h.lease / 4) else told_younger m n.node (3 * h.lease / 4))
+hears h n m = if m.place == h.place then is_younger n (3 * h.lease / 4) else told_younger m n.node (3 * h.lease / 4)
 
-abbrev pub majority_hears : Heard → NodeHeard → Bool
-majority_hears h n = nat_lt (length h.managers / 2) (count_by (hears h n) h.managers)
+-- It *misses* a node: it is up, and does not hear it. What a manager that is not up hears is not known, so it does not count: where one link between two hosts
+-- is cut, a third manager hears the nodes of both.
+abbrev pub misses : Heard → NodeHeard → ManagerHeard → Bool
+misses h n m = is_up h m && not (hears h n m)
 
--- *gone*: its age is a lease at least, and no majority hears it
+abbrev pub majority_misses : Heard → NodeHeard → Bool
+majority_misses h n = nat_lt (length h.managers / 2) (count_by (misses h n) h.managers)
+
+-- *gone*: its age is a lease at least, and a majority misses it
 abbrev pub is_gone : Heard → NodeHeard → Bool
-is_gone h n = not (is_younger n h.lease) && not (majority_hears h n)
+is_gone h n = not (is_younger n h.lease) && majority_misses h n
 
 abbrev pub is_ready_state : NodeState → Bool
 is_ready_state Waiting = false

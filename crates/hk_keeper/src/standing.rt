@@ -2,7 +2,7 @@
 
 ghost use Rattle.std.specs.Prelude.{◌≡◌};
 ghost use Rattle.std.specs.List.{count_by, list_all};
-ghost use Rattle.hk_keeper.specs.Heard.{is_within, is_up, majority_up, is_younger, told_younger, hears, majority_hears, is_gone, told_ready, told_leaving, is_ready, is_leaving, is_out, is_lost, has_to_go, one_ready, another_ready, asks_everywhere, is_silent, may_join, next_may_join, is_behind, all_level};
+ghost use Rattle.hk_keeper.specs.Heard.{is_within, is_up, majority_up, is_younger, told_younger, hears, misses, majority_misses, is_gone, told_ready, told_leaving, is_ready, is_leaving, is_out, is_lost, has_to_go, one_ready, another_ready, asks_everywhere, is_silent, may_join, next_may_join, is_behind, all_level};
 
 use crate::heard::{Heard, ManagerHeard, NodeHeard, ShardHeard, StateTold};
 use hk_base::NodeId;
@@ -105,35 +105,39 @@ impl Heard {
         ensures { result ≡ hears self.now node.now manager.now }
     {
         let time = 3 * self.lease() / 4;
-        if !self.is_up(manager) {
-            return false;
-        }
         if manager.place == self.place {
-            return node.is_younger(time);
+            node.is_younger(time)
+        } else {
+            manager.told_younger(node.node, time)
         }
-        manager.told_younger(node.node, time)
     }
 
-    fn count_hearing(&self, node: &NodeHeard) -> usize
-        ensures { result ≡ count_by (hears self.now node.now) self.now.managers }
+    fn misses(&self, node: &NodeHeard, manager: &ManagerHeard) -> bool
+        ensures { result ≡ misses self.now node.now manager.now }
+    {
+        self.is_up(manager) && !self.hears(node, manager)
+    }
+
+    fn count_missing(&self, node: &NodeHeard) -> usize
+        ensures { result ≡ count_by (misses self.now node.now) self.now.managers }
     {
         self.managers
             .as_slice()
             .iter()
-            .filter(|manager| self.hears(node, manager))
+            .filter(|manager| self.misses(node, manager))
             .count()
     }
 
-    fn majority_hears(&self, node: &NodeHeard) -> bool
-        ensures { result ≡ majority_hears self.now node.now }
+    fn majority_misses(&self, node: &NodeHeard) -> bool
+        ensures { result ≡ majority_misses self.now node.now }
     {
-        self.managers.len() / 2 < self.count_hearing(node)
+        self.managers.len() / 2 < self.count_missing(node)
     }
 
     fn is_gone(&self, node: &NodeHeard) -> bool
         ensures { result ≡ is_gone self.now node.now }
     {
-        !node.is_younger(self.lease()) && !self.majority_hears(node)
+        !node.is_younger(self.lease()) && self.majority_misses(node)
     }
 
     fn is_ready(&self, node: &NodeHeard) -> bool

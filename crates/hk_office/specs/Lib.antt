@@ -12,3 +12,4 @@ pub mod Steps
 pub mod Laws
 pub mod Ranges
 pub mod Telling
+pub mod Asks

@@ -6,7 +6,7 @@ use Rattle.hk_stage.specs.Opening.{begun}
 use Rattle.hk_roll.specs.Rolls.{replayed}
 use Rattle.hk_reports.specs.Reports.{at_first}
 use Rattle.hk_office.specs.declared.office.Office.{Office}
-use Rattle.hk_office.specs.declared.office.Terms.{Terms}
+use Rattle.hk_restore.specs.declared.group.Terms.{Terms}
 use Rattle.hk_office.specs.declared.office.GroupLog.{GroupLog}
 use Rattle.hk_office.specs.Stages.{stage_logged}
 use Rattle.hk_office.specs.Founding.{roll_of}

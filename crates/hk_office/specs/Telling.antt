@@ -1,5 +1,5 @@
 -- How the group stands, as a manager tells it to who asks. Readings and ages are in milliseconds.
-use Rattle.std.specs.Prelude.{ℕ, Bool, true, false, not, ◌&&◌, nat_lt, nat_le, if◌then◌else◌, List, [], ◌∷◌, map, take, length, Option, None, Some}
+use Rattle.std.specs.Prelude.{ℕ, ◌+◌, ◌-◌, ◌*◌, Bool, true, false, not, ◌&&◌, nat_lt, nat_le, if◌then◌else◌, List, [], ◌∷◌, map, take, length, Option, None, Some}
 use Rattle.std.specs.List.{flat_map, list_any}
 use Rattle.hk_base.specs.declared.stamp.NodeId.{NodeId}
 use Rattle.hk_base.specs.declared.letter.Actor.TheVariants as actors
@@ -22,7 +22,9 @@ use Rattle.hk_status.specs.declared.status.NodeTold.{NodeTold}
 use Rattle.hk_status.specs.declared.status.NodeLine.{NodeLine}
 use Rattle.hk_status.specs.declared.status.WaitLine.{WaitLine}
 use Rattle.hk_status.specs.declared.status.GroupStatus.{GroupStatus}
+use Rattle.hk_lease.specs.Wait.{wait}
 use Rattle.hk_office.specs.declared.office.Office.{Office}
+use Rattle.hk_office.specs.declared.telling.Acting.{Acting}
 use Rattle.hk_office.specs.Stages.{stage_told}
 use Rattle.hk_office.specs.Numbers.{numbers}
 use Rattle.hk_office.specs.Marks.{is_in_view}
@@ -125,9 +127,23 @@ is_ready_shown Gone = false
 abbrev pub is_ready_member : List View → NodeLine → Bool
 is_ready_member views line = is_ready_shown line.state && is_in_view views line.node
 
--- Where it is open and no member is ready, nobody has the group's data any more.
-abbrev pub is_lost : List View → List NodeLine → Bool
-is_lost views lines = nat_lt 0 (length views) && not (list_any (is_ready_member views) lines)
+-- the manager has acted for this time, and no lease runs that it granted
+abbrev pub acted_for : ℕ → ℕ → Option ℕ → Bool
+acted_for now time None = false
+acted_for now time (Some since) = nat_le time (now - since)
+
+abbrev pub has_acted : ℕ → ℕ → Acting → Bool
+has_acted now time acting = acted_for now time acting.since && nat_lt acting.until now
+
+-- For four leases no process told that its node is ready, and all leases have ended that the manager may have granted before
+-- its process began.
+abbrev pub is_quiet : Office → ℕ → Bool
+is_quiet o now = nat_le (4 * o.terms.lease) (age now o.reports.ready_at) && nat_lt (1 + wait o.terms.lease) now
+
+-- Where it is open and no member is ready, nor was in all that time, nobody has the group's data any more.
+abbrev pub is_lost : Office → ℕ → Acting → List View → List NodeLine → Bool
+is_lost o now acting views lines =
+    nat_lt 0 (length views) && not (list_any (is_ready_member views) lines) && has_acted now (4 * o.terms.lease) acting && is_quiet o now
 
 -- ---- all of it
 
@@ -137,8 +153,8 @@ founding_shown (Founded f) = Some f
 founding_shown (Open f) = Some f
 
 -- `name` is the group's, and `views` are those that the cores hold. Managers stand in the order of their places.
-abbrev pub status_told : Office → ℕ → List ℕ → List View → GroupStatus
-status_told o now name views = record {
+abbrev pub status_told : Office → ℕ → List ℕ → List View → Acting → GroupStatus
+status_told o now name views acting = record {
   group = name;
   founding = founding_shown (shown o.opening now);
   stage = stage_told (shown o.opening now);
@@ -149,5 +165,5 @@ status_told o now name views = record {
   nodes = nodes_told o now views;
   waits = flat_map (waits_told o) (numbers views);
   waiting = flat_map (waiting_by now o.terms.lease) o.reports.came;
-  is_lost = is_lost views (nodes_told o now views);
+  is_lost = is_lost o now acting views (nodes_told o now views);
 }

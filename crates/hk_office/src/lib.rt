@@ -7,7 +7,8 @@
 //!
 //! [`Office::answer`] takes an inquiry and gives its answer, and what has to be in the log first.
 //! [`Office::hear_board`] and [`Office::tick`] give what has to be in the log where it opens so. [`Office::intents`]
-//! tells at each beat what the cores are to do. [`Office::status`] tells how the group stands, for who asks that.
+//! tells at each beat what the cores are to do, and [`Office::asks_seen`] how long ago nodes asked them for leases, for the
+//! reports to other managers. [`Office::status`] tells how the group stands, for who asks that.
 //!
 //! Its caller hands in readings of a clock that does not go back, the views that the cores hold, and what boards told
 //! of a number that is claimed. It makes sure what is to be logged before it gives the answer, and before it calls
@@ -15,7 +16,7 @@
 //! behind the step already. It notes each ask for a lease that a core took, and each view that a core let begin.
 //!
 //! What is proved. Each call makes just what `specs/` has by cases of what comes (`inquired`, `board_heard`,
-//! `ticked`, `intended`), and gives just what it has of a status (`status_told`). These stand on the definitions of the
+//! `ticked`, `intended`), and gives just what it has of a status (`status_told`) and of asks (`asks_seen`). These stand on the definitions of the
 //! crates below and say nothing of them anew. Where memory is wanting, all is as it was but what was heard: a report may
 //! have been taken, and a number may be noted as bound or as given at this reading. What a step logs makes of the log's
 //! stage and roll just those behind the step (`LogTellsTheOffice`), so a process that begins by its log stands by all
@@ -29,6 +30,7 @@
 #![tactic(auto)]
 
 mod answer;
+mod asks;
 mod board;
 mod founding;
 mod laws;
@@ -47,6 +49,7 @@ pub use answer::{OfficeAnswer, OfficeStep, has_founding_in_range};
 pub use laws::{
     answers_are_bound, answers_stay_in_range, nothing_before_it_is_open, offices_are_made_again,
 };
-pub use office::{GroupLog, Leave, Office, Terms};
+pub use office::{GroupLog, Leave, Office};
 pub use refusal::OfficeRefusal;
+pub use telling::Acting;
 pub use wishing::Wished;

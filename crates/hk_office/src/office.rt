@@ -13,22 +13,10 @@ use hk_base::{Memory, NodeId, Sequence, View};
 use hk_inside::HostTickets;
 use hk_log::Founding;
 use hk_reports::Reports;
+use hk_restore::Terms;
 use hk_roll::{Binding, Roll};
 use hk_stage::Opening;
 use std::alloc::Global;
-
-/// With what a host's manager was started.
-#[derive(Clone, Copy, Debug, PartialEq, Eq)]
-pub struct Terms {
-    /// The place of its host, counted from 0.
-    pub place: u8,
-    /// How many managers there are, 1 to 9.
-    pub managers: u8,
-    /// The length of a lease in milliseconds.
-    pub lease: u32,
-    /// How far clocks may jump, in milliseconds.
-    pub skew: u32,
-}
 
 /// What a manager's log has of its group.
 #[derive(Drop)]

@@ -5,7 +5,7 @@ ghost use Rattle.std.specs.List.{flat_map, list_any};
 ghost use Rattle.std.specs.Option.{option_copied};
 ghost use Rattle.hk_reports.specs.Hearing.{came_ago, is_up_at, is_waiting_state};
 ghost use Rattle.hk_office.specs.Board.{places};
-ghost use Rattle.hk_office.specs.Telling.{records_by, manager_told, state_shown, node_shown, told_by, node_by, node_told, nodes_told, wait_of, waits_by, waits_told, is_waiting, waiting_by, is_ready_shown, is_ready_member, is_lost, founding_shown, status_told};
+ghost use Rattle.hk_office.specs.Telling.{records_by, manager_told, state_shown, node_shown, told_by, node_by, node_told, nodes_told, wait_of, waits_by, waits_told, is_waiting, waiting_by, is_ready_shown, is_ready_member, has_acted, is_quiet, is_lost, founding_shown, status_told};
 
 use crate::board::{PLACES, inside_of};
 use crate::marks::is_in_view;
@@ -14,10 +14,23 @@ use crate::office::Office;
 use crate::stages::stage_told;
 use hk_base::{Actor, Memory, NodeId, Sequence, View};
 use hk_inside::{NodeSeen, NodeState, Text};
+use hk_lease::wait;
 use hk_reports::Came;
 use hk_stage::Stage;
 use hk_status::{GroupStatus, ManagerLine, NodeLine, NodeShown, NodeTold, WaitLine};
 use std::alloc::Global;
+
+/// Since when a manager acts, and for how long what it granted may be held.
+#[derive(Clone, Copy, Debug, PartialEq, Eq)]
+pub struct Acting {
+    /// The reading from which on it acts. None before.
+    pub since: Option<u64>,
+    /// The last reading at which a lease that it granted may run.
+    pub until: u64,
+}
+
+// All is lost only behind so many leases without anybody who is ready.
+const LEASES_WITHOUT: u64 = 4;
 
 fn copy_of(alloc: Global, text: &[u8]) -> Result<Text, Memory>
     ensures { IfOk result (λ copy. copy ≡ text.now) }
@@ -199,10 +212,36 @@ fn has_ready_member(views: &[View], lines: &[NodeLine]) -> bool
     lines.iter().any(|line| is_ready_member(views, line))
 }
 
-fn is_lost(views: &[View], lines: &[NodeLine]) -> bool
-    ensures { result ≡ is_lost views.now lines.now }
+// Whether it has acted for this time, and no lease runs that it granted.
+fn has_acted(now: u64, time: u64, acting: Acting) -> bool
+    ensures { result ≡ has_acted now time acting }
 {
-    0 < views.len() && !has_ready_member(views, lines)
+    match acting.since {
+        Some(since) => now.saturating_sub(since) >= time && acting.until < now,
+        None => false,
+    }
+}
+
+impl Office {
+    // Whether for four leases no process told that its node is ready, and all leases have ended that this manager may have
+    // granted before its process began.
+    fn is_quiet(&self, now: u64) -> bool
+        ensures { result ≡ is_quiet self.now now }
+    {
+        let lease = u64::from(self.terms.lease);
+        now.saturating_sub(self.reports.ready_at()) >= LEASES_WITHOUT * lease
+            && 1 + wait(lease) < now
+    }
+
+    fn is_lost(&self, now: u64, acting: Acting, views: &[View], lines: &[NodeLine]) -> bool
+        ensures { result ≡ is_lost self.now now acting views.now lines.now }
+    {
+        let time = LEASES_WITHOUT * u64::from(self.terms.lease);
+        0 < views.len()
+            && !has_ready_member(views, lines)
+            && has_acted(now, time, acting)
+            && self.is_quiet(now)
+    }
 }
 
 impl Office {
@@ -342,8 +381,9 @@ impl Office {
         now: u64,
         name: &[u8],
         views: &[View],
+        acting: Acting,
     ) -> Result<GroupStatus, Memory>
-        ensures { IfOk result (λ status. status ≡ status_told self.now now name.now views.now) }
+        ensures { IfOk result (λ status. status ≡ status_told self.now now name.now views.now acting) }
     {
         let lease = self.terms.lease;
         let shown = self.opening.shown(now);
@@ -354,7 +394,7 @@ impl Office {
         let nodes = self.nodes_told(alloc, now, &known)?;
         let waits = self.waits_told(alloc, &known)?;
         let waiting = waiting_told(alloc, now, lease, self.reports.all())?;
-        let is_lost = is_lost(views, &nodes);
+        let is_lost = self.is_lost(now, acting, views, &nodes);
         Ok(GroupStatus {
             group,
             founding: founding_shown(shown),

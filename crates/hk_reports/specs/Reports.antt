@@ -19,6 +19,8 @@ use Rattle.hk_reports.specs.declared.reports.TheConstants.{MOST_PROCESSES, IN_VA
 pub record ReportsState : Type 0 where
   -- the reading at which this process began
   pub start : ℕ
+  -- the reading at which a process told last that its node is ready
+  pub ready_at : ℕ
   -- the last report of each ticket
   pub came : List Came
   -- by places of managers, the most records that reports told of the log there
@@ -34,9 +36,9 @@ pub record ReportsState : Type 0 where
 abbrev pub age : ℕ → ℕ → ℕ
 age now at = now - at
 
-abbrev pub state : ℕ → List Came → List ℕ → List NumberKept → List Proposed → List SeatGiven → ReportsState
-state start came records numbers proposed seats =
-    record { start = start; came = came; records = records; numbers = numbers; proposed = proposed; seats = seats }
+abbrev pub state : ℕ → ℕ → List Came → List ℕ → List NumberKept → List Proposed → List SeatGiven → ReportsState
+state start ready_at came records numbers proposed seats =
+    record { start = start; ready_at = ready_at; came = came; records = records; numbers = numbers; proposed = proposed; seats = seats }
 
 -- no change was proposed of any view
 abbrev pub none_proposed : Proposed
@@ -44,7 +46,7 @@ none_proposed = record { epoch = 0; count = 0; at = 0 }
 
 -- nothing was told yet, and nothing proposed
 abbrev pub at_first : ℕ → ReportsState
-at_first start = state start [] (replicate 9 0) [] (replicate 8 none_proposed) []
+at_first start = state start start [] (replicate 9 0) [] (replicate 8 none_proposed) []
 
 -- at most 64 of anything are kept
 abbrev pub IsFew : {X : Type 0} → List X → Type 0
@@ -92,6 +94,10 @@ other_seats inside seats = filter (λ seat. not (is_at inside seat)) seats
 abbrev pub still_in_vain : Report → List SeatGiven → List SeatGiven
 still_in_vain report seats = if is_ready_state report.state then other_seats report.inside seats else seats
 
+-- when a process told last that its node is ready
+abbrev pub last_ready : ℕ → Report → ℕ → ℕ
+last_ready now report before = if is_ready_state report.state then now else before
+
 -- no ticket has two reports
 abbrev pub AreOneEach : List Came → Type 0
 AreOneEach [] = ⊤
@@ -101,6 +107,7 @@ AreOneEach (c ∷ came) = (find (is_of c.report.ticket) came ≡ None) × AreOne
 abbrev pub reported : ℕ → Report → ReportsState → ReportsState
 reported now report s =
     record s {
+      ready_at = last_ready now report s.ready_at;
       came = with_report (record { report = report; at = now }) s.came;
       records = most_told report.manager report.records s.records;
       seats = still_in_vain report s.seats;

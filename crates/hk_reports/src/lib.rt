@@ -3,8 +3,8 @@
 //! Each process reports at each beat how it stands, and each node asks for leases. [`Reports`] keeps the last report of
 //! each process and the last asks of each node's number, by shards; and what the manager noted of itself: when it bound
 //! a number, to which address it gave one, and what it proposed. From these [`Reports::heard`] makes what `hk_keeper`
-//! decides by. [`Reports::managers_up`] and [`Reports::most_records`] are told on boards, and by
-//! [`Reports::was_lately_in_vain`] a newcomer is answered.
+//! decides by. [`Reports::managers_up`] and [`Reports::most_records`] are told on boards, by
+//! [`Reports::was_lately_in_vain`] a newcomer is answered, and by [`Reports::ready_at`] it is known how long nobody was ready.
 //!
 //! It has no clock: its caller hands in the readings, in milliseconds, of one that does not go back, and shards 0 to 7.
 //! The age of what came at a reading that is not behind is 0. At most 64 reports, numbers and addresses are kept,

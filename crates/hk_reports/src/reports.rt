@@ -11,7 +11,8 @@ use crate::hearing::{
 };
 use crate::kept::{AskCame, Came, NumberKept, Proposed, SeatGiven};
 use crate::steps::{
-    forget_if_ready, is_of, lately_at, most_told, number_of, put_number, put_report, put_seat,
+    forget_if_ready, is_of, last_ready, lately_at, most_told, number_of, put_number, put_report,
+    put_seat,
 };
 use hk_base::{Memory, NodeId, Sequence, View};
 use hk_fields::Ticket;
@@ -34,6 +35,8 @@ pub(crate) const MANAGERS: usize = 9;
 #[derive(Drop)]
 pub struct Reports {
     start: u64,
+    // The reading at which a process told last that its node is ready.
+    ready_at: u64,
     came: Vec<Came>,
     records: [u64; 9],
     numbers: Vec<NumberKept>,
@@ -46,7 +49,7 @@ impl Model for Reports {
 
     ghost Value = { ReportsState };
 
-    ghost view = { λ r. state r.start r.came.items r.records r.numbers.items r.proposed r.seats.items };
+    ghost view = { λ r. state r.start r.ready_at r.came.items r.records r.numbers.items r.proposed r.seats.items };
 
     ghost invariant = { λ r. AreOneEach r.came.items × AreFew r.came.items r.numbers.items r.seats.items };
 }
@@ -63,6 +66,7 @@ impl Reports {
         };
         Reports {
             start,
+            ready_at: start,
             came: Vec::new(alloc),
             records: [0; 9],
             numbers: Vec::new(alloc),
@@ -78,6 +82,7 @@ impl Reports {
         ensures err { OnErr result (self.new ≡ self.old) }
     {
         self.came.reserve(1)?;
+        self.ready_at = last_ready(now, &report, self.ready_at);
         self.records = most_told(self.records, &report);
         forget_if_ready(&mut self.seats, &report);
         put_report(&mut self.came, Came { report, at: now });
@@ -144,6 +149,14 @@ impl Reports {
         ensures { option_copied result ≡ find (is_of ticket) self.now.came }
     {
         self.came.iter().find(|came| is_of(ticket, *came))
+    }
+
+    /// The reading at which a process told last that its node is ready. Before the first one it is that at which this process
+    /// began.
+    pub fn ready_at(&self) -> u64
+        ensures { result ≡ self.now.ready_at }
+    {
+        self.ready_at
     }
 
     /// The most records that reports told of the log of the manager of this place. It is 0 where none came.

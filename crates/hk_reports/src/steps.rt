@@ -4,7 +4,7 @@ ghost use Rattle.std.specs.Prelude.{◌≡◌, ◌<◌, ◌≤◌, ◌∷◌, le
 ghost use Rattle.std.specs.List.{find};
 ghost use Rattle.std.specs.Option.{option_copied};
 ghost use Rattle.hk_reports.specs.declared.reports.TheConstants.{MOST_PROCESSES};
-ghost use Rattle.hk_reports.specs.Reports.{is_of, is_number, is_at, is_ready_state, other_reports, other_numbers, other_seats, with_report, AreOneEach, IsFew, with_number, with_seat, still_in_vain, most_told, number_of, proposed_again, lately_at};
+ghost use Rattle.hk_reports.specs.Reports.{is_of, is_number, is_at, is_ready_state, other_reports, other_numbers, other_seats, with_report, AreOneEach, IsFew, with_number, with_seat, still_in_vain, last_ready, most_told, number_of, proposed_again, lately_at};
 
 use crate::hearing::age;
 use crate::kept::{Came, NumberKept, Proposed, SeatGiven};
@@ -114,6 +114,14 @@ pub(crate) fn forget_if_ready(seats: &mut Vec<SeatGiven>, report: &Report)
     if is_ready_state(report.state) {
         forget_seats(seats, report.inside.as_slice());
     }
+}
+
+// When a process told last that its node is ready.
+pub(crate) fn last_ready(now: u64, report: &Report, before: u64) -> u64
+    ensures { result ≡ last_ready now report.now before }
+{
+    let is_ready = is_ready_state(report.state);
+    if is_ready { now } else { before }
 }
 
 // The most records that each manager told.
