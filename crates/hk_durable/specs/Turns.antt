@@ -1,5 +1,5 @@
 -- A turn of the managers of one number that keep a log: a batch of steps is made, logged, and only then told.
-use Rattle.std.specs.Prelude.{◌≡◌, ◌⊎◌, ◌≢◌, ◌≤◌, ℕ, List, [], ◌∷◌, ◌++◌, length, min}
+use Rattle.std.specs.Prelude.{◌≡◌, ◌⊎◌, ◌≢◌, ◌≤◌, ℕ, ◌+◌, ◌-◌, ◌^◌, List, [], ◌∷◌, ◌++◌, length, min}
 use Rattle.std.specs.List.{AllByRecursion}
 use Rattle.hk_base.specs.declared.letter.Actor.{Actor}
 use Rattle.hk_base.specs.declared.letter.Letter.{Letter}
@@ -35,6 +35,11 @@ AllAreSent (unsaid ∷ rest) before after = (between : List (Actor × End)) × A
 abbrev pub recorded : List Entry → List (List Entry) → List (List Entry)
 recorded [] records = records
 recorded (entry ∷ entries) records = records ++ (entry ∷ entries) ∷ []
+
+-- how many records that makes, of which so many are told as a number of 64 bits holds
+abbrev pub records_behind : List Entry → ℕ → ℕ
+records_behind [] count = count
+records_behind (entry ∷ entries) count = min (count + 1) (2 ^ 64 - 1)
 
 -- ---- a batch is gathered
 -- by what a clock told behind the parcels that were taken

@@ -6,7 +6,7 @@ ghost use Rattle.hk_log.specs.declared.entry.Entry.{Entry};
 ghost use Rattle.hk_log.specs.Entries.{IsEntryInRange};
 ghost use Rattle.hk_disk.specs.Writing.{IsSureLog};
 ghost use Rattle.hk_durable.specs.Batches.{IsNote, IsUnsaid, at_rest};
-ghost use Rattle.hk_durable.specs.Turns.{PostState, AreTaken, AllAreSent, recorded, IsGathered, IsTurn, IsHeldUp};
+ghost use Rattle.hk_durable.specs.Turns.{PostState, AreTaken, AllAreSent, recorded, records_behind, IsGathered, IsTurn, IsHeldUp};
 
 use crate::batch::{Batch, Intent};
 use crate::late::LateClock;
@@ -29,6 +29,8 @@ pub struct DurablePost<F: LogFile + Drop> {
     inlet: Inlet,
     outlets: Vec<(Actor, Outlet)>,
     writer: LogWriter<F>,
+    // How many records it has appended.
+    records: u64,
 }
 
 // All parcels that are there, 64 at most. Where memory is wanting, fewer are taken.
@@ -79,6 +81,7 @@ impl<F: LogFile + Drop> DurablePost<F> {
             inlet,
             outlets: outlets.into_vec(),
             writer,
+            records: 0,
         }
     }
 
@@ -87,6 +90,13 @@ impl<F: LogFile + Drop> DurablePost<F> {
         ensures { result.now ≡ self.now.batch.managers }
     {
         self.batch.managers()
+    }
+
+    /// How many records this post has appended to its log.
+    pub fn records(&self) -> u64
+        ensures { result ≡ self.now.records }
+    {
+        self.records
     }
 
     /// Notes what the next turn logs beside its steps: that the group was founded, or opened, or that a number was bound. Once a turn answers it is sure, and it
@@ -130,6 +140,7 @@ impl<F: LogFile + Drop> DurablePost<F> {
     fn log(&mut self, alloc: Global) -> Result<(), AppendFault>
         ensures sure { OnOk result ((records : List (List Entry)) → IsSureLog F.holds F.is_sure self.old.writer.file self.old.writer.check.0 records → IsSureLog F.holds F.is_sure self.new.writer.file self.new.writer.check.0 (recorded self.old.batch.entries records)) }
         ensures forgot { OnOk result (self.new.batch ≡ record self.old.batch { entries = [] }) }
+        ensures counts { OnOk result (self.new.records ≡ records_behind self.old.batch.entries self.old.records) }
         ensures inlet { self.new.inlet ≡ self.old.inlet }
         ensures outlets { self.new.outlets ≡ self.old.outlets }
         ensures waits { OnErr result (self.new.batch ≡ self.old.batch) }
@@ -138,6 +149,7 @@ impl<F: LogFile + Drop> DurablePost<F> {
             return Ok(());
         }
         self.writer.append(alloc, self.batch.entries())?;
+        self.records = self.records.saturating_add(1);
         self.batch.forget_entries();
         Ok(())
     }

@@ -3,5 +3,6 @@ mod Looking
 mod Founding
 mod Opening
 mod Answering
+mod Confirming
 mod Joining
 mod Reserving

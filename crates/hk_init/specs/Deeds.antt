@@ -2,11 +2,11 @@
 use Rattle.std.specs.Prelude.{◌≡◌, ⊤, ℕ, ◌+◌, List, [], ◌∷◌, ◌++◌, Option, None, Some, Result}
 use Rattle.hk_inside.specs.declared.inquiry.Inquiry.{Inquiry}
 use Rattle.hk_inside.specs.declared.response.Response.{Response}
-use Rattle.hk_init.specs.declared.fault.AskFault.{AskFault}
+use Rattle.hk_init.specs.declared.fault.NoAnswer.{NoAnswer}
 
 -- what comes of an inquiry
 abbrev pub Outcome : Type 0
-Outcome = Result Response AskFault
+Outcome = Result Response NoAnswer
 
 pub data Deed : Type 0 where
   -- it asked the manager of the host of a place

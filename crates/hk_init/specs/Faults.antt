@@ -1,7 +1,7 @@
 -- The numbers of a command's faults, and what comes of a host that tells no answer.
 use Rattle.std.specs.Prelude.{ℕ}
-use Rattle.hk_init.specs.declared.fault.AskFault.{AskFault}
-use Rattle.hk_init.specs.declared.fault.AskFault.TheVariants as asks
+use Rattle.hk_init.specs.declared.fault.NoAnswer.{NoAnswer}
+use Rattle.hk_init.specs.declared.fault.NoAnswer.TheVariants as asks
 use Rattle.hk_init.specs.declared.fault.CommandFault.{CommandFault}
 use Rattle.hk_init.specs.declared.fault.CommandFault.TheVariants.{Memory, WriteFault, Unreachable, Denied, Refused, OtherLease, NoNode, Late, NotOpen}
 
@@ -18,7 +18,7 @@ number_of_fault Late = 12
 number_of_fault (NotOpen place) = 13
 
 -- the host of a place told no answer
-abbrev pub not_asked : ℕ → AskFault → CommandFault
+abbrev pub not_asked : ℕ → NoAnswer → CommandFault
 not_asked place asks.Memory = Memory
 not_asked place asks.Silent = Unreachable place
 not_asked place (asks.Refused reason) = Denied place reason

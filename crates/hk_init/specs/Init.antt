@@ -1,14 +1,14 @@
 -- What the commands do, and how each of them ends.
-use Rattle.std.specs.Prelude.{◌≡◌, ◌<◌, ◌⊎◌, ℕ, Bool, true, List, [], ◌∷◌, ◌++◌, length, take, is_err, Option, Result, Ok, Err}
-use Rattle.std.specs.List.{list_all}
+use Rattle.std.specs.Prelude.{◌≡◌, ◌<◌, ◌⊎◌, ℕ, ◌-◌, ◌/◌, Bool, true, false, not, ◌&&◌, nat_eq, nat_lt, if◌then◌else◌, List, [], ◌∷◌, ◌++◌, length, take, is_err, Option, Result, Ok, Err}
+use Rattle.std.specs.List.{list_any, list_all, ends_with, sum_by}
 use Rattle.std.specs.Io.KnownBytes.{Appends}
 use Rattle.hk_fields.specs.declared.hosts.HostTickets.{HostTickets}
 use Rattle.hk_inside.specs.declared.inquiry.Inquiry.TheVariants as inquiry
 use Rattle.hk_inside.specs.declared.response.ManagerState.{ManagerState}
 use Rattle.hk_inside.specs.declared.response.Response.{Response}
 use Rattle.hk_inside.specs.declared.response.Response.TheVariants as response
-use Rattle.hk_init.specs.declared.fault.AskFault.{AskFault}
-use Rattle.hk_init.specs.declared.fault.AskFault.TheVariants as asks
+use Rattle.hk_init.specs.declared.fault.NoAnswer.{NoAnswer}
+use Rattle.hk_init.specs.declared.fault.NoAnswer.TheVariants as asks
 use Rattle.hk_init.specs.declared.fault.CommandFault.{CommandFault}
 use Rattle.hk_init.specs.declared.fault.CommandFault.TheVariants.{Memory, WriteFault}
 use Rattle.hk_init.specs.Faults.{not_asked}
@@ -65,7 +65,7 @@ Inits group count founding deeds before now result =
 -- ---- STATUS
 
 -- the text that a host answers
-abbrev pub status_in : Response → Result (List ℕ) AskFault
+abbrev pub status_in : Response → Result (List ℕ) NoAnswer
 status_in (response.Status text) = Ok text
 status_in response.Yes = Err asks.Silent
 status_in (response.No code text) = Err asks.Silent
@@ -73,19 +73,19 @@ status_in (response.State state) = Err asks.Silent
 status_in (response.Board board) = Err asks.Silent
 status_in (response.Seated node) = Err asks.Silent
 
-abbrev pub status_of : Outcome → Result (List ℕ) AskFault
+abbrev pub status_of : Outcome → Result (List ℕ) NoAnswer
 status_of (Ok response) = status_in response
 status_of (Err fault) = Err fault
 
 abbrev pub lacks_status : Outcome → Bool
 lacks_status outcome = is_err (status_of outcome)
 
-abbrev pub fault_or : AskFault → Result (List ℕ) AskFault → AskFault
+abbrev pub fault_or : NoAnswer → Result (List ℕ) NoAnswer → NoAnswer
 fault_or usual (Ok text) = usual
 fault_or usual (Err fault) = fault
 
 -- why host 0 told nothing
-abbrev pub first_fault : List Outcome → AskFault
+abbrev pub first_fault : List Outcome → NoAnswer
 first_fault [] = asks.Silent
 first_fault (outcome ∷ outcomes) = fault_or asks.Silent (status_of outcome)
 
@@ -99,6 +99,61 @@ FirstAnswers count deeds (Err fault) = (outcomes : List Outcome) ×
     (deeds ≡ exchanges inquiry.Status outcomes) × (length outcomes ≡ count) ×
     (list_all lacks_status outcomes ≡ true) × (fault ≡ not_asked 0 (first_fault outcomes))
 
--- What the first host answers is written.
+-- ---- whether all is lost
+
+-- the last line of a text that tells it, and the end of the line before it
+abbrev pub lost_line : List ℕ
+lost_line = 10 ∷ 108 ∷ 111 ∷ 115 ∷ 116 ∷ 10 ∷ []
+
+abbrev pub tells_lost : List ℕ → Bool
+tells_lost text = ends_with nat_eq text lost_line
+
+abbrev pub without_lost : List ℕ → List ℕ
+without_lost text = take (length text - 5) text
+
+-- how many hosts answer, of one
+abbrev pub count_of : Result (List ℕ) NoAnswer → ℕ
+count_of (Ok text) = 1
+count_of (Err fault) = 0
+
+-- the host answers, and does not tell it
+abbrev pub denies_lost : Result (List ℕ) NoAnswer → Bool
+denies_lost (Ok text) = not (tells_lost text)
+denies_lost (Err fault) = false
+
+abbrev pub is_confirmed : ℕ → ℕ → Bool → Bool
+is_confirmed count answered denied = not denied && nat_lt (count / 2) answered
+
+abbrev pub answer_count : Outcome → ℕ
+answer_count outcome = count_of (status_of outcome)
+
+abbrev pub is_denied : Outcome → Bool
+is_denied outcome = denies_lost (status_of outcome)
+
+-- All hosts were asked. It is confirmed where a majority answers, and all that do tell it.
+abbrev pub Confirms : ℕ → List Deed → Bool → Type 0
+Confirms count deeds confirmed = (outcomes : List Outcome) × (deeds ≡ exchanges inquiry.Status outcomes) × (length outcomes ≡ count) ×
+    (confirmed ≡ is_confirmed count (sum_by answer_count outcomes) (list_any is_denied outcomes))
+
+-- What is told where the first host that answers tells this text. That all is lost is told only where it is confirmed.
+abbrev pub ShowsLost : ℕ → List ℕ → List Deed → List ℕ → Type 0
+ShowsLost count text deeds shown = (confirmed : Bool) × Confirms count deeds confirmed × (shown ≡ (if confirmed then text else without_lost text))
+
+abbrev pub ShowsIf : Bool → ℕ → List ℕ → List Deed → List ℕ → Type 0
+ShowsIf true count text deeds shown = ShowsLost count text deeds shown
+ShowsIf false count text deeds shown = (deeds ≡ []) × (shown ≡ text)
+
+abbrev pub Shows : ℕ → List ℕ → List Deed → List ℕ → Type 0
+Shows count text deeds shown = ShowsIf (tells_lost text) count text deeds shown
+
+abbrev pub ShowsOk : ℕ → List ℕ → List Deed → Result (List ℕ) CommandFault → Type 0
+ShowsOk count text deeds (Ok shown) = Shows count text deeds shown
+ShowsOk count text deeds (Err fault) = ⊥
+
+-- what the first host tells that answers, if that is so
+abbrev pub TellsOf : ℕ → List Deed → Result (List ℕ) CommandFault → Type 0
+TellsOf count = Then (FirstAnswers count) (ShowsOk count)
+
+-- That is written.
 abbrev pub TellsStatus : ℕ → List Deed → (before now : Option (List ℕ)) → Result (Unit {0}) CommandFault → Type 0
-TellsStatus count deeds before now result = (told : Result (List ℕ) CommandFault) × FirstAnswers count deeds told × Writes told before now result
+TellsStatus count deeds before now result = (told : Result (List ℕ) CommandFault) × TellsOf count deeds told × Writes told before now result

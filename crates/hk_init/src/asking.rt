@@ -4,7 +4,7 @@ ghost use Rattle.std.specs.Prelude.{List, [], ◌∷◌, Option, None};
 ghost use Rattle.hk_inside.specs.Messages.{IsInquiryInRange};
 ghost use Rattle.hk_init.specs.Deeds.{Deed, Does};
 
-use crate::fault::AskFault;
+use crate::fault::NoAnswer;
 use hk_inside::{Inquiry, Response};
 
 /// Asks the managers of a group's hosts, over whatever connects to them; it reads a clock, and rests between.
@@ -13,7 +13,7 @@ pub trait AskHost {
     ghost deeds: { Self → Option (List Deed) } = { λ _. None };
 
     /// Asks the manager of the host of this place, counted from 0, and waits for what it answers.
-    fn ask(&mut self, place: usize, inquiry: &Inquiry) -> Result<Response, AskFault>
+    fn ask(&mut self, place: usize, inquiry: &Inquiry) -> Result<Response, NoAnswer>
         requires { IsInquiryInRange inquiry.now }
         ensures { Does (deeds self.old) (deeds self.new) (Deed.Exchange place inquiry.now result ∷ []) };
 

@@ -1,15 +1,15 @@
 //! The commands.
 
-ghost use Rattle.std.specs.Prelude.{◌≡◌, ◌≤◌, ◌==◌, if◌then◌else◌, List, [], ◌∷◌, length, Ok, Err};
+ghost use Rattle.std.specs.Prelude.{◌≡◌, ◌≤◌, ◌==◌, ◌||◌, if◌then◌else◌, List, [], ◌∷◌, length, Ok, Err};
 ghost use Rattle.hk_outside.specs.Causes.{Rose};
 ghost use Rattle.hk_inside.specs.Messages.{IsInquiryInRange};
 ghost use Rattle.hk_inside.specs.declared.inquiry.Inquiry.TheVariants.{Status as StatusOf};
 ghost use Rattle.hk_init.specs.Deeds.{Did, Asked};
 ghost use Rattle.hk_init.specs.Phases.{Founds, Opens};
-ghost use Rattle.hk_init.specs.Init.{Then, IsAgreed, IsFounding, Writes, Inits, status_in, status_of, FirstAnswers, TellsStatus};
+ghost use Rattle.hk_init.specs.Init.{Then, IsAgreed, IsFounding, Writes, Inits, status_in, status_of, FirstAnswers, tells_lost, without_lost, count_of, denies_lost, is_confirmed, Confirms, ShowsLost, Shows, TellsOf, TellsStatus};
 
 use crate::asking::AskHost;
-use crate::fault::{AskFault, CommandFault};
+use crate::fault::{CommandFault, NoAnswer};
 use crate::founds::found_all;
 use crate::lines::{founded_line, open_words};
 use crate::looks::{agreed, look_at_all};
@@ -108,28 +108,34 @@ pub fn init<A: AskHost, K: Sink>(
     write(sink, &line)
 }
 
+// The last line of a text that tells that all is lost, and the end of the line before it.
+const LOST_LINE: &[u8] = b"\nlost\n";
+
+// The length of the last line alone.
+const LOST_LEN: usize = 5;
+
 // The text of an answer to STATUS.
-fn status_in(response: Response) -> Result<Sequence<u8>, AskFault>
+fn status_in(response: Response) -> Result<Sequence<u8>, NoAnswer>
     ensures { result ≡ status_in response }
 {
     match response {
         Response::Status(text) => Ok(text),
-        Response::Yes => Err(AskFault::Silent),
-        Response::No { code: _, text: _ } => Err(AskFault::Silent),
-        Response::State(_) => Err(AskFault::Silent),
-        Response::Board(_) => Err(AskFault::Silent),
-        Response::Seated(_) => Err(AskFault::Silent),
+        Response::Yes => Err(NoAnswer::Silent),
+        Response::No { code: _, text: _ } => Err(NoAnswer::Silent),
+        Response::State(_) => Err(NoAnswer::Silent),
+        Response::Board(_) => Err(NoAnswer::Silent),
+        Response::Seated(_) => Err(NoAnswer::Silent),
     }
 }
 
-fn ask_status<A: AskHost>(asker: &mut A, place: usize) -> Result<Sequence<u8>, AskFault>
+fn ask_status<A: AskHost>(asker: &mut A, place: usize) -> Result<Sequence<u8>, NoAnswer>
     ensures { Asked (A.deeds asker.old) (A.deeds asker.new) place StatusOf (λ outcome. result ≡ status_of outcome) }
 {
     status_in(asker.ask(place, &Inquiry::Status)?)
 }
 
 // Of two faults that of host 0, where the second is that of the host of this place.
-fn earlier(place: usize, first: AskFault, fault: AskFault) -> AskFault
+fn earlier(place: usize, first: NoAnswer, fault: NoAnswer) -> NoAnswer
     ensures { result ≡ (if place == 0 then fault else first) }
 {
     if place == 0 { fault } else { first }
@@ -139,7 +145,7 @@ fn earlier(place: usize, first: AskFault, fault: AskFault) -> AskFault
 fn first_status<A: AskHost>(asker: &mut A, count: usize) -> Result<Sequence<u8>, CommandFault>
     ensures { Did (A.deeds asker.old) (A.deeds asker.new) (λ deeds. FirstAnswers count deeds result) }
 {
-    let mut first = AskFault::Silent;
+    let mut first = NoAnswer::Silent;
     for place in 0..count {
         match ask_status(asker, place) {
             Ok(text) => return Ok(text),
@@ -149,7 +155,100 @@ fn first_status<A: AskHost>(asker: &mut A, count: usize) -> Result<Sequence<u8>,
     Err(CommandFault::of_ask(0, first))
 }
 
-/// Writes how a group of so many hosts stands, as the first of them tells that answers.
+// Whether a text tells that all is lost: that is its last line.
+fn tells_lost(text: &[u8]) -> bool
+    ensures { result ≡ tells_lost text.now }
+{
+    text.ends_with(LOST_LINE)
+}
+
+// The text without its last line, if that tells that all is lost.
+fn without_lost(text: Sequence<u8>) -> Sequence<u8>
+    ensures { result ≡ without_lost text }
+{
+    let mut text = text.into_vec();
+    text.truncate(text.len().saturating_sub(LOST_LEN));
+    Sequence::from_vec(text)
+}
+
+// How many hosts answer, of one.
+fn count_of(told: &Result<Sequence<u8>, NoAnswer>) -> usize
+    ensures exact { result ≡ count_of told.now }
+    ensures few { result ≤ 1 }
+{
+    match told {
+        Ok(_) => 1,
+        Err(_) => 0,
+    }
+}
+
+// Whether a host answers, and does not tell that all is lost.
+fn denies_lost(told: &Result<Sequence<u8>, NoAnswer>) -> bool
+    ensures { result ≡ denies_lost told.now }
+{
+    match told {
+        Ok(text) => !tells_lost(text.as_slice()),
+        Err(_) => false,
+    }
+}
+
+fn one_of(one: bool, other: bool) -> bool
+    ensures { result ≡ (one || other) }
+{
+    one || other
+}
+
+fn is_confirmed(count: usize, answered: usize, denied: bool) -> bool
+    ensures { result ≡ is_confirmed count answered denied }
+{
+    !denied && count / 2 < answered
+}
+
+// Asks all hosts, and tells whether a majority of them answers, and all of these tell that all is lost.
+fn confirm_lost<A: AskHost>(asker: &mut A, count: usize) -> bool
+    ensures { Did (A.deeds asker.old) (A.deeds asker.new) (λ deeds. Confirms count deeds result) }
+{
+    let mut answered = 0;
+    let mut denied = false;
+    for place in 0..count {
+        let told = ask_status(asker, place);
+        answered += count_of(&told);
+        denied = one_of(denied, denies_lost(&told));
+    }
+    is_confirmed(count, answered, denied)
+}
+
+// What is told of a group of which the first host that answers tells that all is lost.
+fn shown_lost<A: AskHost>(asker: &mut A, count: usize, text: Sequence<u8>) -> Sequence<u8>
+    ensures { Did (A.deeds asker.old) (A.deeds asker.new) (λ deeds. ShowsLost count text deeds result) }
+{
+    if confirm_lost(asker, count) {
+        text
+    } else {
+        without_lost(text)
+    }
+}
+
+// What is told of a group of which the first host that answers tells this.
+fn shown<A: AskHost>(asker: &mut A, count: usize, text: Sequence<u8>) -> Sequence<u8>
+    ensures { Did (A.deeds asker.old) (A.deeds asker.new) (λ deeds. Shows count text deeds result) }
+{
+    if tells_lost(text.as_slice()) {
+        shown_lost(asker, count, text)
+    } else {
+        text
+    }
+}
+
+fn group_status<A: AskHost>(asker: &mut A, count: usize) -> Result<Sequence<u8>, CommandFault>
+    ensures { Did (A.deeds asker.old) (A.deeds asker.new) (λ deeds. TellsOf count deeds result) }
+{
+    let text = first_status(asker, count)?;
+    Ok(shown(asker, count, text))
+}
+
+/// Writes how a group of so many hosts stands, as the first of them tells that answers. That all is lost is written only where
+/// a majority of them answers, and all of these tell it.
 pub fn status<A: AskHost, K: Sink>(
     asker: &mut A,
     count: usize,
@@ -158,6 +257,6 @@ pub fn status<A: AskHost, K: Sink>(
     ensures does { Did (A.deeds asker.old) (A.deeds asker.new) (λ deeds. TellsStatus count deeds (K.held sink.old) (K.held sink.new) result) }
     ensures failed { result ≡ Err CommandFault.WriteFault → Rose (K.faults sink.old) (K.faults sink.new) }
 {
-    let text = first_status(asker, count)?;
+    let text = group_status(asker, count)?;
     write(sink, text.as_slice())
 }

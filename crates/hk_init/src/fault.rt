@@ -9,7 +9,7 @@ use thiserror::Error;
 
 /// Why the manager of a host told no answer.
 #[derive(Clone, Copy, Debug, PartialEq, Eq, Error)]
-pub enum AskFault {
+pub enum NoAnswer {
     /// An allocation was refused.
     #[error("no memory")]
     Memory,
@@ -64,13 +64,13 @@ impl CommandFault {
     }
 
     // Why a command ends where the host of a place told no answer.
-    pub(crate) fn of_ask(place: usize, fault: AskFault) -> CommandFault
+    pub(crate) fn of_ask(place: usize, fault: NoAnswer) -> CommandFault
         ensures { result ≡ not_asked place fault }
     {
         match fault {
-            AskFault::Memory => CommandFault::Memory,
-            AskFault::Silent => CommandFault::Unreachable { place },
-            AskFault::Refused(reason) => CommandFault::Denied { place, reason },
+            NoAnswer::Memory => CommandFault::Memory,
+            NoAnswer::Silent => CommandFault::Unreachable { place },
+            NoAnswer::Refused(reason) => CommandFault::Denied { place, reason },
         }
     }
 }

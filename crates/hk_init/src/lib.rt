@@ -3,7 +3,8 @@
 //! [`init`] founds a group: it asks each host to LOOK, and where all managers are reserved for its founding it sends FOUND
 //! to each with the tickets that they told, within 5 s of the first LOOK. Then it asks them for STATUS, round by round,
 //! until in one round all tell that they are open. To LOOK again would reserve them, and so keep them from opening.
-//! [`status`] writes what the first host tells that answers. Both run over an [`AskHost`], which asks the manager of the
+//! [`status`] writes what the first host tells that answers; that all is lost it writes only where a majority of the hosts
+//! answers, and all of these tell it. Both run over an [`AskHost`], which asks the manager of the
 //! host of a place, reads a clock and rests.
 //!
 //! What is proved is said of what a command did and was told, in order (`specs/Deeds.antt`). `specs/Init.antt` says by
@@ -33,7 +34,7 @@ mod texts;
 
 pub use asking::AskHost;
 pub use command::{init, status};
-pub use fault::{AskFault, CommandFault};
+pub use fault::{CommandFault, NoAnswer};
 pub use founds::FOUND_WITHIN;
 pub use laws::foundings_are_of_what_was_reserved;
 pub use opens::{REST, ROUNDS};

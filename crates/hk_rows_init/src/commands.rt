@@ -266,3 +266,31 @@ fn status_is_that_of_the_first_that_answers(rt: HostRuntime) {
     let text = told(alloc, &hosts, &mut group).expect(&rt, "memory");
     assert!(rt; text.as_slice() == b"a:11400 does not answer".as_slice());
 }
+
+// Whether `status` tells that all is lost.
+fn is_lost(rt: &impl Abort, alloc: Global, hosts: &Hosts, group: &mut FakeGroup) -> bool {
+    let text = told(alloc, hosts, group).expect(rt, "memory");
+    let first = "group g founding=0000000000000000 stage=empty lease=1000 skew=10\n";
+    let lost = text.as_slice().ends_with(b"\nlost\n");
+    let len = first.len();
+    assert_eq!(rt; text.len(), if lost { len + 5 } else { len });
+    assert!(rt; text.as_slice().starts_with(first.as_bytes()));
+    lost
+}
+
+#[test]
+fn all_is_lost_where_a_majority_tells_it_and_nobody_denies_it(rt: HostRuntime) {
+    let alloc = rt.alloc();
+    let hosts = hosts(&rt, alloc);
+    let mut group = FakeGroup::new(alloc);
+    group.managers[0].tells_lost = true;
+    assert!(rt; !is_lost(&rt, alloc, &hosts, &mut group));
+    group.managers[1].tells_lost = true;
+    assert!(rt; !is_lost(&rt, alloc, &hosts, &mut group));
+    group.managers[2].tells_lost = true;
+    assert!(rt; is_lost(&rt, alloc, &hosts, &mut group));
+    group.managers[1].is_up = false;
+    assert!(rt; is_lost(&rt, alloc, &hosts, &mut group));
+    group.managers[2].is_up = false;
+    assert!(rt; !is_lost(&rt, alloc, &hosts, &mut group));
+}

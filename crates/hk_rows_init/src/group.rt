@@ -2,7 +2,7 @@
 
 use hk_base::{Memory, Sequence};
 use hk_fields::Ticket;
-use hk_init::{AskFault, AskHost};
+use hk_init::{AskHost, NoAnswer};
 use hk_inside::{HostTickets, Inquiry, ManagerState, Response, Stage as ShownStage};
 use hk_stage::{Board, Opening, Stage, StageAnswer, StageEvent};
 use std::alloc::Global;
@@ -16,6 +16,8 @@ pub struct FakeManager {
     pub lease: u32,
     /// Whether the node of its host waits.
     pub node_waits: bool,
+    /// Whether it tells that all is lost.
+    pub tells_lost: bool,
 }
 
 /// Three managers that tell each other their boards while whoever asks rests.
@@ -41,6 +43,7 @@ fn make_manager(place: u8) -> FakeManager {
         is_up: true,
         lease: 1_000,
         node_waits: true,
+        tells_lost: false,
     }
 }
 
@@ -94,8 +97,9 @@ fn status_of(alloc: Global, manager: &FakeManager) -> Result<Sequence<u8>, Memor
     let stage = manager.opening.stage;
     let founding = founding_of(stage);
     let word = word_of(stage);
+    let last = if manager.tells_lost { "lost\n" } else { "" };
     let text = format!(in alloc;
-        "group g founding={founding:016x} stage={word} lease=1000 skew=10\n"
+        "group g founding={founding:016x} stage={word} lease=1000 skew=10\n{last}"
     )?;
     let bytes = text.as_bytes().to_vec(alloc)?;
     Ok(Sequence::from_vec(bytes))
@@ -106,23 +110,23 @@ fn response_of(
     place: usize,
     manager: &FakeManager,
     answer: Option<StageAnswer>,
-) -> Result<Response, AskFault> {
+) -> Result<Response, NoAnswer> {
     match answer {
         Some(StageAnswer::State(stage)) => Ok(Response::State(state_of(place, manager, stage))),
         Some(StageAnswer::Yes) => Ok(Response::Yes),
         Some(StageAnswer::No(refusal)) => {
             let Ok(text) = format!(in alloc; "{refusal}") else {
-                return Err(AskFault::Memory);
+                return Err(NoAnswer::Memory);
             };
             let Ok(bytes) = text.as_bytes().to_vec(alloc) else {
-                return Err(AskFault::Memory);
+                return Err(NoAnswer::Memory);
             };
             Ok(Response::No {
                 code: refusal.code(),
                 text: Sequence::from_vec(bytes),
             })
         }
-        None => Err(AskFault::Silent),
+        None => Err(NoAnswer::Silent),
     }
 }
 
@@ -199,9 +203,9 @@ impl FakeGroup {
         (these, others)
     }
 
-    fn told(&mut self, place: usize, inquiry: &Inquiry) -> Result<Response, AskFault> {
+    fn told(&mut self, place: usize, inquiry: &Inquiry) -> Result<Response, NoAnswer> {
         if place >= 3 || !self.managers[place].is_up {
-            return Err(AskFault::Silent);
+            return Err(NoAnswer::Silent);
         }
         let alloc = self.alloc;
         let answer = match inquiry {
@@ -210,7 +214,7 @@ impl FakeGroup {
             Inquiry::Status => {
                 return match status_of(alloc, &self.managers[place]) {
                     Ok(text) => Ok(Response::Status(text)),
-                    Err(_) => Err(AskFault::Memory),
+                    Err(_) => Err(NoAnswer::Memory),
                 };
             }
             _ => None,
@@ -220,7 +224,7 @@ impl FakeGroup {
 }
 
 impl AskHost for FakeGroup {
-    fn ask(&mut self, place: usize, inquiry: &Inquiry) -> Result<Response, AskFault> {
+    fn ask(&mut self, place: usize, inquiry: &Inquiry) -> Result<Response, NoAnswer> {
         self.now = self.now.saturating_add(self.pause);
         if let Some((number, founding)) = self.rival {
             if number == self.asks {
@@ -228,7 +232,7 @@ impl AskHost for FakeGroup {
             }
         }
         if self.asks >= self.cut {
-            return Err(AskFault::Silent);
+            return Err(NoAnswer::Silent);
         }
         self.asks = self.asks.saturating_add(1);
         self.told(place, inquiry)
