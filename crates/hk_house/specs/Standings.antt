@@ -17,8 +17,13 @@ use Rattle.hk_inside.specs.declared.report.NodeState.TheVariants.{Waiting}
 use Rattle.hk_roll.specs.Boards.{same_ticket}
 use Rattle.hk_boards.specs.Holders.{holder, address_of}
 use Rattle.hk_house.specs.declared.identity.Identity.{Identity}
+use Rattle.hk_house.specs.declared.standing.ShardsSeen.{ShardsSeen}
 use Rattle.hk_house.specs.declared.standing.Standing.{Standing}
 use Rattle.hk_host_words.specs.declared.words.TheConstants.{INSIDE_PORT}
+
+-- there is no node whose shards could be seen
+abbrev pub none_seen : ShardsSeen
+none_seen = record { ready = 0; least_epoch = 0; lease_end = 0 }
 
 -- nothing was heard yet, in a group with so many managers
 pub record IsNew (managers : ℕ) (s : Standing) : Type 0 where
@@ -26,8 +31,10 @@ pub record IsNew (managers : ℕ) (s : Standing) : Type 0 where
   pub manager : s.manager ≡ None
   pub roll : s.managers ≡ replicate 9 None
   pub records : s.records ≡ 0
+  pub whole : s.lost_tail ≡ None
   pub node : s.node ≡ None
   pub state : s.state ≡ Waiting
+  pub shards : s.shards ≡ none_seen
   pub boards : s.boards ≡ replicate managers None
 
 -- ---- who is at this process

@@ -16,15 +16,6 @@ use hk_link::Outlet;
 use std::alloc::Global;
 use std::sync::{Arc, Mutex, Wait};
 
-/// The outlets to the actors of a process, which are split for each connection that brings letters.
-#[derive(Drop)]
-pub struct Entrances {
-    /// That of its manager, once this is open.
-    pub manager: Option<Outlet>,
-    /// That of its node, once this has a number.
-    pub node: Option<Outlet>,
-}
-
 /// What the threads of a process share.
 #[derive(Drop)]
 pub struct House<R: Wait + Drop, C: Drop> {
@@ -35,18 +26,10 @@ pub struct House<R: Wait + Drop, C: Drop> {
     pub identity: Identity,
     /// What it has come to know.
     pub standing: Mutex<Standing>,
-    /// Where letters go in.
-    pub entrances: Mutex<Entrances>,
+    /// Where letters to its manager go in, once this is open. It is split for each connection that brings some.
+    pub manager: Mutex<Option<Outlet>>,
     /// What comes to the loop of its manager.
     pub inbox: Inbox,
-}
-
-// One outlet more.
-fn split(outlet: &mut Option<Outlet>) -> Option<Outlet> {
-    match outlet {
-        Some(outlet) => outlet.split().ok(),
-        None => None,
-    }
 }
 
 impl<R: Wait + Drop, C: Drop> House<R, C> {
@@ -83,14 +66,13 @@ impl<R: Wait + Drop, C: Drop> House<R, C> {
         standing.address_of(self.alloc, &self.identity, actor)
     }
 
-    /// One outlet more to the manager, or to the node, of this process, if it takes letters and there is memory for it. Which
-    /// place or number it has is for [`House::look_up`] to tell.
-    pub fn outlet_to(&self, actor: Actor) -> Option<Outlet> {
-        let mut guard = self.entrances.lock(&self.rt);
-        let entrances = &mut *guard;
-        match actor {
-            Actor::Manager(_) => split(&mut entrances.manager),
-            Actor::Node(_) => split(&mut entrances.node),
+    /// One outlet more to the manager of this process, if it takes letters and there is memory for it. Which place it has is for
+    /// [`House::look_up`] to tell.
+    pub fn manager_outlet(&self) -> Option<Outlet> {
+        let mut guard = self.manager.lock(&self.rt);
+        match &mut *guard {
+            Some(outlet) => outlet.split().ok(),
+            None => None,
         }
     }
 

@@ -3,7 +3,7 @@
 //! A process is a node and, on a host that has one, a manager. Many threads serve it: some take connections and letters,
 //! some report to the managers and hear their boards, one is the manager's loop. In a [`House`] they share what the
 //! process is ([`Identity`], which does not change), what it has come to know ([`Standing`], under a lock), where letters
-//! go in ([`Entrances`], under another one) and what waits for the manager's loop ([`Inbox`]).
+//! to its manager go in (under another one) and what waits for the manager's loop ([`Inbox`]).
 //!
 //! Whom the process knows: itself, since its manager takes requests at every stage and letters once it is open, and its
 //! node takes letters once it has a number; managers by the roll of its own manager, once that is open; nodes by what the
@@ -14,8 +14,8 @@
 //! them if it has a manager, and that its addresses stand in a message: so each hello of it is in range, and is exactly
 //! the one that was asked for. What a standing tells of actors is that of the definitions in `specs/Standings.antt`,
 //! exactly: own tickets, what a hello is judged by, addresses. Behind the lock it is that of some standing, as another
-//! thread may change it at any moment. At most 1,024 wait in an inbox, in their order. A refusal is told again a minute
-//! later at the soonest.
+//! thread may change it at any moment. At most 1,024 wait in an inbox, in their order. A refusal is to be told
+//! exactly where for a lease nothing but refusals came, and none was told within a minute (`specs/Notices.antt`).
 //!
 //! Its caller owes, with each board that it has a standing hear, the place of the manager that sent it.
 //!
@@ -33,10 +33,10 @@ mod resting;
 mod standing;
 mod terms;
 
-pub use house::{Entrances, House};
+pub use house::House;
 pub use identity::Identity;
 pub use inbox::{Coming, Inbox, Slot};
 pub use making::{IdentityFault, digest_of};
 pub use notices::{Told, tell_log_ended, tell_open, tell_ready, tell_refused};
 pub use resting::rest;
-pub use standing::{Standing, copy_of};
+pub use standing::{LostTail, ShardsSeen, Standing, copy_of};

@@ -1,7 +1,7 @@
 //! What a process has come to know of its group.
 
 ghost use Rattle.std.specs.Prelude.{◌≡◌, ◌≤◌, IfOk, IfSome};
-ghost use Rattle.hk_house.specs.Standings.{IsNew, is_place, is_number, own_ticket, takes, is_here, bound, bound_party, is_another, look_up, IsReached, IsNodeReached};
+ghost use Rattle.hk_house.specs.Standings.{none_seen, IsNew, is_place, is_number, own_ticket, takes, is_here, bound, bound_party, is_another, look_up, IsReached, IsNodeReached};
 
 use crate::identity::Identity;
 use hk_base::{Actor, Memory, NodeId, Sequence};
@@ -12,6 +12,43 @@ use hk_host_words::INSIDE_PORT;
 use hk_hosts::{Address, read_address};
 use hk_inside::NodeState;
 use std::alloc::Global;
+use thiserror::Error;
+
+/// The log of a process's manager has fewer records than it once told: what it promised by the others is lost.
+#[derive(Clone, Copy, Debug, PartialEq, Eq, Error)]
+#[error("lost its tail: {records} records, manager {place} was told {told}")]
+pub struct LostTail {
+    /// How many records it has.
+    pub records: u64,
+    /// The place of the manager that was told more.
+    pub place: u8,
+    /// How many that one was told.
+    pub told: u64,
+}
+
+/// How the shards of a process's node stand, as they were seen last.
+#[derive(Clone, Copy, Debug, PartialEq, Eq)]
+pub struct ShardsSeen {
+    /// How many of the eight are ready.
+    pub ready: u8,
+    /// The least epoch of the views that they have, 0 before its node has any.
+    pub least_epoch: u64,
+    /// The reading of the process's clock, in milliseconds, at which the first of their leases ends. It is 0 before its node has any.
+    pub lease_end: u64,
+}
+
+impl ShardsSeen {
+    /// There is no node yet.
+    pub fn none() -> ShardsSeen
+        ensures { result ≡ none_seen }
+    {
+        ShardsSeen {
+            ready: 0,
+            least_epoch: 0,
+            lease_end: 0,
+        }
+    }
+}
 
 /// How the process stands in its group.
 #[derive(Drop)]
@@ -24,10 +61,14 @@ pub struct Standing {
     pub managers: [Option<Ticket>; 9],
     /// How many records the log of its manager has.
     pub records: u64,
+    /// What shows that this log lost records, if anything does.
+    pub lost_tail: Option<LostTail>,
     /// The number of its node, if it has one.
     pub node: Option<NodeId>,
     /// How its node stands.
     pub state: NodeState,
+    /// How the shards of its node stand.
+    pub shards: ShardsSeen,
     /// What the managers told last.
     pub boards: Boards,
 }
@@ -71,8 +112,10 @@ impl Standing {
             manager: None,
             managers: [None; 9],
             records: 0,
+            lost_tail: None,
             node: None,
             state: NodeState::Waiting,
+            shards: ShardsSeen::none(),
             boards: Boards::new(alloc, managers)?,
         })
     }

@@ -3,13 +3,13 @@
 use crate::outside::{OWN, second};
 use crate::standings::{OWN_MANAGER, open};
 use hk_base::{Actor, NodeId};
-use hk_house::{Entrances, House, Inbox};
+use hk_house::{House, Inbox};
 use hk_link::link;
 use std::alloc::Global;
 use std::process::Abort;
 use std::sync::{Arc, Mutex, Wait};
 
-// The second host's process, whose manager alone takes letters.
+// The second host's process, whose manager takes letters.
 fn house<R: Wait + Abort + Copy + Drop>(rt: R, alloc: Global) -> House<R, u8> {
     let inbox = Inbox::new(alloc).expect(&rt, "memory");
     let (outlet, _) = link(alloc, 4).expect(&rt, "memory");
@@ -19,10 +19,7 @@ fn house<R: Wait + Abort + Copy + Drop>(rt: R, alloc: Global) -> House<R, u8> {
         clock: Arc::new(alloc, 0).expect(&rt, "memory"),
         identity: second(&rt, alloc, 1_000),
         standing: Mutex::new(open(&rt, alloc)),
-        entrances: Mutex::new(Entrances {
-            manager: Some(outlet),
-            node: None,
-        }),
+        manager: Mutex::new(Some(outlet)),
         inbox,
     }
 }
@@ -35,8 +32,7 @@ fn a_process_tells_who_is_here(rt: HostRuntime) {
     assert_eq!(rt; house.own_ticket(Actor::Manager(0)), None);
     assert_eq!(rt; house.own_ticket(Actor::Node(NodeId(1))), Some(OWN));
     assert_eq!(rt; house.own_ticket(Actor::Node(NodeId(0))), None);
-    assert!(rt; house.outlet_to(Actor::Manager(1)).is_some());
-    assert!(rt; house.outlet_to(Actor::Node(NodeId(1))).is_none());
+    assert!(rt; house.manager_outlet().is_some());
 }
 
 #[test]

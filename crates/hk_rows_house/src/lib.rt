@@ -1,4 +1,5 @@
-//! The tests of what the threads of a process share: what it is, whom it knows, and what waits for its manager.
+//! The tests of what the threads of a process share: what it is, whom it knows, what waits for its manager, and when
+//! a refusal is told.
 #![tactic(auto)]
 
 #[cfg(test)]
@@ -7,6 +8,8 @@ mod houses;
 mod identities;
 #[cfg(test)]
 mod inboxes;
+#[cfg(test)]
+mod notices;
 #[cfg(test)]
 mod outside;
 #[cfg(test)]
