@@ -4,3 +4,5 @@ pub mod Dialled
 pub mod Sending
 pub mod Asking
 pub mod Answering
+pub mod Reporting
+pub mod Callers

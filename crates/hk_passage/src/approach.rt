@@ -118,7 +118,34 @@ impl Approach {
         call_of(house, speaker, self.to)
     }
 
-    /// Greets whoever accepted a connection that was dialled. The operator is told of a refusal, once a minute.
+    /// Nobody was reached.
+    pub fn unreached(&mut self)
+        ensures to { self.new.to ≡ self.old.to }
+        ensures retry { self.new.retry ≡ self.old.retry }
+    {
+        self.told.taken();
+    }
+
+    // The operator is told of a refusal that has lasted for a lease, once a minute.
+    fn note<R: Wait + Eprint + Drop, C: Clock + Drop>(
+        &mut self,
+        house: &House<R, C>,
+        knocked: &Result<(), KnockFault>,
+    )
+        ensures to { self.new.to ≡ self.old.to }
+        ensures retry { self.new.retry ≡ self.old.retry }
+    {
+        let Err(KnockFault::Refused(refusal)) = knocked else {
+            self.told.taken();
+            return;
+        };
+        let now = house.clock.now();
+        if self.told.refused(house.identity.lease, now) {
+            tell_refused(&house.rt, self.to, *refusal);
+        }
+    }
+
+    /// Greets whoever accepted a connection that was dialled.
     pub fn greet<R: Wait + Eprint + Drop, C: Clock + Drop, N: Patient>(
         &mut self,
         house: &House<R, C>,
@@ -132,10 +159,7 @@ impl Approach {
     {
         let secret = house.identity.secret.as_slice();
         let knocked = knock(house.alloc, &*house.clock, conn, secret, hello);
-        if let Err(KnockFault::Refused(refusal)) = &knocked {
-            let now = house.clock.now();
-            tell_refused(&house.rt, &mut self.told, now, self.to, *refusal);
-        }
+        self.note(house, &knocked);
         knocked
     }
 }

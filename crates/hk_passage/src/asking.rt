@@ -110,6 +110,7 @@ impl<R: Wait + Eprint + Drop, C: Clock + Drop, D: DialAt + Drop> AskManager for 
         let speaker = speaker_of(&*self.house);
         let call = self.approach.begin(&*self.house, speaker)?;
         let Ok(dialled) = self.dialer.dial(&call.address, DIAL_MILLIS) else {
+            self.approach.unreached();
             return None;
         };
         let mut conn = Buffered::new(self.house.alloc, dialled);

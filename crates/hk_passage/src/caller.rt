@@ -7,17 +7,19 @@ ghost use Rattle.hk_link.specs.Ends.{IsSameLink};
 ghost use Rattle.hk_peer.specs.Serving.{Serves};
 ghost use Rattle.hk_passage.specs.Answering.{Answers, AreAnswered, EndsBehind};
 
+use crate::callers::{CallerWay, Callers};
+use crate::entry::NodeEntry;
 use crate::ranges::is_in_range;
 use hk_base::Actor;
 use hk_greet::{Buffered, HearFault, RespondFault, admit, next_inquiry, respond};
 use hk_hello::{Challenge, Hello, Party, Purpose};
-use hk_hosts::Patient;
+use hk_hosts::{Ender, Patient};
 use hk_house::{Coming, House, Slot};
 use hk_inside::{Inquiry, Response};
 use hk_link::Outlet;
 use hk_outside::Clock;
-use hk_peer::{Course, PeerEnd, serve_peer};
-use std::sync::{Arc, Wait};
+use hk_peer::{Course, Elsewhere, PeerEnd, serve_peer};
+use std::sync::{Arc, Mutex, Wait};
 use thiserror::Error;
 
 // A connection for requests on which none comes for so many milliseconds is ended.
@@ -25,10 +27,6 @@ const SILENT_REQUESTS: u64 = 10_000;
 
 // And one for letters, of which there may be none for long: that its other end is gone shows nowhere else.
 const SILENT_LETTERS: u64 = 600_000;
-
-/// Held by a connection until its greeting has ended.
-#[derive(Drop)]
-pub struct Greeting;
 
 /// How a connection for requests ends.
 #[derive(Clone, Copy, Debug, PartialEq, Eq, Error)]
@@ -100,7 +98,7 @@ fn answer_requests<R: Wait + Drop, C: Drop, N: Patient>(
     unreachable!()
 }
 
-// Puts the letters of a connection from one actor to another one, to its end.
+// Puts the letters of a connection from one actor to the manager of this process, to its end.
 fn take_letters<R: Wait + Drop, C: Drop, N: Patient>(
     house: &House<R, C>,
     conn: &mut Buffered<N>,
@@ -115,12 +113,37 @@ fn take_letters<R: Wait + Drop, C: Drop, N: Patient>(
         from: Some(from),
         to,
     };
-    serve_peer(&house.rt, house.alloc, conn, course, outlet)
+    serve_peer(&house.rt, house.alloc, conn, course, outlet, &mut Elsewhere)
+}
+
+// Serves a connection for letters, to its end, where this process has the actor to which they go.
+fn serve_letters<R: Wait + Drop, C: Drop, E: NodeEntry, N: Patient>(
+    house: &House<R, C>,
+    entry: &E,
+    conn: &mut Buffered<N>,
+    from: Actor,
+    to: Actor,
+) {
+    match to {
+        Actor::Manager(_) => {
+            if let Some(mut outlet) = house.manager_outlet() {
+                take_letters(house, conn, from, to, &mut outlet);
+            }
+        }
+        Actor::Node(_) => {
+            let course = Course {
+                from: Some(from),
+                to,
+            };
+            entry.serve(conn, course);
+        }
+    }
 }
 
 // Serves a connection whose hello was taken.
-fn serve_welcome<R: Wait + Drop, C: Clock + Drop, N: Patient>(
+fn serve_welcome<R: Wait + Drop, C: Clock + Drop, E: NodeEntry, N: Patient>(
     house: &House<R, C>,
+    entry: &E,
     conn: &mut Buffered<N>,
     hello: &Hello,
 ) {
@@ -132,22 +155,43 @@ fn serve_welcome<R: Wait + Drop, C: Clock + Drop, N: Patient>(
         }
         (Purpose::Letters, Party::Actor(from), Party::Actor(to)) => {
             conn.wait_at_most(SILENT_LETTERS, lease);
-            if let Some(mut outlet) = house.outlet_to(to) {
-                take_letters(house, conn, from, to, &mut outlet);
-            }
+            serve_letters(house, entry, conn, from, to);
         }
         _ => {}
     }
 }
 
-/// Greets who made the connection, and serves it to its end.
-pub fn serve<R: Wait + Drop, C: Clock + Drop, N: Patient + Drop>(
+// Whether the connection of this number is to be served, whose hello was taken. Earlier ones for the same are ended.
+fn is_welcome<R: Wait>(
+    rt: &R,
+    callers: &Mutex<Callers>,
+    number: u64,
+    hello: &Hello,
+    ender: Ender,
+) -> bool {
+    let way = CallerWay {
+        purpose: hello.purpose,
+        from: hello.from,
+        to: hello.to,
+    };
+    let mut guard = callers.lock(rt);
+    let callers = &mut *guard;
+    callers.welcome(number, way, ender).unwrap_or(false)
+}
+
+/// Greets who made the connection of this number, and serves it to its end.
+pub fn serve<R: Wait + Drop, C: Clock + Drop, E: NodeEntry, N: Patient + Drop>(
     house: &House<R, C>,
+    entry: &E,
     challenge: Challenge,
-    greeting: Arc<Greeting>,
+    callers: &Mutex<Callers>,
+    number: u64,
     conn: N,
 ) {
     let Ok(ours) = house.ours() else {
+        return;
+    };
+    let Ok(ender) = conn.ender() else {
         return;
     };
     let mut conn = Buffered::new(house.alloc, conn);
@@ -159,8 +203,10 @@ pub fn serve<R: Wait + Drop, C: Clock + Drop, N: Patient + Drop>(
         &ours,
         house,
     );
-    drop(greeting);
-    if let Ok(hello) = admitted {
-        serve_welcome(house, &mut conn, &hello);
+    let Ok(hello) = admitted else {
+        return;
+    };
+    if is_welcome(&house.rt, callers, number, &hello, ender) {
+        serve_welcome(house, entry, &mut conn, &hello);
     }
 }

@@ -9,10 +9,11 @@
 //! Letters that can't be sent are lost, as those are which a connection had under way when it ended. Whoever is not
 //! reached is tried again behind a pause ([`Retry`]). A connection ends where a write fails or waits for a lease, where
 //! none of its requests came for 10 seconds or no letter for 10 minutes, and where a request has no answer within a lease.
-//! At most 128 connections of others are served at once; more wait until one of these ends. Once 64 greetings are
-//! unfinished a connection that comes is closed.
+//! At most 128 connections of others are served at once; more wait until one of these ends. Where 64 greetings are
+//! unfinished and one more begins, the oldest is ended. A connection whose hello is taken ends the earlier one that has its
+//! purpose, its actor and the actor that it asked for.
 //!
-//! The caller gives a dialer to each passage and asker, open doors, random bytes, and a house whose entrances are those of
+//! The caller gives a dialer to each passage and asker, open doors, random bytes, an entry and a house whose outlet are those of
 //! its own actors. What an [`AskManager`] is asked is an inquiry in range.
 //!
 //! What is proved. [`Retry`] is exact: at once, behind a try in vain after its pause, which doubles up to a second, and
@@ -30,12 +31,15 @@
 //! jobs look at the same moment; that a job goes on, what it reports, and that it keeps the board which it is told; that the
 //! answer to a request is the one which the manager left for it. Of a connection that is dropped no clause of a passage
 //! speaks, since nothing is left of it: that letters are sent behind a welcome alone stands in its steps, as `greet` of
-//! `src/approach.rt` has it. A later connection of the same two actors does not end an earlier one.
+//! `src/approach.rt` has it. Who is ended where a connection begins, or its hello is taken, is exact ([`Callers`]); that ending it
+//! does so no clause says.
 #![tactic(auto)]
 
 mod approach;
 mod asking;
 mod caller;
+mod callers;
+mod entry;
 mod inside;
 mod passage;
 mod ranges;
@@ -43,6 +47,8 @@ mod reporting;
 mod retry;
 
 pub use asking::{AskManager, Asker};
+pub use callers::{CallerWay, Callers};
+pub use entry::NodeEntry;
 pub use inside::{MOST_CALLERS, start_inside};
 pub use passage::Passage;
 pub use reporting::ReportJob;

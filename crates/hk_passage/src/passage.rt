@@ -1,10 +1,10 @@
 //! The way of letters from an actor of this process to another actor.
 
-ghost use Rattle.std.specs.Prelude.{◌≡◌, IfSome, None};
+ghost use Rattle.std.specs.Prelude.{◌≡◌, true, IfSome, None};
 ghost use Rattle.std.specs.Arc.{arc_value};
 ghost use Rattle.hk_peer.specs.Parcels.{frames_of};
 ghost use Rattle.hk_passage.specs.Greeted.{IsOwn, SaysForLetters};
-ghost use Rattle.hk_passage.specs.Sending.{Sent, HasWhole};
+ghost use Rattle.hk_passage.specs.Sending.{Sent, IsWhole, HasWhole};
 ghost use Rattle.hk_passage.specs.Dialled.{Redials};
 
 use crate::approach::{Approach, DIAL_MILLIS, Speaker};
@@ -15,7 +15,7 @@ use hk_hosts::{DialAt, Patient};
 use hk_house::House;
 use hk_link::Parcel;
 use hk_outside::Clock;
-use hk_peer::{Carrier, SendFault, send_parcels};
+use hk_peer::{Carrier, PromptCarrier, Prompted, SendFault, send_parcels};
 use std::alloc::Global;
 use std::io::Eprint;
 use std::sync::{Arc, Wait};
@@ -72,13 +72,26 @@ fn send<N: Patient>(alloc: Global, conn: &mut Buffered<N>, batch: &[Parcel]) -> 
     }
 }
 
+// Has what is kept leave, sends parcels, and has these leave too, as long as a write may wait. Gives whether the connection stays.
+fn send_patiently<N: Patient>(alloc: Global, conn: &mut Buffered<N>, batch: &[Parcel]) -> bool
+    ensures { result ≡ true → IsWhole (frames_of batch.now) conn.old.held conn.new.held }
+{
+    if conn.catch_up().is_err() {
+        return false;
+    }
+    if !send(alloc, conn, batch) {
+        return false;
+    }
+    conn.catch_up().is_ok()
+}
+
 impl<R: Wait + Eprint + Drop, C: Clock + Drop, D: DialAt + Drop> Carrier for Passage<R, C, D> {
     fn forward(&mut self, batch: &[Parcel])
         ensures whole { HasWhole (arc_value self.old.house).identity.secret (SaysForLetters (arc_value self.old.house).identity self.old.from self.old.approach.to) (frames_of batch.now) self.old.conn self.new.conn }
         ensures dials { Redials (arc_value self.old.house).identity self.old.approach.to (λ now. IfSome (C.reading (arc_value (arc_value self.old.house).clock)) (λ time. now ≡ time)) self.old.conn self.new.conn self.old.approach.retry self.new.approach.retry (D.addresses self.old.dialer) (D.addresses self.new.dialer) }
     {
         if let Some(conn) = &mut self.conn {
-            if !send(self.house.alloc, conn, batch) {
+            if !send_patiently(self.house.alloc, conn, batch) {
                 self.conn = None;
             }
             return;
@@ -90,6 +103,7 @@ impl<R: Wait + Eprint + Drop, C: Clock + Drop, D: DialAt + Drop> Carrier for Pas
             return;
         };
         let Ok(dialled) = self.dialer.dial(&call.address, DIAL_MILLIS) else {
+            self.approach.unreached();
             return;
         };
         let mut conn = Buffered::new(self.house.alloc, dialled);
@@ -97,7 +111,8 @@ impl<R: Wait + Eprint + Drop, C: Clock + Drop, D: DialAt + Drop> Carrier for Pas
             return;
         };
         conn.wait_at_most(0, u64::from(self.house.identity.lease));
-        if send(self.house.alloc, &mut conn, batch) {
+        conn.write_promptly();
+        if send_patiently(self.house.alloc, &mut conn, batch) {
             self.approach.retry.went_well();
             self.conn = Some(conn);
         }
@@ -105,5 +120,34 @@ impl<R: Wait + Eprint + Drop, C: Clock + Drop, D: DialAt + Drop> Carrier for Pas
 
     fn is_connected(&self) -> bool {
         self.conn.is_some()
+    }
+}
+
+// Sends parcels on a connection that is there, unless something is kept on it still. Where a frame may have been cut the connection is gone.
+fn send_now<N: Patient + Drop>(
+    alloc: Global,
+    conn: &mut Option<Buffered<N>>,
+    batch: &[Parcel],
+) -> Prompted {
+    let Some(held) = conn else {
+        return Prompted::Unsent;
+    };
+    if held.keeps() {
+        return Prompted::Unsent;
+    }
+    if !send(alloc, held, batch) {
+        *conn = None;
+        return Prompted::Sent;
+    }
+    if held.keeps() {
+        return Prompted::Kept;
+    }
+    Prompted::Sent
+}
+
+impl<R: Wait + Eprint + Drop, C: Clock + Drop, D: DialAt + Drop> PromptCarrier
+    for Passage<R, C, D> {
+    fn forward_now(&mut self, batch: &[Parcel]) -> Prompted {
+        send_now(self.house.alloc, &mut self.conn, batch)
     }
 }

@@ -1,14 +1,17 @@
 //! The job that reports to a manager, and hears its board.
 
-ghost use Rattle.std.specs.Prelude.{◌<◌, ◌≤◌, IfSome, IfOk};
+ghost use Rattle.std.specs.Prelude.{◌≡◌, ◌<◌, ◌≤◌, IfSome, IfOk};
 ghost use Rattle.hk_inside.specs.Parts.{IsReportInRange};
+ghost use Rattle.hk_passage.specs.Reporting.{number_told, manager_told, lease_left, shards_told, none_counted, report_of, IsReport};
 
 use crate::asking::AskManager;
 use hk_base::{Memory, NodeId, Sequence};
 use hk_boards::HeardBoard;
-use hk_house::{Coming, House, rest};
-use hk_inside::{Board, Counts, Inquiry, NodeState, Report, Response, ShardsTold};
+use hk_fields::Ticket;
+use hk_house::{Coming, House, Identity, ShardsSeen, Standing, rest};
+use hk_inside::{Board, Counts, Inquiry, Report, Response, ShardsTold};
 use hk_outside::{Clock, Job};
+use std::alloc::Global;
 use std::sync::{Arc, Wait};
 
 /// Reports to the manager of a host at each beat, and keeps the board that it answers with.
@@ -23,29 +26,47 @@ pub struct ReportJob<R: Wait + Drop, C: Drop, A: Drop> {
 // The greatest number says in a report that there is none.
 const NO_NODE: u16 = u16::MAX;
 
+// The shards of a node.
+const SHARDS: u8 = 8;
+
 // The number as it is reported.
-fn told(node: Option<NodeId>) -> Option<NodeId>
-    ensures { IfSome result (λ node. node.0 < 65535) }
+fn number_told(node: Option<NodeId>) -> Option<NodeId>
+    ensures exact { result ≡ number_told node }
+    ensures range { IfSome result (λ node. node.0 < 65535) }
 {
-    let node = node?;
-    if node.0 < NO_NODE { Some(node) } else { None }
+    match node {
+        Some(node) => { if node.0 < NO_NODE { Some(node) } else { None } }
+        None => None,
+    }
 }
 
-// What a node tells of its shards: a founder's are all ready once it is.
-fn shards_told(state: NodeState) -> ShardsTold
-    ensures { result.ready ≤ 8 }
+// The place of the process's manager, once that is open.
+fn manager_told(manager: Option<Ticket>, place: Option<u8>) -> Option<u8>
+    ensures { result ≡ manager_told manager place }
 {
-    match state {
-        NodeState::Ready => ShardsTold {
-            ready: 8,
-            least_epoch: 1,
-            least_lease_left: 0,
-        },
-        _ => ShardsTold {
-            ready: 0,
-            least_epoch: 0,
-            least_lease_left: 0,
-        },
+    match manager {
+        Some(_) => place,
+        None => None,
+    }
+}
+
+// For how many milliseconds a lease that ends then serves on.
+fn lease_left(end: u64, skew: u32, now: u64) -> u32
+    ensures { result ≡ lease_left end skew now }
+{
+    let left = end.saturating_sub(now.saturating_add(u64::from(skew)));
+    left.min(u64::from(u32::MAX)) as u32
+}
+
+// What a node tells of its shards.
+fn shards_told(seen: ShardsSeen, skew: u32, now: u64) -> ShardsTold
+    ensures exact { result ≡ shards_told seen skew now }
+    ensures range { result.ready ≤ 8 }
+{
+    ShardsTold {
+        ready: seen.ready.min(SHARDS),
+        least_epoch: seen.least_epoch,
+        least_lease_left: lease_left(seen.lease_end, skew, now),
     }
 }
 
@@ -59,31 +80,44 @@ const NONE_COUNTED: Counts = Counts {
     unknown: 0,
 };
 
-// How the process stands now.
-fn report<R: Wait + Drop, C: Drop>(house: &House<R, C>) -> Result<Report, Memory>
-    ensures { IfOk result (λ report. IsReportInRange report) }
+// What a process tells of itself that stands so at a reading.
+fn report_of(
+    alloc: Global,
+    identity: &Identity,
+    standing: &Standing,
+    now: u64,
+) -> Result<Report, Memory>
+    ensures exact { IfOk result (λ report. report ≡ report_of identity.now standing.now now) }
+    ensures range { IfOk result IsReportInRange }
 {
-    let identity = &house.identity;
-    let inside = identity.inside.as_slice().to_vec(house.alloc)?;
-    let clients = identity.clients.as_slice().to_vec(house.alloc)?;
-    let guard = house.standing.lock(&house.rt);
-    let standing = &*guard;
-    let manager = match standing.manager {
-        Some(_) => identity.place,
-        None => None,
-    };
+    let inside = identity.inside.as_slice().to_vec(alloc)?;
+    let clients = identity.clients.as_slice().to_vec(alloc)?;
     Ok(Report {
         ticket: identity.ticket,
-        node: told(standing.node),
+        node: number_told(standing.node),
         state: standing.state,
-        manager,
+        manager: manager_told(standing.manager, identity.place),
         records: standing.records,
-        shards: shards_told(standing.state),
+        shards: shards_told(standing.shards, identity.skew, now),
         counts: NONE_COUNTED,
         inside: Sequence::from_vec(inside),
         clients: Sequence::from_vec(clients),
-        nodes: Sequence::new(house.alloc),
+        nodes: Sequence::new(alloc),
     })
+}
+
+// How the process stands now.
+fn report<R: Wait + Drop, C: Clock + Drop>(house: &House<R, C>) -> Result<Report, Memory>
+    ensures range { IfOk result IsReportInRange }
+    ensures tells { IfOk result (IsReport house.now.identity) }
+{
+    let now = house.clock.now();
+    let guard = house.standing.lock(&house.rt);
+    let standing = &*guard;
+    match report_of(house.alloc, &house.identity, standing, now) {
+        Ok(report) => Ok(report),
+        Err(memory) => Err(memory),
+    }
 }
 
 // Keeps the board of a manager as its last one.
@@ -112,10 +146,10 @@ fn report_to<R: Wait + Drop, C: Clock + Drop, A: AskManager>(
     place: u8,
     asker: &mut A,
 ) {
+    let asked = house.clock.now();
     let Ok(report) = report(house) else {
         return;
     };
-    let asked = house.clock.now();
     if let Some(Response::Board(board)) = asker.ask(&Inquiry::Report(report)) {
         hear(house, place, asked, board);
     }

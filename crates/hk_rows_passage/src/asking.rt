@@ -2,7 +2,6 @@
 
 use crate::outside::{
     FakeDialer, OTHER, Reached, Seen, SetClock, TICKET, dialer, greeting_of, hello, house, joined,
-    shut,
 };
 use hk_base::Actor;
 use hk_hello::{Party, Purpose};
@@ -57,11 +56,7 @@ fn asker<R: Wait + Abort + Copy + Send + Drop + 'static>(
         let somebody = Reached::Somebody { bytes, writes: 9 };
         reached.push_back(somebody).expect(&rt, "memory");
     }
-    Asker::new(
-        house(rt, alloc, shut()),
-        dialer(rt, alloc, seen, reached),
-        1,
-    )
+    Asker::new(house(rt, alloc, None), dialer(rt, alloc, seen, reached), 1)
 }
 
 // Whether it is answered Yes.

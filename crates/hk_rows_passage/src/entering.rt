@@ -1,20 +1,23 @@
 //! Connections that others made.
 
-use crate::outside::{ASKED, OTHER, Seen, SeenConnection, greeting_of, hello, house, joined, shut};
+use crate::outside::{ASKED, OTHER, Seen, SeenConnection, greeting_of, hello, house, joined};
 use hk_accept::LooseSpawner;
-use hk_base::Actor;
+use hk_base::{Actor, NodeId};
 use hk_hello::{Party, Purpose};
 use hk_hosts::FakeRandom;
-use hk_house::{Coming, Entrances, House, rest};
+use hk_house::{Coming, House, rest};
 use hk_inside::Response;
-use hk_link::{Inlet, link};
-use hk_outside::{Clock, MemoryDoors};
-use hk_passage::start_inside;
+use hk_link::{Inlet, Outlet, link};
+use hk_outside::{Clock, MemoryDoors, Source};
+use hk_passage::{NodeEntry, start_inside};
+use hk_peer::{Course, Taker, serve_peer};
 use std::alloc::Global;
 use std::collections::VecDeque;
 use std::io::Eprint;
+use std::mem;
 use std::process::Abort;
-use std::sync::{Arc, Wait};
+use std::sync::atomic::{AtomicU64, Ordering};
+use std::sync::{Arc, Mutex, Wait};
 use std::thread::Threads;
 
 // The letter of manager 1 to manager 0 by which it would acknowledge an update of the key `k`.
@@ -32,11 +35,68 @@ fn letter(epoch: u8, from: u8, to: u8) -> [u8; 42] {
     bytes
 }
 
+// Lets one connection in to the node, and counts how often what it brought was to be taken.
+#[derive(Drop)]
+struct Entry<R: Wait + Drop> {
+    rt: R,
+    alloc: Global,
+    outlet: Mutex<Option<Outlet>>,
+    takes: Arc<AtomicU64>,
+}
+
+#[derive(Drop)]
+struct Takes(Arc<AtomicU64>);
+
+impl Taker for Takes {
+    fn take(&mut self) {
+        self.0.fetch_add(1, Ordering::SeqCst);
+    }
+}
+
+impl<R: Wait + Drop> Entry<R> {
+    fn taken(&self) -> Option<Outlet> {
+        let mut guard = self.outlet.lock(&self.rt);
+        mem::replace(&mut *guard, None)
+    }
+}
+
+impl<R: Wait + Abort + Drop> NodeEntry for Entry<R> {
+    fn serve<N: Source>(&self, conn: &mut N, course: Course) {
+        if let Some(mut outlet) = self.taken() {
+            let mut takes = Takes(Arc::try_clone(&self.takes).expect(&self.rt, "memory"));
+            serve_peer(&self.rt, self.alloc, conn, course, &mut outlet, &mut takes);
+        }
+    }
+}
+
+// The entry of a node to which this outlet leads, if there is one.
+fn new_entry<R: Wait + Abort + Copy + Drop>(
+    rt: R,
+    alloc: Global,
+    outlet: Option<Outlet>,
+) -> Arc<Entry<R>> {
+    let takes = Arc::new(alloc, AtomicU64::new(0)).expect(&rt, "memory");
+    let entry = Entry {
+        rt,
+        alloc,
+        outlet: Mutex::new(outlet),
+        takes,
+    };
+    Arc::new(alloc, entry).expect(&rt, "memory")
+}
+
 // Takes one connection, on which this comes.
 fn enter<
     R: Wait + Threads + Eprint + Abort + Copy + Send + Sync + Drop + 'static,
     C: Clock + Send + Sync + Drop + 'static,
->(rt: R, alloc: Global, house: &Arc<House<R, C>>, seen: &Arc<Seen>, bytes: Vec<u8>) {
+>(
+    rt: R,
+    alloc: Global,
+    house: &Arc<House<R, C>>,
+    entry: &Arc<Entry<R>>,
+    seen: &Arc<Seen>,
+    bytes: Vec<u8>,
+) {
     let seen = Arc::try_clone(seen).expect(&rt, "memory");
     let mut conns = VecDeque::new(alloc);
     conns
@@ -45,7 +105,8 @@ fn enter<
     let drawn = ASKED.0.to_vec(alloc).expect(&rt, "memory");
     let doors = MemoryDoors::new(conns, false);
     let mut spawner = LooseSpawner::new(rt);
-    start_inside(house, doors, FakeRandom::new(drawn), &mut spawner).expect(&rt, "threads");
+    let random = FakeRandom::new(drawn);
+    start_inside(house, entry, doors, random, &mut spawner).expect(&rt, "threads");
 }
 
 // The epoch of the next letter that is put, if one is within some seconds.
@@ -63,11 +124,7 @@ fn next_epoch<R: Wait>(rt: &R, inlet: &mut Inlet) -> Option<u64> {
 fn letters_of_who_greeted_alone_are_put(rt: HostRuntime) {
     let alloc = rt.alloc();
     let (outlet, mut inlet) = link(alloc, 8).expect(&rt, "memory");
-    let entrances = Entrances {
-        manager: Some(outlet),
-        node: None,
-    };
-    let house = house(rt, alloc, entrances);
+    let house = house(rt, alloc, Some(outlet));
     let seen = Arc::new(alloc, Seen::new(alloc)).expect(&rt, "memory");
     let from = Party::Actor(Actor::Manager(1));
     let to = Party::Actor(Actor::Manager(0));
@@ -87,7 +144,7 @@ fn letters_of_who_greeted_alone_are_put(rt: HostRuntime) {
             &letter(4, 1, 0),
         ],
     );
-    enter(rt, alloc, &house, &seen, bytes);
+    enter(rt, alloc, &house, &new_entry(rt, alloc, None), &seen, bytes);
     assert_eq!(rt; next_epoch(&rt, &mut inlet), Some(1));
     assert_eq!(rt; next_epoch(&rt, &mut inlet), Some(4));
     assert!(rt;
@@ -96,6 +153,36 @@ fn letters_of_who_greeted_alone_are_put(rt: HostRuntime) {
             &joined(&rt, alloc, &[&parts.challenge, &parts.welcome])
         )
     );
+}
+
+#[test]
+fn letters_to_the_node_go_in_by_its_entry(rt: HostRuntime) {
+    let alloc = rt.alloc();
+    let (outlet, mut inlet) = link(alloc, 8).expect(&rt, "memory");
+    let house = house(rt, alloc, None);
+    let seen = Arc::new(alloc, Seen::new(alloc)).expect(&rt, "memory");
+    let from = Party::Actor(Actor::Manager(1));
+    let to = Party::Actor(Actor::Node(NodeId(0)));
+    let parts = greeting_of(
+        &rt,
+        alloc,
+        hello(&rt, alloc, Purpose::Letters, from, to, OTHER),
+    );
+    let mut to_node = letter(5, 1, 0);
+    to_node[17] = 0;
+    let bytes = joined(&rt, alloc, &[&parts.dialled, &to_node]);
+    let entry = new_entry(rt, alloc, Some(outlet));
+    enter(rt, alloc, &house, &entry, &seen, bytes);
+    assert_eq!(rt; next_epoch(&rt, &mut inlet), Some(5));
+    let mut takes = 0;
+    for _ in 0..500 {
+        takes = entry.takes.load(Ordering::SeqCst);
+        if takes > 0 {
+            break;
+        }
+        rest(&rt, 10);
+    }
+    assert!(rt; takes > 0);
 }
 
 // Answers the next request, if one comes within some seconds.
@@ -124,7 +211,7 @@ fn is_written<R: Wait>(rt: &R, seen: &Seen, bytes: &[u8]) -> bool {
 #[test]
 fn requests_are_answered_by_the_manager(rt: HostRuntime) {
     let alloc = rt.alloc();
-    let house = house(rt, alloc, shut());
+    let house = house(rt, alloc, None);
     let seen = Arc::new(alloc, Seen::new(alloc)).expect(&rt, "memory");
     let to = Party::Actor(Actor::Manager(0));
     let parts = greeting_of(
@@ -134,7 +221,7 @@ fn requests_are_answered_by_the_manager(rt: HostRuntime) {
     );
     let status = [0, 0, 0, 1, 7];
     let bytes = joined(&rt, alloc, &[&parts.dialled, &status, &status]);
-    enter(rt, alloc, &house, &seen, bytes);
+    enter(rt, alloc, &house, &new_entry(rt, alloc, None), &seen, bytes);
     assert!(rt; answer_next(&rt, &*house));
     assert!(rt; answer_next(&rt, &*house));
     let yes = [0, 0, 0, 1, 128];
@@ -145,7 +232,7 @@ fn requests_are_answered_by_the_manager(rt: HostRuntime) {
 #[test]
 fn who_knows_another_secret_is_told_so_and_nothing_is_taken(rt: HostRuntime) {
     let alloc = rt.alloc();
-    let house = house(rt, alloc, shut());
+    let house = house(rt, alloc, None);
     let seen = Arc::new(alloc, Seen::new(alloc)).expect(&rt, "memory");
     let to = Party::Actor(Actor::Manager(0));
     let parts = greeting_of(
@@ -157,7 +244,7 @@ fn who_knows_another_secret_is_told_so_and_nothing_is_taken(rt: HostRuntime) {
     // a bit of the proof
     let last = parts.dialled.len().saturating_sub(1);
     *bytes.get_mut(last).expect(&rt, "a byte") ^= 1;
-    enter(rt, alloc, &house, &seen, bytes);
+    enter(rt, alloc, &house, &new_entry(rt, alloc, None), &seen, bytes);
     let said = joined(&rt, alloc, &[&parts.challenge, &[1]]);
     assert!(rt; is_written(&rt, &seen, &said));
     assert!(rt; house.inbox.take(&rt).is_none());

@@ -1,9 +1,11 @@
-//! The tests of a process's connections with others: when it dials again, what it writes behind which greeting, and what
-//! it takes of whom.
+//! The tests of a process's connections with others: when it dials again, what it writes behind which greeting, what it
+//! takes of whom, and which connection ends which.
 #![tactic(auto)]
 
 #[cfg(test)]
 mod asking;
+#[cfg(test)]
+mod callers;
 #[cfg(test)]
 mod entering;
 #[cfg(test)]

@@ -2,15 +2,16 @@
 
 ghost use Rattle.std.specs.Prelude.{◌≡◌, None, refl};
 
-use hk_base::{NodeId, Sequence};
+use hk_base::{Memory, NodeId, Sequence};
 use hk_fields::Ticket;
 use hk_hello::{
     Answer, Challenge, Hello, Party, Purpose, is_in_range, print_answer, print_challenge,
     print_hello, sign, welcome,
 };
 use hk_host_words::{GroupWords, NodeWords};
-use hk_hosts::{Address, DialAt, Patient, read_address, read_hosts};
-use hk_house::{Entrances, House, Identity, Inbox, Standing};
+use hk_hosts::{Address, DialAt, Ender, Patient, read_address, read_hosts};
+use hk_house::{House, Identity, Inbox, Standing};
+use hk_link::Outlet;
 use hk_outside::{Clock, Connection, Failed, MemorySource, Sink, Source};
 use std::alloc::Global;
 use std::collections::VecDeque;
@@ -102,7 +103,7 @@ fn standing(rt: &impl Abort, alloc: Global) -> Standing {
 pub fn house<R: Wait + Abort + Copy + Drop>(
     rt: R,
     alloc: Global,
-    entrances: Entrances,
+    manager: Option<Outlet>,
 ) -> Arc<House<R, SetClock>> {
     let clock = Arc::new(alloc, SetClock::new()).expect(&rt, "memory");
     let house = House {
@@ -111,18 +112,10 @@ pub fn house<R: Wait + Abort + Copy + Drop>(
         clock,
         identity: identity(&rt, alloc),
         standing: Mutex::new(standing(&rt, alloc)),
-        entrances: Mutex::new(entrances),
+        manager: Mutex::new(manager),
         inbox: Inbox::new(alloc).expect(&rt, "memory"),
     };
     Arc::new(alloc, house).expect(&rt, "memory")
-}
-
-/// No letters are taken.
-pub fn shut() -> Entrances {
-    Entrances {
-        manager: None,
-        node: None,
-    }
 }
 
 /// What others saw: how often somebody was dialled, and all that was written.
@@ -228,6 +221,10 @@ impl<R: Wait + Drop> Connection for SeenConnection<R> {
 
 impl<R: Wait + Drop> Patient for SeenConnection<R> {
     fn wait_at_most(&self, _read: u64, _write: u64) {}
+
+    fn ender(&self) -> Result<Ender, Memory> {
+        Ok(Ender::Nothing)
+    }
 }
 
 /// What a dial comes to: nobody, or what comes from there, and how many writes succeed.

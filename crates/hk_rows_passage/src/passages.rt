@@ -1,7 +1,7 @@
 //! Passages for letters.
 
 use crate::outside::{
-    FakeDialer, Reached, Seen, SetClock, TICKET, dialer, greeting_of, hello, house, joined, shut,
+    FakeDialer, Reached, Seen, SetClock, TICKET, dialer, greeting_of, hello, house, joined,
 };
 use hk_base::{Actor, Body, Key, Letter, NodeId, Stamp};
 use hk_frame::print_letter;
@@ -87,7 +87,7 @@ fn passage<R: Wait + Abort + Copy + Send + Drop + 'static>(
 #[test]
 fn who_is_not_reached_is_dialled_again_behind_a_pause(rt: HostRuntime) {
     let alloc = rt.alloc();
-    let house = house(rt, alloc, shut());
+    let house = house(rt, alloc, None);
     let seen = Arc::new(alloc, Seen::new(alloc)).expect(&rt, "memory");
     let mut passage = passage(rt, alloc, &house, &seen, VecDeque::new(alloc));
     let batch = [letter(&rt, alloc)];
@@ -103,7 +103,7 @@ fn who_is_not_reached_is_dialled_again_behind_a_pause(rt: HostRuntime) {
 #[test]
 fn letters_stand_behind_the_welcome(rt: HostRuntime) {
     let alloc = rt.alloc();
-    let house = house(rt, alloc, shut());
+    let house = house(rt, alloc, None);
     let seen = Arc::new(alloc, Seen::new(alloc)).expect(&rt, "memory");
     let talk = make_talk(&rt, alloc);
     let batch = [letter(&rt, alloc)];
@@ -131,7 +131,7 @@ fn letters_stand_behind_the_welcome(rt: HostRuntime) {
 #[test]
 fn nothing_but_the_hello_is_written_where_it_is_refused(rt: HostRuntime) {
     let alloc = rt.alloc();
-    let house = house(rt, alloc, shut());
+    let house = house(rt, alloc, None);
     let seen = Arc::new(alloc, Seen::new(alloc)).expect(&rt, "memory");
     let talk = make_talk(&rt, alloc);
     // no such actor

@@ -8,8 +8,8 @@ use Rattle.hk_passage.specs.Sending.{Sent}
 use Rattle.hk_passage.proofs.Welcomed.{says_letters, welcomed, first_letters}
 use Rattle.hk_passage.proofs.passage.PassageCarrier.forward.Goals as goal
 
-pub returns-then-send-clause-whole : goal.returns-then-send-clause-whole
-returns-then-send-clause-whole g c =
+pub returns-then-send_patiently-clause-whole : goal.returns-then-send_patiently-clause-whole
+returns-then-send_patiently-clause-whole g c =
     let fresh : IsFresh c.new-conn.result = record {
       no_read_faults = ap (λ (s : Standing). s.read_faults) c.new-conn.ensures ∙ c.in-Ok.ensures.fresh.0;
       no_write_faults = ap (λ (s : Standing). s.write_faults) c.new-conn.ensures ∙ c.in-Ok.ensures.fresh.1;
@@ -19,7 +19,7 @@ returns-then-send-clause-whole g c =
     let none : c.args.self.now.conn ≡ None = search rules in
     let said : Says (arc_value c.args.self.now.house).identity c.in-Some-speaker_of.speaker.purpose c.in-Some-speaker_of.speaker.from c.args.self.now.approach.to c.in-Some-begin.call.hello = search rules in
     let knocked : Knocks (Ok tt) (arc_value c.args.self.now.house).identity.secret c.in-Some-begin.call.hello c.new-conn.result c.greet.new.conn = search rules in
-    let sent : Sent true (frames_of c.args.batch.now) c.greet.new.conn.held c.send-2.new.conn.held = search rules in
+    let sent : Sent true (frames_of c.args.batch.now) c.greet.new.conn.held c.send_patiently-2.new.conn.held = search rules in
     let for_letters = says_letters (arc_value c.args.self.now.house).identity c.in-Some-speaker_of.speaker.purpose c.in-Some-speaker_of.speaker.from c.args.self.now.from c.args.self.now.approach.to c.in-Some-begin.call.hello c.in-Some-speaker_of.ensures.purpose c.in-Some-speaker_of.ensures.from_actor said in
     let greeted = welcomed (arc_value c.args.self.now.house).identity.secret (SaysForLetters (arc_value c.args.self.now.house).identity c.args.self.now.from c.args.self.now.approach.to) c.in-Some-begin.call.hello c.new-conn.result c.greet.new.conn fresh for_letters knocked in
-    first_letters (arc_value c.args.self.now.house).identity.secret (SaysForLetters (arc_value c.args.self.now.house).identity c.args.self.now.from c.args.self.now.approach.to) (frames_of c.args.batch.now) c.args.self.now.conn c.greet.new.conn c.send-2.new.conn none greeted sent
+    first_letters (arc_value c.args.self.now.house).identity.secret (SaysForLetters (arc_value c.args.self.now.house).identity c.args.self.now.from c.args.self.now.approach.to) (frames_of c.args.batch.now) c.args.self.now.conn c.greet.new.conn c.send_patiently-2.new.conn none greeted sent
