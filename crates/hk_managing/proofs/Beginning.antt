@@ -24,13 +24,12 @@ use Rattle.hk_restore.specs.declared.group.Restored.{Restored}
 use Rattle.hk_restore.specs.Restoring.{SoFar, is_of_host, has_terms, founding_fault, begun, unless, with_managers, stepped, behind_entry, behind_entries, behind_records, up_to_fault, returns, with_untils, restored_with, restored}
 use Rattle.hk_restore.specs.Laws.{entries_of}
 use Rattle.hk_restore.proofs.Returning.{starts_long}
-use Rattle.hk_office.specs.declared.office.Terms.{Terms as OfficeTerms}
 use Rattle.hk_office.specs.Founding.{roll_of}
 use Rattle.hk_office.specs.Laws.{Logged, with_entry, with_entries, logged_of}
 use Rattle.hk_office.specs.Office.{hosts_of}
 use Rattle.hk_office.specs.Stages.{stage_logged}
 use Rattle.hk_managing.specs.declared.begin.Begun.{Begun}
-use Rattle.hk_managing.specs.Begins.{log_terms, group_log, office_by, IsBegun, Begins}
+use Rattle.hk_managing.specs.Begins.{group_log, office_by, IsBegun, Begins}
 use Rattle.hk_managing.specs.Turns.{nothing_logged, LogTells}
 use Rattle.hk_managing.proofs.Telling.{told_more}
 
@@ -160,23 +159,23 @@ module _ (t : Terms) (view : View) where
   found_follows records found is = of_result records (behind_records t view records (record_starts records) None) found refl is
 
 -- ---- the office that begins by it
-office_tells : (o : Option RestoredGroup) (t : OfficeTerms) (drawn : HostTickets) (now : ℕ) → told_by o ≡ logged_of (office_by t drawn (group_log o) now)
+office_tells : (o : Option RestoredGroup) (t : Terms) (drawn : HostTickets) (now : ℕ) → told_by o ≡ logged_of (office_by t drawn (group_log o) now)
 office_tells None t drawn now = refl
 office_tells (Some g) t drawn now = refl
 
-pub log_tells : (t : OfficeTerms) (drawn : HostTickets) (first : View) (now : ℕ) (records : List (List Entry)) (found : Restored) → restored (log_terms t) first records ≡ Ok found → LogTells records (office_by t drawn (group_log found.group) now)
-log_tells t drawn first now records found is = (found_follows (log_terms t) first records found is).tells ∙ office_tells found.group t drawn now
+pub log_tells : (t : Terms) (drawn : HostTickets) (first : View) (now : ℕ) (records : List (List Entry)) (found : Restored) → restored t first records ≡ Ok found → LogTells records (office_by t drawn (group_log found.group) now)
+log_tells t drawn first now records found is = (found_follows t first records found is).tells ∙ office_tells found.group t drawn now
 
 few_in : (o : Option RestoredGroup) (t : Terms) (view : View) → AreHosts t view o → t.managers ≤ 9 → length (hosts_of (group_log o).founding) ≤ 9
 few_in None t view hosts few = omega arith
 few_in (Some g) t view hosts few = omega (arith, hosts, few)
 
-pub few_hosts : (t : OfficeTerms) (first : View) (records : List (List Entry)) (found : Restored) → restored (log_terms t) first records ≡ Ok found → t.managers ≤ 9 → length (hosts_of (group_log found.group).founding) ≤ 9
-few_hosts t first records found is few = few_in found.group (log_terms t) first (found_follows (log_terms t) first records found is).hosts few
+pub few_hosts : (t : Terms) (first : View) (records : List (List Entry)) (found : Restored) → restored t first records ≡ Ok found → t.managers ≤ 9 → length (hosts_of (group_log found.group).founding) ≤ 9
+few_hosts t first records found is few = few_in found.group t first (found_follows t first records found is).hosts few
 
 -- ---- what begins by records that are sure
-pub begins_by : {F : Type 0} (holds is_sure : F → List ℕ → Type 0) (t : OfficeTerms) (drawn : HostTickets) (first : View) (now : ℕ) (file : F) (check : List ℕ) (begun : Begun) (records : List (List Entry)) → IsSureLog holds is_sure file check records →
-    IsBegun (Ok begun) t drawn first now (restored (log_terms t) first records) → Begins holds is_sure t drawn first now file check begun
+pub begins_by : {F : Type 0} (holds is_sure : F → List ℕ → Type 0) (t : Terms) (drawn : HostTickets) (first : View) (now : ℕ) (file : F) (check : List ℕ) (begun : Begun) (records : List (List Entry)) → IsSureLog holds is_sure file check records →
+    IsBegun (Ok begun) t drawn first now (restored t first records) → Begins holds is_sure t drawn first now file check begun
 begins_by holds is_sure t drawn first now file check begun records sure (found, gives, begins) = record {
   records = records;
   sure = sure;

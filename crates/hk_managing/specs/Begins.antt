@@ -9,22 +9,17 @@ use Rattle.hk_manager.specs.Manager.{ManagerState}
 use Rattle.hk_manager.specs.Sound.{manager_new}
 use Rattle.hk_restore.specs.declared.fault.RestoreFault.{RestoreFault}
 use Rattle.hk_restore.specs.declared.fault.RestoreFault.TheVariants as faults
-use Rattle.hk_restore.specs.declared.group.Terms.{Terms as LogTerms}
+use Rattle.hk_restore.specs.declared.group.Terms.{Terms}
 use Rattle.hk_restore.specs.declared.group.RestoredGroup.{RestoredGroup}
 use Rattle.hk_restore.specs.declared.group.Restored.{Restored}
 use Rattle.hk_restore.specs.Restoring.{restored}
 use Rattle.hk_office.specs.declared.office.Office.{Office}
-use Rattle.hk_office.specs.declared.office.Terms.{Terms}
 use Rattle.hk_office.specs.declared.office.GroupLog.{GroupLog}
 use Rattle.hk_office.specs.Office.{hosts_of, began}
 use Rattle.hk_managing.specs.declared.begin.BeginFault.{BeginFault}
 use Rattle.hk_managing.specs.declared.begin.BeginFault.TheVariants.{Memory, Failed, Damaged, DoesNotReplay, OfHost, OtherTerms}
 use Rattle.hk_managing.specs.declared.begin.Begun.{Begun}
 use Rattle.hk_managing.specs.Turns.{LogTells}
-
--- the terms by which a log is read
-abbrev pub log_terms : Terms → LogTerms
-log_terms t = record { place = t.place; managers = t.managers; lease = t.lease; skew = t.skew }
 
 -- ---- the office
 
@@ -98,13 +93,13 @@ pub record Begins {F : Type 0} (holds is_sure : F → List ℕ → Type 0) (t : 
   pub records : List (List Entry)
   pub sure : IsSureLog holds is_sure file check records
   pub found : Restored
-  pub gives : restored (log_terms t) first records ≡ Ok found
+  pub gives : restored t first records ≡ Ok found
   pub begins : begun ≡ begun_by t drawn first now found
   pub tells : LogTells records begun.office
 
 -- a fault that is told of the log's records is that which some records give, the first one of theirs
 abbrev pub ComesOf : Terms → View → RestoreFault → Type 0
-ComesOf t first fault = (records : List (List Entry)) × (restored (log_terms t) first records ≡ Err fault)
+ComesOf t first fault = (records : List (List Entry)) × (restored t first records ≡ Err fault)
 
 abbrev pub IsExplained : Terms → View → {A : Type 0} → Result A BeginFault → Type 0
 IsExplained t first (Ok begun) = ⊤

@@ -7,15 +7,15 @@ ghost use Rattle.hk_base.specs.View.{IsView};
 ghost use Rattle.hk_log.specs.Records.{AreRecords, record_starts};
 ghost use Rattle.hk_office.specs.Office.{hosts_of};
 ghost use Rattle.hk_restore.specs.Restoring.{restored};
-ghost use Rattle.hk_managing.specs.Begins.{log_terms, group_log, own_tickets, new_cores, cores_by, begun_by, told_as, IsBegun, Begins, IsOfFile, IsExplained};
+ghost use Rattle.hk_managing.specs.Begins.{group_log, own_tickets, new_cores, cores_by, begun_by, told_as, IsBegun, Begins, IsOfFile, IsExplained};
 
 use hk_base::{Memory, Sequence, View};
 use hk_disk::{LogFile, LogWriter, RecoverFault, Recovered, recover};
 use hk_durable::Managers;
 use hk_inside::HostTickets;
 use hk_log::{Founding, Record};
-use hk_office::{GroupLog, Office, Terms};
-use hk_restore::{RestoreFault, Restored, RestoredGroup, restore};
+use hk_office::{GroupLog, Office};
+use hk_restore::{RestoreFault, Restored, RestoredGroup, Terms, restore};
 use std::alloc::Global;
 use thiserror::Error;
 
@@ -58,17 +58,6 @@ pub struct Begun {
 pub struct ManagerStart<F: LogFile + Drop> {
     pub begun: Begun,
     pub writer: LogWriter<F>,
-}
-
-fn log_terms(terms: Terms) -> hk_restore::Terms
-    ensures { result ≡ log_terms terms }
-{
-    hk_restore::Terms {
-        place: terms.place,
-        managers: terms.managers,
-        lease: terms.lease,
-        skew: terms.skew,
-    }
 }
 
 // The cores of a group that is not open.
@@ -230,9 +219,9 @@ pub fn begin_by(
     requires time { now ≤ MAX_TIME }
     requires records { AreRecords records.now }
     requires starts { starts.now ≡ record_starts records.now }
-    ensures { IsBegun result terms drawn first.now now (restored (log_terms terms) first.now records.now) }
+    ensures { IsBegun result terms drawn first.now now (restored terms first.now records.now) }
 {
-    match restore(alloc, &log_terms(terms), first, records, starts) {
+    match restore(alloc, &terms, first, records, starts) {
         Ok(found) => match begun_by(alloc, terms, drawn, first, found, now) {
             Ok(begun) => Ok(begun),
             Err(_memory) => Err(BeginFault::Memory),

@@ -26,13 +26,15 @@ pub struct Unlogged;
 /// The cores of a manager, and its log.
 #[derive(Drop)]
 pub enum Cores<F: LogFile + Drop> {
-    /// The group is not open. The cores hold the first view, made no step, and take and send no letter.
+    /// The manager does not act yet. Its group is not open, where the cores hold the first view and made no step; or no majority of the managers has answered it
+    /// since its process began. They take and send no letter.
     Shut {
         managers: Managers,
         inlet: Inlet,
         outlets: Outlets,
         writer: LogWriter<F>,
     },
+    /// It acts.
     Open(DurablePost<F>),
     /// The manager is stopped for good: its log can't be written.
     Ended,
@@ -40,22 +42,22 @@ pub enum Cores<F: LogFile + Drop> {
 
 const NOTHING: [Intent; 8] = [Intent::Nothing; 8];
 
-// The log of a group that is not open takes a record of these entries, if there are any.
+// The log of a manager that does not act takes a record of these entries, if there are any. Gives how many records that makes.
 fn log<F: LogFile + Drop>(
     alloc: Global,
     writer: &mut LogWriter<F>,
     notes: &[Entry],
-) -> Result<(), Unlogged>
+) -> Result<u64, Unlogged>
     ensures { OnOk result ((records : List (List Entry)) → IsSureLog F.holds F.is_sure writer.old.file writer.old.check.0 records → IsSureLog F.holds F.is_sure writer.new.file writer.new.check.0 (recorded notes.now records)) }
 {
     if notes.is_empty() {
-        return Ok(());
+        return Ok(0);
     }
     if !are_notes(notes) {
         return Err(Unlogged);
     }
     match writer.append(alloc, notes) {
-        Ok(()) => Ok(()),
+        Ok(()) => Ok(1),
         Err(_) => Err(Unlogged),
     }
 }
@@ -88,19 +90,21 @@ fn note_all<F: LogFile + Drop>(post: &mut DurablePost<F>, notes: Vec<Entry>) -> 
     Ok(())
 }
 
-// The cores take what came for them, and the log takes these entries in front of the steps that they make. Only then are their letters sent.
+// The cores take what came for them, and the log takes these entries in front of the steps that they make. Only then are their letters sent. Gives how
+// many records that makes.
 fn turn<F: LogFile + Drop, C: LateClock, R: Wait>(
     rt: &R,
     alloc: Global,
     clock: &C,
     post: &mut DurablePost<F>,
     notes: Vec<Entry>,
-) -> Result<(), Unlogged>
+) -> Result<u64, Unlogged>
     ensures { OnOk result (IsTurn (C.was_read clock.now) F.holds F.is_sure no_intents (record { batch = all_noted post.old.batch notes.items; inlet = post.old.inlet; outlets = post.old.outlets.items; file = post.old.writer.file; check = post.old.writer.check.0 }) (record { batch = post.new.batch; inlet = post.new.inlet; outlets = post.new.outlets.items; file = post.new.writer.file; check = post.new.writer.check.0 })) }
 {
+    let before = post.records();
     note_all(post, notes)?;
     match post.turn(rt, alloc, clock, &NOTHING) {
-        Ok(()) => Ok(()),
+        Ok(()) => Ok(post.records().saturating_sub(before)),
         Err(_) => Err(Unlogged),
     }
 }
@@ -120,16 +124,11 @@ fn views_of(alloc: Global, managers: &Managers) -> Result<Vec<View>, Memory>
 impl<F: LogFile + Drop> Cores<F> {
     /// The cores as the process begins. No letter was taken or sent yet.
     pub fn new(
-        alloc: Global,
-        is_open: bool,
         managers: Managers,
         inlet: Inlet,
         outlets: Outlets,
         writer: LogWriter<F>,
     ) -> Cores<F> {
-        if is_open {
-            return Cores::Open(DurablePost::new(alloc, managers, inlet, outlets, writer));
-        }
         Cores::Shut {
             managers,
             inlet,
@@ -138,12 +137,12 @@ impl<F: LogFile + Drop> Cores<F> {
         }
     }
 
-    /// Whether the group is not open.
+    /// Whether the manager does not act yet.
     pub fn is_shut(&self) -> bool {
         matches!(self, Cores::Shut { .. })
     }
 
-    /// The group opens: from now on they take letters and send them.
+    /// The manager acts: from now on they take letters and send them.
     pub fn open(&mut self, alloc: Global) {
         *self = match mem::replace(self, Cores::Ended) {
             Cores::Shut {
@@ -157,24 +156,24 @@ impl<F: LogFile + Drop> Cores<F> {
         };
     }
 
-    /// The views that they hold, by their shards. None while the group is not open.
+    /// The views that they hold, by their shards.
     pub fn views(&self, alloc: Global) -> Result<Vec<View>, Memory> {
         match self {
-            Cores::Shut { .. } => Ok(Vec::new(alloc)),
+            Cores::Shut { managers, .. } => views_of(alloc, managers),
             Cores::Open(post) => views_of(alloc, post.managers()),
             Cores::Ended => Ok(Vec::new(alloc)),
         }
     }
 
-    /// The log takes these entries, and they are sure. Those of an open group stand in front of the steps that its cores make in the same turn, whose letters are
-    /// sent behind that. After an error nothing of this manager may be told any more.
+    /// The log takes these entries, and they are sure. Those of a manager that acts stand in front of the steps that its cores make in the same turn, whose letters
+    /// are sent behind that. Gives how many records that makes, 0 or 1. After an error nothing of this manager may be told any more.
     pub fn log<C: LateClock, R: Wait>(
         &mut self,
         rt: &R,
         alloc: Global,
         clock: &C,
         notes: Vec<Entry>,
-    ) -> Result<(), Unlogged> {
+    ) -> Result<u64, Unlogged> {
         let taken = match self {
             Cores::Shut { writer, .. } => log(alloc, writer, &notes),
             Cores::Open(post) => turn(rt, alloc, clock, post, notes),

@@ -14,7 +14,7 @@ use hk_fields::Ticket;
 use hk_house::Slot;
 use hk_inside::{Inquiry, Response};
 use hk_log::{Entry, Record};
-use hk_office::{Office, OfficeAnswer, OfficeStep, offices_are_made_again};
+use hk_office::{Acting, Office, OfficeAnswer, OfficeStep, offices_are_made_again};
 use hk_status::print_status;
 use std::alloc::Global;
 use std::sync::{Arc, Wait};
@@ -30,6 +30,8 @@ struct Reply {
 #[derive(Drop)]
 pub struct Replies {
     replies: Vec<Reply>,
+    // How many records the log took for that.
+    records: u64,
 }
 
 /// What a turn has gathered: what has to be logged, and the answers that wait for that.
@@ -50,11 +52,13 @@ pub struct Seen<'name, 'views, 'told> {
     pub views: &'views [View],
     /// What boards told of the number that is claimed, by the places of managers.
     pub told: &'told [Option<Ticket>],
+    /// Since when the manager acts.
+    pub acting: Acting,
 }
 
 // How the group stands, as lines.
 fn status_of(alloc: Global, office: &Office, seen: &Seen<'_, '_, '_>) -> Result<Response, Memory> {
-    let status = office.status(alloc, seen.now, seen.name, seen.views)?;
+    let status = office.status(alloc, seen.now, seen.name, seen.views, seen.acting)?;
     let text = print_status(alloc, &status)?;
     Ok(Response::Status(Sequence::from_vec(text)))
 }
@@ -171,15 +175,21 @@ impl Gathered {
         cores: &mut Cores<F>,
     ) -> Result<Replies, Unlogged> {
         let Gathered { notes, replies } = self;
-        cores.log(rt, alloc, clock, notes)?;
-        Ok(Replies { replies })
+        let records = cores.log(rt, alloc, clock, notes)?;
+        Ok(Replies { replies, records })
     }
 }
 
 impl Replies {
+    /// How many records the log took, 0 or 1.
+    pub fn records(&self) -> u64 {
+        self.records
+    }
+
     /// Leaves each where it is waited for.
     pub fn leave<R: Wait>(self, rt: &R) {
-        for Reply { slot, response } in self.replies {
+        let Replies { replies, .. } = self;
+        for Reply { slot, response } in replies {
             slot.leave(rt, response);
         }
     }

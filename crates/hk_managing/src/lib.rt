@@ -9,7 +9,12 @@
 //! office logs is gathered ([`Gathered`]), and the answers wait. Then the log takes what was gathered, in one record and in
 //! front of the steps that the cores make in this turn, and letters of these steps go only behind that. Only where the log
 //! took it are there answers to leave: [`Replies`] come of [`Gathered::sure`] alone, which gives none where the record was
-//! not made sure. Where it is in the log that the group opens, the cores begin to take letters and to send them.
+//! not made sure.
+//!
+//! The manager *acts*, that is its cores take letters and send them, once it is open, and a majority of the managers, itself
+//! counted, has answered reports that tell so. An open one that does not act yet answers reports, and how the group stands,
+//! but binds no number. Where a manager was told of more records than the log has, this manager never acts, and
+//! [`hk_house::Standing`] tells whoever ends the process.
 //!
 //! Where the log can't be written, or memory is wanting for what the office did, nothing of this manager is told any more:
 //! it is stopped for good ([`Cores::Ended`]), and its process goes on with its node. An inquiry for which memory is wanting
@@ -27,8 +32,7 @@
 //!
 //! What no clause says: which faults of a file are told when; what is left at a slot, and that it is the answer to what
 //! was asked there, which the code does in one place ([`Gathered::ask`]); what others of the process are told
-//! ([`hk_house::Standing`]). `records` counts those that were there at the beginning and those with notes; a record of
-//! steps alone is counted when the process begins again.
+//! ([`hk_house::Standing`]); when the manager acts; and how many records the log has.
 #![tactic(auto)]
 
 mod begin;

@@ -8,7 +8,7 @@ use hk_disk::FakeFile;
 use hk_fields::{FoundingHosts, HostTickets, Ticket};
 use hk_log::{Check, Entry, Founding, HEADER, PrintedRecord, print_record};
 use hk_managing::{BeginFault, Begun, begin_manager};
-use hk_office::Terms;
+use hk_restore::Terms;
 use std::alloc::Global;
 
 /// The only host of a group.

@@ -11,7 +11,7 @@ use hk_house::Slot;
 use hk_inside::{Inquiry, Response};
 use hk_link::link;
 use hk_managing::{Begun, Cores, Gathered, ManagerStart, Seen, Unlogged, begin_manager};
-use hk_office::Office;
+use hk_office::{Acting, Office};
 use hk_outside::HandClock;
 use hk_overseer::Outlets;
 use std::alloc::Global;
@@ -40,7 +40,7 @@ fn new_manager(rt: &impl Abort, alloc: Global, fails: Vec<u64>) -> NewManager {
     outlets
         .push((Actor::Manager(0), outlet))
         .expect(rt, "memory");
-    let cores = Cores::new(alloc, false, managers, inlet, outlets, writer);
+    let cores = Cores::new(managers, inlet, outlets, writer);
     NewManager { office, cores }
 }
 
@@ -71,6 +71,10 @@ fn found<R: Abort>(
         name: b"hermes",
         views: &[],
         told: &[],
+        acting: Acting {
+            since: None,
+            until: 0,
+        },
     };
     let look = Inquiry::Look { founding: 5 };
     assert_eq!(rt; gathered.ask(alloc, office, &seen, look, looks), Ok(()));
@@ -137,7 +141,7 @@ fn cores_open_with_the_first_view(rt: HostRuntime) {
         office: _office,
         mut cores,
     } = new_manager(&rt, alloc, Vec::new(alloc));
-    assert_eq!(rt; cores.views(alloc).expect(&rt, "memory").len(), 0);
+    assert!(rt; cores.is_shut());
     cores.open(alloc);
     assert!(rt; !cores.is_shut());
     let views = cores.views(alloc).expect(&rt, "memory");
