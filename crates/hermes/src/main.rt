@@ -6,9 +6,11 @@
 
 mod notices;
 
-use crate::notices::{tell_beginning, tell_end, tell_mistake};
+use crate::notices::{tell_beginning, tell_end, tell_host_mistake, tell_mistake};
 use hk_accept::LooseSpawner;
 use hk_cli::{hermes, read_command};
+use hk_host_words::{named_command, read_host_command};
+use hk_hosting::perform;
 use hk_outside::{ReaderSource, SteadyClock, TcpDoors, WriterSink};
 use std::process::ExitCode;
 use std::sync::Arc;
@@ -35,6 +37,14 @@ fn words(rt: &HostRuntime) -> io::Result<Vec<String>> {
 fn main(rt: HostRuntime) -> io::Result<ExitCode> {
     let alloc = rt.alloc();
     let words = words(&rt)?;
+    if named_command(words.as_slice()).is_some() {
+        let mut sink = WriterSink::new(io::writer(&rt));
+        let number = match read_host_command(alloc, words.as_slice()) {
+            Ok(command) => perform(rt, alloc, command, &mut sink),
+            Err(fault) => tell_host_mistake(&rt, fault).number(),
+        };
+        return Ok(ExitCode::from(number));
+    }
     let command = read_command(words.as_slice());
     match &command {
         Some(command) => tell_beginning(&rt, command),

@@ -1,6 +1,7 @@
 //! What is written on standard error of a command, for the person who started the program. A line that can't be written is lost.
 
 use hk_cli::Command;
+use hk_host_words::WordsFault;
 use hk_outside::Status;
 use hk_usage::{Limits, first_mistake, limits_of};
 use std::io::Eprint;
@@ -37,6 +38,15 @@ pub fn tell_mistake<R: Eprint>(rt: &R, words: &[String]) {
             "hermes:   --{} {} to {}",
             option.name, option.least, option.most
         );
+    }
+}
+
+/// What is wrong with words of a command of a group over hosts. Gives how the program ends then.
+pub fn tell_host_mistake<R: Eprint>(rt: &R, fault: WordsFault<'_>) -> Status {
+    let _ = eprintln!(rt; "hermes: {fault}");
+    match fault {
+        WordsFault::Memory => Status::Memory,
+        WordsFault::Mistaken(_) => Status::Usage,
     }
 }
 

@@ -1,0 +1,75 @@
+//! The ways of letters from this host's manager.
+
+ghost use Rattle.std.specs.Prelude.{◌≡◌, ◌≤◌, ◌<◌, ◌+◌, length, IfOk, OnOk};
+
+use hk_base::{Actor, Memory, NodeId, Sequence};
+use hk_group::Way;
+use hk_link::{Bell, Inlet, Outlet, link};
+use hk_overseer::Outlets;
+use std::alloc::Global;
+use std::sync::Arc;
+
+// A link has room for so many parcels.
+const ROOM: usize = 1_024;
+
+/// A link whose parcels ring a bell.
+pub(crate) fn rung_link(alloc: Global, bell: &Arc<Bell>) -> Result<(Outlet, Inlet), Memory> {
+    let (outlet, inlet) = link(alloc, ROOM)?;
+    Ok((outlet.with_bell(Arc::try_clone(bell)?), inlet))
+}
+
+/// The outlets of a manager, and where each leads.
+#[derive(Drop)]
+pub(crate) struct ManagerWays {
+    pub(crate) outlets: Outlets,
+    pub(crate) ways: Vec<Way>,
+}
+
+impl ManagerWays {
+    // One to this actor more.
+    fn add(&mut self, alloc: Global, to: Actor) -> Result<(), Memory>
+        ensures { OnOk result (length self.new.ways.items ≡ length self.old.ways.items + 1) }
+    {
+        let bell = Arc::new(alloc, Bell::new())?;
+        let (outlet, inlet) = rung_link(alloc, &bell)?;
+        self.outlets.push((to, outlet))?;
+        self.ways.push(Way { to, inlet, bell })?;
+        Ok(())
+    }
+
+    // One more to each manager from one number on and below another.
+    fn add_managers(&mut self, alloc: Global, from: u8, end: u8) -> Result<(), Memory>
+        requires { from ≤ end }
+        ensures { OnOk result (length self.new.ways.items + from ≡ length self.old.ways.items + end) }
+    {
+        for number in from..end {
+            self.add(alloc, Actor::Manager(number))?;
+        }
+        Ok(())
+    }
+
+    // One more to each of so many nodes.
+    fn add_nodes(&mut self, alloc: Global, nodes: u8) -> Result<(), Memory>
+        ensures { OnOk result (length self.new.ways.items ≡ length self.old.ways.items + nodes) }
+    {
+        for number in 0..nodes {
+            self.add(alloc, Actor::Node(NodeId(u16::from(number))))?;
+        }
+        Ok(())
+    }
+
+    /// From the manager of this place to each other manager, and to the node of each host.
+    pub(crate) fn new(alloc: Global, place: u8, managers: u8) -> Result<ManagerWays, Memory>
+        requires { place < managers }
+        ensures { IfOk result (λ made. length made.ways.items + 1 ≡ managers + managers) }
+    {
+        let mut made = ManagerWays {
+            outlets: Sequence::new(alloc),
+            ways: Vec::new(alloc),
+        };
+        made.add_managers(alloc, 0, place)?;
+        made.add_managers(alloc, place + 1, managers)?;
+        made.add_nodes(alloc, managers)?;
+        Ok(made)
+    }
+}

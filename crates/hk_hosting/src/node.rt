@@ -1,0 +1,202 @@
+//! The command `node`.
+
+ghost use Rattle.std.specs.Prelude.{◌≤◌, ◌<◌, IfOk, IfSome};
+ghost use Rattle.hk_base.specs.View.{IsView};
+
+use crate::end::HostEnd;
+use crate::files::{log_path, open_log, secret_of};
+use hk_accept::LooseSpawner;
+use hk_base::{MAX_TIME, Memory, View};
+use hk_disk::DiskFile;
+use hk_fields::Ticket;
+use hk_group::first_view;
+use hk_host::{Dialers, Inside, Serving, serve_host};
+use hk_host_words::NodeWords;
+use hk_hosts::{Address, DoorsAt, HostDialer, HostDoors, Random, SystemRandom};
+use hk_house::{Identity, copy_of};
+use hk_inside::HostTickets;
+use hk_managing::{ManagerStart, begin_manager};
+use hk_outside::{Clock, Status, SteadyClock};
+use hk_restore::Terms;
+use std::alloc::Global;
+use std::fs::{File, Files};
+use std::io::Eprint;
+use std::net::{Net, TcpListener, TcpStream};
+use std::random::RandomSource;
+use std::sync::{Arc, Wait};
+use std::thread::Threads;
+
+// The greatest number of hosts.
+const MOST_HOSTS: usize = 9;
+
+// Dials over TCP.
+#[derive(Drop)]
+struct TcpDialers<R: Drop> {
+    rt: R,
+    alloc: Global,
+}
+
+impl<R: Net<Listener = TcpListener, Stream = TcpStream> + Copy + Send + Drop + 'static> Dialers
+    for TcpDialers<R> {
+    type Dialer = HostDialer<R>;
+
+    fn dialer(&self) -> HostDialer<R> {
+        HostDialer::new(self.rt, self.alloc)
+    }
+}
+
+// A ticket that nobody can guess.
+fn draw<X: Random>(random: &mut X) -> Result<Ticket, HostEnd> {
+    match random.drawn::<16>() {
+        Ok(drawn) => Ok(Ticket(drawn)),
+        Err(_) => Err(HostEnd::NoRandomness),
+    }
+}
+
+// Tells that an address can't be opened.
+fn tell_shut<R: Eprint>(rt: &R, alloc: Global, address: &Address) -> HostEnd {
+    let mut text = Vec::new(alloc);
+    if address.put(&mut text).is_ok() {
+        if let Ok(text) = str::from_utf8(&text) {
+            let _ = eprintln!(rt; "hermes: {text} can't be opened");
+        }
+    }
+    HostEnd::Shut
+}
+
+// The log in the folder of this host, and its path. No other process has it from now on.
+fn log_of<R: Files<File = File> + Eprint>(
+    rt: &R,
+    alloc: Global,
+    words: &NodeWords,
+) -> Result<(DiskFile, String), HostEnd> {
+    let Ok(folder) = str::from_utf8(words.data.as_slice()) else {
+        return Err(HostEnd::Refused);
+    };
+    let path = log_path(alloc, folder)?;
+    Ok((open_log(rt, folder, &path)?, path))
+}
+
+// The first view of a group with so many hosts.
+#[tactic(auto, using(crate::proofs::FirstView::is_first))]
+fn first_of(alloc: Global, hosts: u8) -> Result<View, Memory>
+    requires some { 1 ≤ hosts }
+    requires few { hosts ≤ 9 }
+    ensures { IfOk result IsView }
+{
+    first_view(alloc, hosts)
+}
+
+// By which terms the manager of this place goes, if there is one in a group of so many hosts.
+fn terms_of(words: &NodeWords, place: u8) -> Option<Terms>
+    ensures few { IfSome result (λ terms. terms.managers ≤ 9) }
+    ensures place { IfSome result (λ terms. terms.place < terms.managers) }
+{
+    let hosts = words.group.hosts.len();
+    if hosts > MOST_HOSTS || usize::from(place) >= hosts {
+        return None;
+    }
+    Some(Terms {
+        place,
+        managers: hosts as u8,
+        lease: words.lease,
+        skew: words.skew,
+    })
+}
+
+// The manager of this host by its log.
+fn manager_of<R: Eprint>(
+    rt: &R,
+    alloc: Global,
+    terms: Terms,
+    file: DiskFile,
+    path: &str,
+    tickets: HostTickets,
+    now: u64,
+) -> Result<ManagerStart<DiskFile>, HostEnd>
+    requires few { terms.managers ≤ 9 }
+    requires place { terms.place < terms.managers }
+{
+    let first = first_of(alloc, terms.managers)?;
+    match begin_manager(alloc, file, terms, tickets, &first, now.min(MAX_TIME)) {
+        Ok(start) => Ok(start),
+        Err(fault) => {
+            let _ = eprintln!(rt; "hermes: {path} {fault}");
+            Err(HostEnd::Log(fault))
+        }
+    }
+}
+
+/// Runs a process of a group, for as long as it can.
+pub(crate) fn run_node<
+    R: Threads
+        + Wait
+        + Net<Listener = TcpListener, Stream = TcpStream>
+        + Files<File = File>
+        + RandomSource
+        + std::rt::Clock
+        + Eprint
+        + Copy
+        + Send
+        + Sync
+        + Drop
+        + 'static,
+>(rt: R, alloc: Global, words: NodeWords, secret_path: &str) -> Result<Status, HostEnd> {
+    let Some(place) = words.at else {
+        let _ = eprintln!(rt;
+            "hermes: node: --at is not given, and a host without a manager can't join yet"
+        );
+        return Err(HostEnd::NoCommand);
+    };
+    let Some(terms) = terms_of(&words, place) else {
+        return Err(HostEnd::Refused);
+    };
+    let secret = secret_of(&rt, alloc, secret_path)?;
+    // The clock begins once the log is held: behind all that a process before this one has granted.
+    let (file, path) = log_of(&rt, alloc, &words)?;
+    let clock = Arc::new(alloc, SteadyClock::new(rt)).or(Err(Memory))?;
+    let mut random = SystemRandom::new(rt);
+    let tickets = HostTickets {
+        manager: draw(&mut random)?,
+        node: draw(&mut random)?,
+    };
+    let manager = manager_of(&rt, alloc, terms, file, &path, tickets, clock.now())?;
+    let mut doors = HostDoors::new(rt, alloc);
+    if doors.open(&words.inside).is_err() {
+        return Err(tell_shut(&rt, alloc, &words.inside));
+    }
+    let inside = Inside { doors, random };
+    let listen = copy_of(alloc, &words.listen).ok_or(Memory)?;
+    let workers = words.workers;
+    let identity = Identity::new(alloc, words, secret, tickets.node)?;
+    if place >= identity.managers() {
+        return Err(HostEnd::Refused);
+    }
+    let served = serve_host(
+        rt,
+        alloc,
+        clock,
+        identity,
+        place,
+        manager,
+        inside,
+        &TcpDialers { rt, alloc },
+        Serving {
+            listen: &listen,
+            workers,
+        },
+        &mut HostDoors::new(rt, alloc),
+        &mut LooseSpawner::new(rt),
+    );
+    let status = match served {
+        Ok(status) => status,
+        Err(lost) => {
+            let _ = eprintln!(rt; "hermes: {path} {lost}");
+            return Err(HostEnd::LostTail);
+        }
+    };
+    if status == Status::DoorFault {
+        return Err(tell_shut(&rt, alloc, &listen));
+    }
+    Ok(status)
+}
