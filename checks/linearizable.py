@@ -3,7 +3,7 @@ what a single copy would tell. An update that was told as aborted or unknown may
 
 `decide` takes calls of all kinds. The search is exact but for tags: that of an update is known from the first `gets` on that tells it. It is bounded, and gives up at its bound. `decide_register` takes
 reads and sets alone, each set with data of its own, in any number: it is exact and quick. There calls of one client that have one reading before them were sent together, and
-take effect in their order."""
+take effect in their order. `decide_counter` takes reads and `incr` by one alone, of a key that held 0 before all of them, in any number: it is exact and quick too."""
 import heapq
 import sys
 from collections import defaultdict, namedtuple
@@ -287,6 +287,59 @@ def next_cluster(left, placed, ready, first):
     return place
 
 
+# ---- counters
+
+
+def value_of(call):
+    """What a call showed that the counter holds, None where it told nothing of a number."""
+    told = call.told if call.op[0] == "incr" else call.told[1][1].decode() if call.told[0] == "found" else ""
+    return int(told) if told.isdigit() else None
+
+
+def shown_by(calls):
+    """By each value the call that was told to have made it, and the reads that found it; and the first call that is told what no counter tells, or what another one was told."""
+    made, reads, failing = {}, defaultdict(list), None
+    for call in calls:
+        if call.after is None:
+            continue
+        value = value_of(call)
+        if value is None or call.op[0] == "incr" and (value == 0 or value in made):
+            failing = failing or call
+        elif call.op[0] == "incr":
+            made[value] = call
+        else:
+            reads[value].append(call)
+    return made, reads, failing
+
+
+def fill_gaps(made, reads, late):
+    """Puts calls that nothing was told of where a value was seen, or one above it, that no other call made: the earliest for the least. Gives the call that can't be explained, or None."""
+    late = sorted(late, key=lambda call: call.before)
+    greatest = max([0, *made, *reads])
+    gaps = [value for value in range(1, greatest + 1) if value not in made]
+    if len(gaps) > len(late):
+        return next(call for value in range(gaps[len(late)], greatest + 1) for call in [*reads[value], *([made[value]] if value in made else [])])
+    made.update(zip(gaps, late))
+    return None
+
+
+def decide_counter(calls):
+    """None where the calls of a counter are linearizable, else a call that is not explained. Their values are their order: none may have ended before one of a lesser value began."""
+    made, reads, failing = shown_by(calls)
+    failing = failing or fill_gaps(made, reads, [call for call in calls if call.after is None])
+    if failing:
+        return failing
+    latest = float("-inf")
+    for value in range(max([0, *made, *reads]) + 1):
+        if value:
+            latest = max(latest, made[value].before)
+        ended = [call for call in (*reads[value], *([made[value]] if value else [])) if call.after is not None and call.after < latest]
+        if ended:
+            return ended[0]
+        latest = max([latest, *(call.before for call in reads[value])])
+    return None
+
+
 # ---- the search itself is tried
 
 
@@ -346,7 +399,33 @@ UNSOUND_REGISTERS = {
 }
 
 
+COUNT, READ = ("incr", 1), ("get",)
+SOUND_COUNTERS = {
+    "two at once": made((0, 0, 9, COUNT, "2"), (1, 0, 9, COUNT, "1"), (2, 10, 11, READ, found(b"2"))),
+    "a read beside one": made((0, 0, 9, COUNT, "1"), (1, 1, 2, READ, found(b"0")), (1, 3, 4, READ, found(b"1"))),
+    "one that was not told, seen late": made((0, 0, None, COUNT, None), (1, 1, 2, COUNT, "1"), (1, 3, 4, READ, found(b"1")), (1, 5, 6, READ, found(b"2"))),
+    "one that was not told, seen never": made((0, 0, None, COUNT, None), (1, 1, 2, COUNT, "1"), (1, 3, 4, READ, found(b"1"))),
+    "two that were not told, between others": made((0, 0, None, COUNT, None), (1, 3, None, COUNT, None), (2, 1, 2, COUNT, "2"), (2, 4, 5, COUNT, "4")),
+}
+UNSOUND_COUNTERS = {
+    "a value twice": UNSOUND["one number twice"][1:],
+    "one that was lost": made((0, 0, 1, COUNT, "1"), (1, 2, 3, READ, found(b"0"))),
+    "one too many": made((0, 0, 1, COUNT, "2")),
+    "one that was not told, seen twice": made((0, 0, None, COUNT, None), (1, 1, 2, COUNT, "3")),
+    "one that was not told, seen before it was sent": made((0, 5, None, COUNT, None), (1, 1, 2, READ, found(b"1"))),
+    "later and less": made((0, 0, 9, COUNT, "1"), (1, 1, 2, READ, found(b"1")), (1, 3, 4, READ, found(b"0"))),
+    "a counter that is gone": made((0, 0, 1, COUNT, "1"), (1, 2, 3, READ, ("missing",))),
+    "an incr of a counter that is gone": made((0, 0, 1, COUNT, "NOT_FOUND")),
+}
+
+
 def try_search():
+    for name, calls in SOUND_COUNTERS.items():
+        if decide_counter(calls) is not None:
+            sys.exit(f"linearizable: of counters {name} is refused")
+    for name, calls in UNSOUND_COUNTERS.items():
+        if decide_counter(calls) is None:
+            sys.exit(f"linearizable: of counters {name} is passed")
     for name, calls in SOUND_REGISTERS.items():
         if decide_register(calls) is not None:
             sys.exit(f"linearizable: of registers {name} is refused")

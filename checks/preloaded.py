@@ -1,4 +1,4 @@
-"""Programs that run while one call of the C library fails: what `checks/faults.rs` makes of the environment, and what it tells."""
+"""Programs that run while one call of the C library fails, or ends them: what `checks/faults.rs` and `checks/kills.rs` make of the environment, and what the first one tells."""
 import os
 import shutil
 import subprocess
@@ -9,12 +9,12 @@ KINDS = ["ALLOCATE", "READ", "WRITE", "THREAD"]
 WRITES_SHORT, READS_SHORT = 1, 2
 
 
-def build(room):
+def build(room, name="faults"):
     """The library that is loaded before a program, built into this folder. Without a compiler there is nothing to try."""
     if shutil.which("rustc") is None:
         sys.exit(print(f"{Path(sys.argv[0]).name}: rustc is not installed, so nothing was refused"))
-    library = f"{room}/faults.so"
-    source = Path(__file__).resolve().parent / "faults.rs"
+    library = f"{room}/{name}.so"
+    source = Path(__file__).resolve().parent / f"{name}.rs"
     subprocess.run(["rustc", "--edition", "2021", "-O", "--crate-type", "cdylib", "-o", library, source], check=True)
     return library
 

@@ -2,6 +2,8 @@
 
 A server is the proved program, unless a check names another one behind `--`. Whatever ends a check, but for KILL, ends its servers first."""
 import atexit
+import importlib.machinery
+import importlib.util
 import os
 import resource
 import select
@@ -53,6 +55,15 @@ def split_words(words):
         at = words.index("--")
         return words[:at], words[at + 1 :]
     return words, [built.hermes()]
+
+
+def check_named(name):
+    """Another check as a module."""
+    loader = importlib.machinery.SourceFileLoader(name, str(TOP / "checks" / name))
+    module = importlib.util.module_from_spec(importlib.util.spec_from_loader(name, loader))
+    sys.modules[name] = module
+    loader.exec_module(module)
+    return module
 
 
 def end_all(*_signal):
@@ -396,7 +407,8 @@ class Cases:
         self.tried += 1
         try:
             told = case(*given)
-        except (Fault, OSError, ValueError) as fault:
+        except Exception as fault:
+            # whatever it is: what a pool runs would else be missed
             self.faults += 1
             met = "nothing is told for longer than a client waits" if isinstance(fault, TimeoutError) else repr(fault)
             told = f"FAULT: {fault if isinstance(fault, Fault) else met}"

@@ -1,0 +1,337 @@
+"""Faults of a group over hosts that are drawn: what begins each of them, and what heals it; and the group that they befall, each host a namespace (switch.py),
+each process with a clock and a disk that are steered (outside.rs)."""
+import mmap
+import os
+import random
+import signal
+import struct
+import threading
+from concurrent.futures import ThreadPoolExecutor
+from dataclasses import dataclass
+
+import switch
+from hosts import LOG, OUT, Hosts
+from switch import Terms
+
+HOSTS, LEASE = 3, 1_000
+# For how many seconds faults last.
+LASTS = (1, 1.5, 2, 3, 6)
+# Whether a process whose node is out of its group, or was killed, comes back as a new one.
+COMES_BACK = False
+# By how many millionths of a second a clock goes on in a second: at all, within the bound, and beyond it.
+RATE, RATES, BEYOND = 1_000_000, (957_000, 1_043_000), 400_000
+
+
+# ---- a group on the switch
+
+
+class Namespaces:
+    """The hosts of one group, and later of another one: a network of its own at the switch."""
+
+    def __init__(self, number):
+        with ThreadPoolExecutor(HOSTS) as pool:
+            self.hosts = list(pool.map(lambda place: switch.Namespace(number, place), range(HOSTS)))
+
+    def address(self, place):
+        return self.hosts[place].address
+
+    def leave(self):
+        """They stay, for another group."""
+
+
+class Steered:
+    """The clock and the disk of a process (outside.rs): a file that the process looks at."""
+
+    FIELDS = ("rate", "jump", "sync", "full")
+
+    def __init__(self, path):
+        path.write_bytes(struct.pack("4q", RATE, 0, 0, 0))
+        with open(path, "r+b") as file:
+            self.map = mmap.mmap(file.fileno(), 32)
+
+    def read(self, name):
+        return struct.unpack_from("q", self.map, 8 * self.FIELDS.index(name))[0]
+
+    def set(self, name, value):
+        struct.pack_into("q", self.map, 8 * self.FIELDS.index(name), value)
+
+
+class Group(Hosts):
+    """A group whose hosts are namespaces, and its supervisor: a process that ends is started again."""
+
+    def __init__(self, program, network, library, seed):
+        super().__init__(program, LEASE, HOSTS, network)
+        self.library, self.hosts = library, self.network.hosts
+        self.steered = [Steered(self.room / f"outside-{place}") for place in range(HOSTS)]
+        # the disk that may be full: of one host alone, whose manager may be gone behind it
+        self.draw = random.Random(f"{seed} group")
+        self.full_place = self.draw.randrange(HOSTS)
+        self.wrong, self.is_ending = [], threading.Event()
+        self.supervisor = threading.Thread(target=self.supervise, daemon=True)
+
+    def __exit__(self, *cause):
+        self.is_ending.set()
+        if self.supervisor.is_alive():
+            self.supervisor.join()
+        super().__exit__(*cause)
+
+    def program_at(self, place):
+        return [*self.hosts[place].inside(), *self.program]
+
+    def start(self, place, *more, **options):
+        steered = {"LD_PRELOAD": self.library, "OUTSIDE": str(self.room / f"outside-{place}")} if self.library else {}
+        return super().start(place, *more, env={**os.environ, **steered}, **options)
+
+    def begin_all(self):
+        """Starts and founds it, on disks that are drawn to be slow meanwhile, and from then on starts again what ends."""
+        for steered in self.steered:
+            steered.set("sync", self.draw.choice((0, 0, 100, 300)))
+        self.start_all()
+        self.found()
+        for steered in self.steered:
+            steered.set("sync", 0)
+        self.supervisor.start()
+        return self
+
+    def supervise(self):
+        while not self.is_ending.wait(0.2):
+            for place, server in list(self.servers.items()):
+                if not server.is_up() and not self.is_ending.is_set():
+                    self.note_end(place, server)
+                    self.start(place)
+
+    def note_end(self, place, server):
+        """A signal may end a process, that its node is out, and at its start a full disk."""
+        status = server.process.returncode
+        is_due = status == -signal.SIGKILL or COMES_BACK and status == OUT or status == LOG and self.steered[place].read("full")
+        if not is_due:
+            self.wrong.append(f"the process of host {place} ends with status {status}: {server.told()!r:.300}")
+
+    def pairs(self, froms, tos):
+        return [(self.hosts[one], self.hosts[other]) for one in froms for other in tos if one != other]
+
+    def signal(self, place, number):
+        self.servers[place].process.send_signal(number)
+
+
+# ---- faults
+
+
+@dataclass
+class DrawnFault:
+    """A fault: what it is, how many seconds it lasts, which hosts it hits, and what begins and heals it."""
+
+    kind: str
+    text: str
+    lasts: float
+    hit: set
+    begin: callable
+    heal: callable
+    # readings of the clock, in nanoseconds: when it began and was healed, and when the group served again
+    begun: int = 0
+    healed: int = 0
+    served: int = 0
+
+
+@dataclass
+class Scene:
+    """What a fault is drawn for."""
+
+    group: Group
+    switch: switch.Switch
+    draw: random.Random
+
+    def place(self):
+        return self.draw.randrange(HOSTS)
+
+    def lasts(self):
+        return self.draw.choice(LASTS)
+
+
+class Repeated:
+    """Something that is turned on and off by a drawn list of seconds, until it is ended."""
+
+    def __init__(self, on, off, seconds):
+        self.on, self.off, self.seconds, self.is_over = on, off, seconds, threading.Event()
+        self.thread = threading.Thread(target=self.run, daemon=True)
+
+    def run(self):
+        for turned_on, turned_off in self.seconds:
+            self.on()
+            self.is_over.wait(turned_on)
+            self.off()
+            if self.is_over.wait(turned_off):
+                return
+
+    def begin(self):
+        self.thread.start()
+
+    def end(self):
+        self.is_over.set()
+        self.thread.join()
+        self.off()
+
+
+CUTS = ("one-way", "two-way", "cut-off", "apart")
+
+
+def cut(scene, kind):
+    """A cut, and what it is in words: the pairs of hosts, and the hosts that it hits."""
+    one, other = scene.draw.sample(range(HOSTS), 2)
+    if kind == "one-way":
+        return scene.group.pairs([one], [other]), {one, other}, f"nothing gets from host {one} to host {other}"
+    if kind == "two-way":
+        return scene.group.pairs([one, other], [one, other]), {one, other}, f"hosts {one} and {other} hear nothing of each other"
+    everybody = set(range(HOSTS))
+    if kind == "apart":
+        return scene.group.pairs(everybody, everybody), everybody, "no host hears anything of another one"
+    others = everybody - {one}
+    return scene.group.pairs([one], others) + scene.group.pairs(others, [one]), {one}, f"host {one} is cut off"
+
+
+def cuts(kind):
+    def drawn(scene):
+        pairs, hit, text = cut(scene, kind)
+        return DrawnFault(kind, text, scene.lasts(), hit, lambda: scene.switch.drop("cut", pairs), lambda: scene.switch.pass_on("cut"))
+
+    return drawn
+
+
+def flap(scene):
+    pairs, hit, text = cut(scene, scene.draw.choice(CUTS))
+    seconds = [(scene.draw.uniform(0.05, 0.8), scene.draw.uniform(0.02, 0.5)) for _ in range(40)]
+    repeated = Repeated(lambda: scene.switch.drop("cut", pairs), lambda: scene.switch.pass_on("cut"), seconds)
+    return DrawnFault("flap", f"on and off: {text}", scene.lasts(), hit, repeated.begin, repeated.end)
+
+
+def loss(scene):
+    share = scene.draw.choice((10, 50, 100, 200))
+    everybody = set(range(HOSTS))
+    pairs = scene.group.pairs(everybody, everybody)
+    text = f"{share / 10:.0f} % of all packets are lost"
+    return DrawnFault("loss", text, scene.lasts(), everybody, lambda: scene.switch.drop("loss", pairs, share), lambda: scene.switch.pass_on("loss"))
+
+
+def relayed(kind, text_of, terms_of):
+    def drawn(scene):
+        terms = terms_of(scene.draw)
+        everybody = set(range(HOSTS))
+        return DrawnFault(kind, text_of(terms), scene.lasts(), everybody, lambda: scene.switch.delay(scene.group.hosts, terms), scene.switch.undelay)
+
+    return drawn
+
+
+def milliseconds(terms):
+    return f"{terms.delay / 1000:.0f} to {(terms.delay + terms.jitter) / 1000:.0f} ms"
+
+
+delay = relayed(
+    "delay",
+    lambda terms: f"each packet takes {milliseconds(terms)}",
+    lambda draw: Terms(delay=draw.choice((3_000, 10_000, 30_000, 60_000)), jitter=draw.choice((0, 4_000, 20_000))),
+)
+disorder = relayed(
+    "disorder",
+    lambda terms: f"each packet takes {milliseconds(terms)}, out of order",
+    lambda draw: Terms(delay=1_000, jitter=draw.choice((5_000, 20_000, 50_000)), is_ordered=False),
+)
+twice = relayed(
+    "twice",
+    lambda terms: f"{terms.twice / 10:.0f} % of all packets come twice, out of order",
+    lambda draw: Terms(jitter=5_000, is_ordered=False, twice=draw.choice((100, 500, 1000))),
+)
+narrow = relayed(
+    "narrow",
+    lambda terms: f"a line takes {terms.rate // 1000} KB a second",
+    lambda draw: Terms(rate=draw.choice((20_000, 50_000, 150_000)), queue=300_000),
+)
+
+
+def bursts(scene):
+    place = scene.place()
+    seconds = [(scene.draw.uniform(0.01, 0.4), scene.draw.uniform(0.01, 0.3)) for _ in range(60)]
+    repeated = Repeated(lambda: scene.group.signal(place, signal.SIGSTOP), lambda: scene.group.signal(place, signal.SIGCONT), seconds)
+    return DrawnFault("bursts", f"the process of host {place} is stopped for moments", scene.lasts(), {place}, repeated.begin, repeated.end)
+
+
+def stop(scene):
+    place, group = scene.place(), scene.group
+    text = f"the process of host {place} is stopped"
+    return DrawnFault("stop", text, 3 * LEASE / 1000, {place}, lambda: group.signal(place, signal.SIGSTOP), lambda: group.signal(place, signal.SIGCONT))
+
+
+def set_rates(group, rates):
+    for steered, rate in zip(group.steered, rates):
+        steered.set("rate", rate)
+
+
+def clocks(scene):
+    group, place, jump = scene.group, scene.place(), scene.draw.randrange(5)
+    rates = [scene.draw.randrange(*RATES) for _ in range(HOSTS)]
+
+    def begin():
+        set_rates(group, rates)
+        group.steered[place].set("jump", group.steered[place].read("jump") + jump)
+
+    text = f"clocks go at {', '.join(f'{rate / 10_000:.1f}' for rate in rates)} %, and that of host {place} {jump} ms forward"
+    return DrawnFault("clocks", text, scene.lasts(), set(range(HOSTS)), begin, lambda: set_rates(group, [RATE] * HOSTS))
+
+
+def clock_beyond(scene):
+    group = scene.group
+    pairs, hit, text = cut(scene, "cut-off")
+    rates = [BEYOND if place in hit else RATE for place in range(HOSTS)]
+
+    def begin():
+        set_rates(group, rates)
+        scene.switch.drop("cut", pairs)
+
+    def heal():
+        scene.switch.pass_on("cut")
+        set_rates(group, [RATE] * HOSTS)
+
+    return DrawnFault("clock-beyond", f"{text}, and its clock goes at {BEYOND / 10_000:.0f} %", 4 * LEASE / 1000, hit, begin, heal)
+
+
+def slow_disk(scene):
+    sync, place = scene.draw.choice((50, 200, 500)), scene.place()
+    steered, text = scene.group.steered[place], f"each sync of host {place} takes {sync} ms longer"
+    return DrawnFault("slow-disk", text, scene.lasts(), {place}, lambda: steered.set("sync", sync), lambda: steered.set("sync", 0))
+
+
+def full_disk(scene):
+    place = scene.group.full_place
+    steered, text = scene.group.steered[place], f"the disk of host {place} is full"
+    return DrawnFault("full-disk", text, scene.lasts(), {place}, lambda: steered.set("full", 1), lambda: steered.set("full", 0))
+
+
+def kill(scene):
+    place, group = scene.place(), scene.group
+    return DrawnFault("kill", f"the process of host {place} is killed", 5, {place}, lambda: group.signal(place, signal.SIGKILL), lambda: group.wait_inside(place))
+
+
+NETWORK = {"loss": loss, **{kind: cuts(kind) for kind in CUTS}, "flap": flap}
+RELAYED = {"delay": delay, "disorder": disorder, "twice": twice, "narrow": narrow}
+PROCESS = {"bursts": bursts, "stop": stop}
+OUTSIDE = {"clocks": clocks, "slow-disk": slow_disk, "full-disk": full_disk}
+SORTS = (NETWORK, RELAYED, PROCESS, OUTSIDE)
+ASKED = {"kill": kill, "clock-beyond": clock_beyond}
+KINDS = {kind: drawn for sort in SORTS for kind, drawn in sort.items()}
+
+
+def two(kinds):
+    """Two faults at once, of different sorts, as many as there are."""
+    sorts = [{kind: drawn for kind, drawn in sort.items() if kind in kinds} for sort in SORTS]
+    sorts = [sort for sort in sorts if sort]
+
+    def drawn(scene):
+        one, other = (scene.draw.choice(list(sort.values()))(scene) for sort in scene.draw.sample(sorts, 2))
+
+        def both(first, second):
+            first()
+            second()
+
+        lasts, hit = max(one.lasts, other.lasts), one.hit | other.hit
+        return DrawnFault("two", f"{one.text}; {other.text}", lasts, hit, lambda: both(one.begin, other.begin), lambda: both(other.heal, one.heal))
+
+    return drawn if len(sorts) > 1 else None
