@@ -1,16 +1,17 @@
-// Asks a server that speaks the memcached text protocol, or redis or etcd, and prints requests a second, the microseconds of processor time that
-// the server spent on each, and the 50th and 99th percentile of the time to an answer, in microseconds.
+// Asks servers that speak the memcached text protocol, or redis or etcd, and prints requests a second, the microseconds of processor time that
+// the servers spent on each, the 50th and 99th percentile of the time to an answer, in microseconds, and how many requests were refused.
 //
-// `load PORT PROCESSES CONNECTIONS DEPTH REQUESTS SETS` asks over so many connections, each a thread that has DEPTH requests on their way,
+// `load ADDRESSES PROCESSES CONNECTIONS DEPTH REQUESTS SETS` asks over so many connections, each a thread that has DEPTH requests on their way,
 // REQUESTS in all, of which SETS in a hundred are sets; the others are gets. There are 10,000 keys, each with a value of 100 bytes, which
-// are set first where they are not there yet. PROCESSES are those that serve, parted by commas.
+// are set first where they are not there yet. Connections go to the ADDRESSES in turn. PROCESSES are those that serve. Both are parted by commas;
+// an address is a port of 127.0.0.1, or HOST:PORT. With SECONDS behind it all, nothing is asked any more from then on.
 //
-// `load redis PORT PROCESSES ..` does the same at redis, where each batch with a set ends with a `WAIT 2 0`: it is answered once two replicas
+// `load redis ADDRESSES PROCESSES ..` does the same at redis, where each batch with a set ends with a `WAIT 2 0`: it is answered once two replicas
 // have what was set.
 //
-// `load etcd PORT PROCESSES CONNECTIONS 1 ..` does the same at a member of etcd, by the JSON gateway of its third version, whose reads are linearizable too.
+// `load etcd ADDRESSES PROCESSES CONNECTIONS 1 ..` does the same at members of etcd, by the JSON gateway of its third version, whose reads are linearizable too.
 //
-// `load PORT KEYS` sets so many keys, each with such a value, or with one of BYTES bytes by `load PORT KEYS BYTES`, and prints nothing.
+// `load ADDRESS KEYS` sets so many keys, each with such a value, or with one of BYTES bytes by `load ADDRESS KEYS BYTES`, and prints nothing.
 use std::io::{self, BufRead, BufReader, Read, Write};
 use std::net::TcpStream;
 use std::time::{Duration, Instant};
@@ -104,8 +105,8 @@ struct Client {
 }
 
 impl Client {
-    fn new(protocol: Protocol, port: u16) -> io::Result<Client> {
-        let stream = TcpStream::connect(("127.0.0.1", port))?;
+    fn new(protocol: Protocol, address: &str) -> io::Result<Client> {
+        let stream = if address.contains(':') { TcpStream::connect(address) } else { TcpStream::connect(format!("127.0.0.1:{address}")) }?;
         stream.set_nodelay(true)?;
         let reader = BufReader::with_capacity(1 << 16, stream.try_clone()?);
         Ok(Client { protocol, reader, stream, line: Vec::new() })
@@ -140,21 +141,24 @@ impl Client {
         Ok(String::from_utf8_lossy(&body).into_owned())
     }
 
-    /// Reads one reply, and panics where it is none that is due.
-    fn reply(&mut self, is_set: bool) -> io::Result<()> {
+    /// Reads one reply, and panics where it is none that is due. Gives whether it is one, and no refusal.
+    fn reply(&mut self, is_set: bool) -> io::Result<bool> {
         let (stored, found, end): (&[u8], &[u8], &[u8]) = match self.protocol {
             Protocol::Memcached => (b"STORED\r\n", b"VALUE ", b"END\r\n"),
             Protocol::Redis => (b"+OK\r\n", b"$100\r\n", b""),
             Protocol::Etcd => {
                 let body = self.read_body()?;
                 assert!(is_set || body.contains(&base64(&VALUE)), "{}", body);
-                return Ok(());
+                return Ok(true);
             }
         };
         self.read_line()?;
+        if self.line.starts_with(b"SERVER_ERROR ") {
+            return Ok(false);
+        }
         if is_set {
             assert_eq!(self.line, stored);
-            return Ok(());
+            return Ok(true);
         }
         assert!(self.line.starts_with(found), "{}", String::from_utf8_lossy(&self.line));
         let mut value = [0; VALUE.len() + 2];
@@ -162,7 +166,7 @@ impl Client {
         let mut rest = [0; 5];
         self.reader.read_exact(&mut rest[..end.len()])?;
         assert_eq!(&rest[..end.len()], end);
-        Ok(())
+        Ok(true)
     }
 }
 
@@ -184,38 +188,52 @@ fn is_there(client: &mut Client, key: u64, bytes: usize) -> io::Result<bool> {
     Ok(true)
 }
 
-/// Sets so many keys to this value, unless the last of them is there.
-fn fill(protocol: Protocol, port: u16, keys: u64, value: &[u8]) -> io::Result<()> {
-    let mut client = Client::new(protocol, port)?;
+/// Sets so many keys to this value, unless the last of them is there. Replies are read up to a hundredth of the keys late, so that client and server need not take turns.
+fn fill(protocol: Protocol, address: &str, keys: u64, value: &[u8]) -> io::Result<()> {
+    let mut client = Client::new(protocol, address)?;
     if is_there(&mut client, keys - 1, value.len())? {
         return Ok(());
     }
-    let (mut out, mut sets) = (Vec::new(), 0);
+    let (mut out, mut replies) = (Vec::new(), 0);
     for key in 0..keys {
         protocol.put_request(&mut out, key, Some(value))?;
-        sets += 1;
-        if out.len() > 8192 || key + 1 == keys {
+        let is_last = key + 1 == keys;
+        if out.len() > 8192 || is_last {
             client.stream.write_all(&out)?;
-            for _ in 0..sets {
-                client.reply(true)?;
-            }
             out.clear();
-            sets = 0;
+            while replies <= key && (is_last || key - replies >= keys / 100) {
+                assert!(client.reply(true)?, "a set is refused");
+                replies += 1;
+            }
         }
     }
     client.quit()
 }
 
-/// Gives the times to the answers of each batch of DEPTH requests.
-fn ask(protocol: Protocol, port: u16, start: u64, depth: u64, requests: u64, sets: u64) -> io::Result<Vec<Duration>> {
-    let mut client = Client::new(protocol, port)?;
+/// What each connection asks.
+#[derive(Clone, Copy)]
+struct Asked {
+    protocol: Protocol,
+    depth: u64,
+    requests: u64,
+    sets: u64,
+    ends: Option<Instant>,
+}
+
+/// Gives the times to the answers of each batch of DEPTH requests, and how many requests were refused.
+fn ask(asked: Asked, address: &str, start: u64) -> io::Result<(Vec<Duration>, u64)> {
+    let protocol = asked.protocol;
+    let mut client = Client::new(protocol, address)?;
     let mut draws = Draws(start);
-    let (mut out, mut kinds, mut times) = (Vec::new(), Vec::new(), Vec::new());
-    for _ in 0..requests / depth {
+    let (mut out, mut kinds, mut times, mut refused) = (Vec::new(), Vec::new(), Vec::new(), 0);
+    for _ in 0..asked.requests / asked.depth {
+        if asked.ends.is_some_and(|ends| Instant::now() > ends) {
+            break;
+        }
         out.clear();
         kinds.clear();
-        for _ in 0..depth {
-            let is_set = draws.below(100) < sets;
+        for _ in 0..asked.depth {
+            let is_set = draws.below(100) < asked.sets;
             protocol.put_request(&mut out, draws.below(KEYS), is_set.then_some(&VALUE[..]))?;
             kinds.push(is_set);
         }
@@ -223,7 +241,7 @@ fn ask(protocol: Protocol, port: u16, start: u64, depth: u64, requests: u64, set
         let begun = Instant::now();
         client.stream.write_all(&out)?;
         for is_set in &kinds {
-            client.reply(*is_set)?;
+            refused += u64::from(!client.reply(*is_set)?);
         }
         if waits {
             client.read_line()?;
@@ -232,7 +250,7 @@ fn ask(protocol: Protocol, port: u16, start: u64, depth: u64, requests: u64, set
         times.push(begun.elapsed());
     }
     client.quit()?;
-    Ok(times)
+    Ok((times, refused))
 }
 
 /// The processor time of processes, in microseconds.
@@ -260,29 +278,41 @@ fn main() -> io::Result<()> {
         protocol = named;
     }
     match words[..] {
-        [port, keys] => return fill(protocol, number(port) as u16, number(keys), &VALUE),
-        [port, keys, bytes] => return fill(protocol, number(port) as u16, number(keys), &vec![b'v'; number(bytes) as usize]),
+        [address, keys] => return fill(protocol, address, number(keys), &VALUE),
+        [address, keys, bytes] => return fill(protocol, address, number(keys), &vec![b'v'; number(bytes) as usize]),
         _ => {}
     }
-    let [port, processes, connections, depth, requests, sets] = words[..] else {
-        eprintln!("usage: load [redis | etcd] PORT PROCESSES CONNECTIONS DEPTH REQUESTS SETS | load [redis | etcd] PORT KEYS [BYTES]");
+    let (words, seconds) = match &words[..] {
+        [words @ .., seconds] if words.len() == 6 => (words, Some(number(seconds))),
+        words => (words, None),
+    };
+    let [addresses, processes, connections, depth, requests, sets] = words[..] else {
+        eprintln!("usage: load [redis | etcd] ADDRESSES PROCESSES CONNECTIONS DEPTH REQUESTS SETS [SECONDS] | load [redis | etcd] ADDRESS KEYS [BYTES]");
         std::process::exit(2);
     };
-    let port = number(port) as u16;
+    let addresses: Vec<&str> = addresses.split(',').collect();
     let processes: Vec<u64> = processes.split(',').map(number).collect();
-    let (connections, depth, requests, sets) = (number(connections), number(depth), number(requests), number(sets));
-    fill(protocol, port, KEYS, &VALUE)?;
+    let connections = number(connections);
+    fill(protocol, addresses[0], KEYS, &VALUE)?;
     let (spent_before, begun) = (spent(&processes)?, Instant::now());
-    let each = requests / connections;
-    let asking: Vec<_> = (0..connections).map(|start| std::thread::spawn(move || ask(protocol, port, start, depth, each, sets))).collect();
-    let mut times = Vec::new();
+    let ends = seconds.map(|seconds| begun + Duration::from_secs(seconds));
+    let asked = Asked { protocol, depth: number(depth), requests: number(requests) / connections, sets: number(sets), ends };
+    let asking: Vec<_> = (0..connections)
+        .map(|start| {
+            let address = addresses[start as usize % addresses.len()].to_string();
+            std::thread::spawn(move || ask(asked, &address, start))
+        })
+        .collect();
+    let (mut times, mut refused) = (Vec::new(), 0);
     for thread in asking {
-        times.extend(thread.join().expect("a thread ended")?);
+        let (of_thread, refused_there) = thread.join().expect("a thread ended")?;
+        times.extend(of_thread);
+        refused += refused_there;
     }
     let (wall, cpu) = (begun.elapsed().as_secs_f64(), spent(&processes)? - spent_before);
-    let asked = (times.len() as u64 * depth) as f64;
+    let count = (times.len() as u64 * asked.depth) as f64;
     times.sort_unstable();
     let percentile = |part: usize| times[(times.len() - 1) * part / 100].as_secs_f64() * 1e6;
-    println!("{:.0} {:.3} {:.0} {:.0}", asked / wall, cpu / asked, percentile(50), percentile(99));
+    println!("{:.0} {:.3} {:.0} {:.0} {refused}", count / wall, cpu / count, percentile(50), percentile(99));
     Ok(())
 }
