@@ -17,6 +17,7 @@ ghost use Rattle.hk_node.specs.declared.event.NodeEvent.TheVariants.{Call};
 ghost use Rattle.hk_node.specs.Stepped.{replies_of};
 ghost use Rattle.hk_node.specs.Steps.{node_step};
 ghost use Rattle.hk_node.specs.Calls.{lease_end};
+ghost use Rattle.hk_node.specs.Node.{epoch_of};
 ghost use Rattle.hk_node.specs.Index.{is_open_at};
 ghost use Rattle.hk_locked.specs.Places.{shard_names, node_names};
 ghost use Rattle.hk_locked.specs.ByRow.{ReadsRow};
@@ -37,7 +38,7 @@ use hk_callback::{Callbacks, Completion};
 use hk_due::{Due, OpenKeys, due_of_key};
 use hk_journal::{Journal, share_journal};
 use hk_node::{Node, NodeEvent};
-use hk_shard::{Shard, ShardOut};
+use hk_shard::{Held, Shard, ShardOut};
 use hk_snap::cell_of;
 use hk_told::{Ask, AskState, Asks};
 use std::alloc::Global;
@@ -265,6 +266,25 @@ impl<F: Completion + Copy + Drop, P: Places> LockedShard<F, P> {
         ensures { result ≡ self.now.shard.last }
     {
         self.shard.last_ticket()
+    }
+
+    /// The epoch of the view that its part has, 0 where it has none.
+    pub fn epoch(&self) -> u64
+        ensures { result ≡ epoch_of self.now.shard.part }
+    {
+        self.shard.part().epoch()
+    }
+
+    /// Whether its part has all rows: it is a founder's, or has copied them.
+    pub fn is_whole(&self) -> bool
+        ensures { result ≡ self.now.shard.part.ready }
+    {
+        self.shard.part().ready()
+    }
+
+    /// How much its part holds.
+    pub fn held(&self) -> Held {
+        self.shard.held()
     }
 
     /// Whether the key's row is Valid, or there is none. It looks at no row, unless memory was wanting for keys of open rows.

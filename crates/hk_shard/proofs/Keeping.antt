@@ -185,6 +185,17 @@ new_kept base part ends lease ok empty same long nothing is = record {
   shown_tickets = λ cell. subst (AllByRecursion (λ p. p.ticket ≤ 0)) (sym (nothing cell)) tt;
 }
 
+max_zero : (n : ℕ) → max 0 n ≡ n
+max_zero n = omega (arith)
+
+-- a lease cell that was raised for the first time
+pub raised_first : (keeper first : Lease) (end now : ℕ) → first ≡ kept_lease first.name 0 0 → keeper ≡ raised first end now → keeper ≡ kept_lease keeper.name end now
+raised_first keeper first end now is up =
+    let ended : max first.end end ≡ end = ap (λ (l : Lease). max l.end end) is ∙ max_zero end in
+    let clock : max first.now now ≡ now = ap (λ (l : Lease). max l.now now) is ∙ max_zero now in
+    let named : first.name ≡ keeper.name = sym (ap (λ (l : Lease). l.name) up) in
+    up ∙ (λ i. kept_lease (named i) (ended i) (clock i))
+
 -- ---- readers that have seen nothing
 abbrev fresh : List End → Reader
 fresh ends = record { ends = ends; shown = None }

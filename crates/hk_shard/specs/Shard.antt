@@ -43,6 +43,11 @@ pub record IsShard (s : ShardState) : Type 0 where
   pub tickets : AllByRecursion (λ entry. entry.ticket ≤ s.last) s.journal
   pub shown_tickets : (cell : ℕ) → AllByRecursion (λ p. p.ticket ≤ s.last) (seen_at s.ends cell)
 
+-- the cells of a shard that is to be made: what was published in each, nothing, and what the lease cell shows
+pub record CellsState : Type 0 where
+  pub ends : List End
+  pub lease : Lease
+
 -- A shard of this node: nothing happened yet, and nothing was published.
 pub record IsNew (node : NodeState) (s : ShardState) : Type 0 where
   pub base : s.base ≡ node

@@ -20,15 +20,19 @@
 //! its clock falls (`leases_never_fall`). A read that is told from what it shows is told what its node answers, by the
 //! lease that the cell shows now; by an earlier one too, or that this lease may be over (`local_reads_are_reads`).
 //!
-//! What no clause says: what a call costs.
+//! What no clause says: what a call costs, and how much the shard holds ([`Shard::held`]).
 #![tactic(auto)]
 
+mod cells;
+mod held;
 mod laws;
 mod replaced;
 mod shard;
 mod show;
 mod step;
 
+pub use cells::ShardCells;
+pub use held::Held;
 pub use laws::{cells_show_the_part, leases_never_fall, local_reads_are_reads};
 pub use shard::{SHARDS, Shard, shard_of};
 pub use step::ShardOut;

@@ -12,6 +12,8 @@ ghost use Rattle.hk_snap.specs.Ends.{names, noted, seen_at, looked, Loads};
 ghost use Rattle.hk_snap.specs.Leases.{Looks};
 ghost use Rattle.hk_shard.specs.Shard.{shard_of};
 
+use crate::cells::ShardCells;
+use crate::held::Held;
 use crate::replaced::{Replaced, let_go};
 use crate::show::{call_of, lease_end, publish_rows, show_rows};
 use crate::step::{ShardOut, before_all, make, make_noted, move_in};
@@ -19,7 +21,7 @@ use hk_base::{Key, Memory};
 use hk_due::OpenKeys;
 use hk_journal::Journal;
 use hk_node::{Node, NodeEvent, NodeOut};
-use hk_snap::{LeaseCell, LeaseKeeper, SnapReader, SnapWriter, cells, lease_cell};
+use hk_snap::{LeaseCell, LeaseKeeper, SnapReader, SnapWriter};
 use std::alloc::Global;
 use std::marker::Model;
 use std::mem;
@@ -69,6 +71,8 @@ pub struct Shard {
     /// What steps before that replaced. It is dropped little by little, since a lock is held.
     spent: Vec<Replaced>,
     last: u64,
+    /// How much the part holds.
+    held: Held,
     writer: SnapWriter,
     /// A reader of the cells that has loaded nothing, from which others are split.
     reader: SnapReader,
@@ -102,14 +106,40 @@ impl Shard {
         requires { base.rows ≡ [] }
         ensures new { IfOk result (λ shard. IsNew base shard) }
     {
-        let (writer, reader) = cells(rt, alloc)?;
-        let (keeper, lease) = lease_cell(rt, alloc, lease_end(&base), base.now())?;
+        let cells = ShardCells::new(rt, alloc)?;
+        Shard::over(rt, alloc, cells, base)
+    }
+
+    /// The same, over these cells.
+    pub fn over<R: Wait>(
+        rt: &R,
+        alloc: Global,
+        cells: ShardCells,
+        base: Node,
+    ) -> Result<Shard, Memory>
+        requires { base.rows ≡ [] }
+        ensures new { IfOk result (λ shard. IsNew base shard) }
+        ensures ends { IfOk result (λ shard. shard.ends ≡ cells.ends) }
+        ensures lease { IfOk result (λ shard. shard.lease.name ≡ cells.lease.name) }
+    {
+        // the first step needs no room more
+        let replaced = Vec::with_capacity(alloc, 1)?;
+        let ShardCells {
+            writer,
+            reader,
+            mut keeper,
+            lease,
+        } = cells;
+        let end = lease_end(&base);
+        let now = base.now();
+        keeper.raise(rt, end, now);
         Ok(Shard {
             part: base,
             journal: Journal::new(alloc),
-            replaced: Vec::new(alloc),
+            replaced,
             spent: Vec::new(alloc),
             last: 0,
+            held: Held::nothing(),
             writer,
             reader,
             keeper,
@@ -143,7 +173,15 @@ impl Shard {
             event,
         )?;
         let rows = out.report.rows.as_slice();
-        publish_rows(rt, &mut self.writer, &self.part, ticket, call, rows);
+        publish_rows(
+            rt,
+            &mut self.writer,
+            &mut self.held,
+            &self.part,
+            ticket,
+            call,
+            rows,
+        );
         self.keeper
             .raise(rt, lease_end(&self.part), self.part.now());
         let_go(&mut self.spent);
@@ -174,7 +212,16 @@ impl Shard {
         self.replaced.reserve(1)?;
         let out = make_noted(alloc, &mut self.part, &mut self.journal, ticket, event)?;
         let rows = out.report.rows.as_slice();
-        show_rows(rt, &mut self.writer, keys, &self.part, ticket, call, rows);
+        show_rows(
+            rt,
+            &mut self.writer,
+            &mut self.held,
+            keys,
+            &self.part,
+            ticket,
+            call,
+            rows,
+        );
         self.keeper
             .raise(rt, lease_end(&self.part), self.part.now());
         let_go(&mut self.spent);
@@ -273,5 +320,10 @@ impl Shard {
         ensures { result ≡ self.now.last }
     {
         self.last
+    }
+
+    /// How much its part holds.
+    pub fn held(&self) -> Held {
+        self.held
     }
 }

@@ -10,6 +10,7 @@ ghost use Rattle.hk_due.specs.Keys.{AreNoted};
 ghost use Rattle.hk_journal.specs.Journal.{call_of};
 ghost use Rattle.hk_shard.specs.Publishing.{publications, with_all, MayBePublished};
 
+use crate::held::Held;
 use hk_base::{CallNo, State};
 use hk_due::OpenKeys;
 use hk_key::Row;
@@ -34,10 +35,11 @@ pub(crate) fn lease_end(node: &Node) -> u64
     if node.ready() { node.granted() } else { 0 }
 }
 
-// Publishes the present rows of these keys, by one store for each.
+// Publishes the present rows of these keys, by one store for each, and counts what they hold.
 pub(crate) fn publish_rows<R: Wait>(
     rt: &R,
     writer: &mut SnapWriter,
+    held: &mut Held,
     part: &Node,
     ticket: u64,
     call: Option<CallNo>,
@@ -50,6 +52,7 @@ pub(crate) fn publish_rows<R: Wait>(
     for changed in prior {
         if let Some(row) = part.row(&changed.key) {
             writer.publish(rt, &changed.key, row, ticket, call);
+            held.note(changed, row);
         }
     }
 }
@@ -64,6 +67,7 @@ fn is_open(row: &Row) -> bool
 pub(crate) fn show_rows<R: Wait>(
     rt: &R,
     writer: &mut SnapWriter,
+    held: &mut Held,
     keys: &mut OpenKeys,
     part: &Node,
     ticket: u64,
@@ -78,6 +82,7 @@ pub(crate) fn show_rows<R: Wait>(
     for prior in changed {
         if let Some(row) = part.row(&prior.key) {
             writer.publish(rt, &prior.key, row, ticket, call);
+            held.note(prior, row);
             keys.note(&prior.key, is_open(row), ticket);
         }
     }

@@ -30,36 +30,7 @@ pub const TURNS: u64 = 100_000;
 // Once the patience is over, so many looks follow under one lock.
 const BURST: u64 = 1_000;
 
-// Whether the key's row is Valid now, or there is none.
-fn is_settled<F: Completion + Copy + Drop, P: Places, R: Wait>(
-    rt: &R,
-    shards: &Shards<F, P>,
-    shard: u8,
-    key: &Key,
-) -> bool {
-    shards.lock_of(shard).lock(rt).is_settled(key)
-}
-
-// Waits a while until the key's row is Valid.
-fn settle<F: Completion + Copy + Drop, P: Places, R: Wait>(
-    rt: &R,
-    shards: &Shards<F, P>,
-    outlets: &[(Actor, Outlet)],
-    shard: u8,
-    key: &Key,
-) {
-    let steps = shards.steps_at(shard);
-    let mut patience = shards.waits().for_row();
-    for _ in rt.forever() {
-        let seen = steps.seen();
-        if patience.is_over() || is_settled(rt, shards, shard, key) {
-            return;
-        }
-        wait_for(rt, shards, outlets, key, steps, seen, &mut patience);
-    }
-}
-
-// The shard's lock, once the key's row was found Valid under it or was waited for.
+// The shard's lock, where the key's row is Valid or there is none. That is waited for a while, since each time that it comes to be, another call may be first.
 fn lock_settled<'a, F: Completion + Copy + Drop, P: Places, R: Wait>(
     rt: &R,
     shards: &'a Shards<F, P>,
@@ -67,13 +38,18 @@ fn lock_settled<'a, F: Completion + Copy + Drop, P: Places, R: Wait>(
     shard: u8,
     key: &Key,
 ) -> MutexGuard<'a, LockedShard<F, P>> {
-    let held = shards.lock_of(shard).lock(rt);
-    if held.is_settled(key) {
-        return held;
+    let steps = shards.steps_at(shard);
+    let mut patience = shards.waits().for_row();
+    for _ in rt.forever() {
+        let seen = steps.seen();
+        let held = shards.lock_of(shard).lock(rt);
+        if held.is_settled(key) || patience.is_over() {
+            return held;
+        }
+        drop(held);
+        wait_for(rt, shards, outlets, key, steps, seen, &mut patience);
     }
-    drop(held);
-    settle(rt, shards, outlets, shard, key);
-    shards.lock_of(shard).lock(rt)
+    unreachable!()
 }
 
 // Makes the call at the shard. Where no memory was found its update may have begun, and nobody waits for what it is told.

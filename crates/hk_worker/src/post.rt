@@ -232,6 +232,14 @@ impl<F: Completion + Copy + Drop, P: Places> Post<F, P> {
         )
     }
 
+    /// From now on its letters go by these outlets. Those that were put are rung for.
+    pub fn lead<R: Wait>(&mut self, rt: &R, outlets: Outlets)
+        ensures { self.new ≡ record self.old { outlets = outlets } }
+    {
+        ring_all(rt, self.outlets.as_slice());
+        self.outlets = outlets.into_vec();
+    }
+
     /// Rings for the letters of asks that were begun, if it was not done yet.
     pub fn ring<R: Wait>(&self, rt: &R) {
         ring_all(rt, self.outlets.as_slice());
