@@ -1,4 +1,5 @@
 pub mod Alone
 mod Views
 mod Naming
+mod Led
 pub mod Started

@@ -3,23 +3,27 @@
 ghost use Rattle.std.specs.Prelude.{◌≡◌, length, IfOk};
 
 use crate::completion::Unheard;
-use crate::desk::{GroupDesk, LeaseTerms, Ringing};
-use crate::lines::split_all;
+use crate::copying::Copier;
+use crate::desk::GroupDesk;
+use crate::keeping::Keeper;
+use crate::leases::{LeaseTerms, Leases};
 use crate::load::Load;
 use crate::reader::Reader;
 use crate::reserve::Reserve;
+use crate::standing::NodeWatch;
 use hk_accept::{Desks, serve_at};
-use hk_base::{Actor, Memory};
-use hk_link::Outlet;
+use hk_base::Memory;
+use hk_link::{Bell, Outlet};
 use hk_locked::Places;
 use hk_outside::{Clock, Connection};
 use hk_overseer::Outlets;
+use hk_routes::{Follower, Routes};
 use hk_shard::SHARDS;
 use hk_snap::LeaseCell;
 use hk_turns::Inlets;
-use hk_worker::{ClockDesk, DeskClock, NodeDesk, Post, Shards};
+use hk_worker::{DeskClock, Post, Shards};
 use std::alloc::Global;
-use std::sync::{Arc, Mutex, Wait};
+use std::sync::{Arc, Wait};
 
 // The number of posts that ask nothing.
 const READERS: u32 = u32::MAX;
@@ -43,7 +47,7 @@ pub struct GroupDesks<R: Wait + Drop, C: Drop, P: Places> {
     /// The shards of the nodes, those of node 0 first.
     pub(crate) nodes: Vec<Arc<Shards<Unheard, P>>>,
     /// To each node and manager. They are split for each desk.
-    pub(crate) outlets: Mutex<Vec<(Actor, Outlet)>>,
+    pub(crate) routes: Arc<Routes>,
 }
 
 // What looks at the leases of the node's shards.
@@ -62,21 +66,30 @@ fn lease_cells<R: Wait, P: Places>(
     Ok(leases)
 }
 
-// What the desk at these shards does beside asking.
-fn new_ringing<R: Wait + Drop, C: Clock + Drop, P: Places>(
+// The leases of these shards.
+fn new_leases<R: Wait + Drop, C: Clock + Drop, P: Places>(
     station: &Station<R, C>,
     shards: &Shards<Unheard, P>,
-) -> Result<Ringing<C>, Memory> {
-    Ok(Ringing {
+) -> Result<Leases<C>, Memory> {
+    Ok(Leases {
         clock: Arc::try_clone(&station.clock)?,
         terms: station.terms,
-        leases: lease_cells(&station.rt, station.alloc, shards)?,
+        cells: lease_cells(&station.rt, station.alloc, shards)?,
         bell: Arc::try_clone(shards.bell())?,
-        load: Arc::try_clone(&station.load)?,
-        updates: 0,
-        bytes: 0,
         is_out: false,
     })
+}
+
+// What wakes the workers of each of these nodes.
+fn bells_of<P: Places>(
+    alloc: Global,
+    nodes: &[Arc<Shards<Unheard, P>>],
+) -> Result<Vec<Arc<Bell>>, Memory> {
+    let mut bells = Vec::new(alloc);
+    for shards in nodes {
+        bells.push(Arc::try_clone(shards.bell())?)?;
+    }
+    Ok(bells)
 }
 
 // The post of this connection.
@@ -109,21 +122,63 @@ impl<R: Wait + Copy + Drop, C: DeskClock + Drop, P: Places> GroupDesks<R, C, P> 
         }
     }
 
+    fn first(&self) -> Result<&Arc<Shards<Unheard, P>>, Memory> {
+        match self.nodes.first() {
+            Some(shards) => Ok(shards),
+            None => Err(Memory),
+        }
+    }
+
+    /// What copies the rows of a shard, 0 to 7, to the first node. There is none of another number.
+    pub fn copier(&self, shard: u8) -> Result<Copier<P>, Memory> {
+        if shard >= SHARDS {
+            return Err(Memory);
+        }
+        let station = &self.station;
+        let shards = Arc::try_clone(self.first()?)?;
+        let (routes, outlets) = Follower::begin(&station.rt, station.alloc, &self.routes)?;
+        Ok(Copier::new(station.alloc, shard, shards, routes, outlets))
+    }
+
+    /// What looks how the first node stands.
+    pub fn watch(&self) -> Result<NodeWatch<P>, Memory> {
+        let shards = Arc::try_clone(self.first()?)?;
+        Ok(NodeWatch { shards })
+    }
+
     /// What makes the steps of parcels for the first node, and the outlet that leads to it.
     pub fn reader(&self) -> Result<(Outlet, Reader<R, P>), Memory> {
-        let Some(shards) = self.nodes.first() else {
-            return Err(Memory);
-        };
         let station = &self.station;
-        let outlets = split_all(station.alloc, &mut *self.outlets.lock(&station.rt))?;
+        let (routes, outlets) = Follower::begin(&station.rt, station.alloc, &self.routes)?;
         Reader::new(
             station.rt,
             station.alloc,
-            shards,
+            self.first()?,
             &station.load,
             READERS,
+            routes,
             outlets,
         )
+    }
+
+    // What keeps a post at these shards.
+    fn keeper(
+        &self,
+        shards: &Shards<Unheard, P>,
+        routes: Follower,
+    ) -> Result<Keeper<R, C>, Memory> {
+        let station = &self.station;
+        Ok(Keeper {
+            rt: station.rt,
+            alloc: station.alloc,
+            routes,
+            reserve: Reserve::new(station.alloc),
+            leases: new_leases(station, shards)?,
+            bells: bells_of(station.alloc, self.nodes.as_slice())?,
+            load: Arc::try_clone(&station.load)?,
+            updates: 0,
+            bytes: 0,
+        })
     }
 
     /// The desk of the connection of this number. Its node is that number modulo the number of nodes.
@@ -134,15 +189,12 @@ impl<R: Wait + Copy + Drop, C: DeskClock + Drop, P: Places> GroupDesks<R, C, P> 
         }
         let station = &self.station;
         let shards = &self.nodes[number as usize % count];
-        let outlets = split_all(station.alloc, &mut *self.outlets.lock(&station.rt))?;
+        let (routes, outlets) = Follower::begin(&station.rt, station.alloc, &self.routes)?;
         let post = new_post(station, shards, number, outlets)?;
-        let ringing = new_ringing(station, shards)?;
-        let clock = Arc::try_clone(&station.clock)?;
         Ok(GroupDesk {
-            rt: station.rt,
-            desk: ClockDesk::new(NodeDesk::new(station.rt, post), clock),
-            ringing,
-            reserve: Reserve::new(station.alloc),
+            clock: Arc::try_clone(&station.clock)?,
+            keeper: self.keeper(shards, routes)?,
+            post,
         })
     }
 }

@@ -109,7 +109,7 @@ impl Open {
     /// Waits until there is a turn to be made, or the loop is to end. Another loop may claim the ring of the ending, so that is looked at behind the rings so far.
     pub(crate) fn wait<R: Wait>(&self, rt: &R) {
         let heard = self.rings.bell.rings();
-        if !self.is_over() {
+        if self.granted == 0 && !self.is_over() {
             self.rings.wait(rt, heard);
         }
     }

@@ -13,8 +13,10 @@
 //!
 //! A [`Member`] is one node alone, for a process whose group has its other nodes, and its managers, in other programs: its
 //! workers, what makes the desks of its clients, the link that leads to it, and a [`Way`] to each other node and each
-//! manager. [`found_node`] gives it the leases that `serve` gives, and [`found_without_lease`] some that are over: the managers
-//! have to grant it others first.
+//! manager; or to managers alone, where others come and go ([`Member::among_managers`]): ways to nodes are put into its routes
+//! then. [`found_node`] gives it the leases that `serve` gives, and [`found_without_lease`] some that are over: the managers
+//! have to grant it others first. [`found_joiner`] gives it no view and no rows: a [`Copier`] for each shard asks other members
+//! for these. A [`NodeWatch`] looks how the node stands.
 //!
 //! The caller gives the runtime value, a clock, doors, a spawner, and a group within the limits of `specs/Founding.antt`.
 //!
@@ -22,22 +24,26 @@
 //! the stated number of connections came, or all that were left, and for each it took a job or counts one fault more
 //! (`done`, `HasServedBeside`); the doors are closed then (`closed`). DoorFault and SpawnFault come only where that
 //! object's count rose (`door_fault`, `spawn_fault`). The list of names has the cells of each node (`AreNamed`), and
-//! there are as many as the group has (`found_nodes`). What the desk of a connection tells is what a `ClockDesk` tells
-//! at a post (`GroupDesk`: `told`). A [`Member`] has the stated number of workers, and of ways one for each node and
-//! manager but itself (`workers`, `ways`). What `found_without_lease` gives are shards of a founder of the first view whose
-//! first leases end at 0 (`founders`).
+//! there are as many as the group has (`found_nodes`). What the desk of a connection tells is what a post is told that is
+//! asked by a clock (`GroupDesk`: `told`). Before an ask its post may be led by other outlets, which changes nothing else
+//! (`AsksLed`, `BeginsLed`). A call that is told that the lease may be over may be asked again (`AsksAgain`, `BeginsAgain`). A [`Member`] has the stated number of workers, and of ways one for each node and manager but itself, or one for
+//! each manager (`workers`, `ways`). What `found_without_lease` gives are shards of a founder of the first view whose
+//! first leases end at 0 (`founders`), and what `found_joiner` gives are new ones of a joiner (`joiners`).
 //!
 //! What no clause says: that the nodes of `serve` are the founders of the first view, which the code asks of
-//! `Shards::founders`; to whom a way leads; at which node a connection is served, that workers and managers run and how
-//! often they ring, and when journals begin anew.
+//! `Shards::founders`; to whom a way leads; what a copier asks for, and how a node stands that is looked at; at which node a
+//! connection is served, that workers and managers run and how often they ring, and when journals begin anew.
 #![tactic(auto)]
 
 mod completion;
+mod copying;
 mod desk;
 mod desks;
 mod founding;
 mod gate;
 mod group;
+mod keeping;
+mod leases;
 mod lines;
 mod load;
 mod managing;
@@ -47,13 +53,16 @@ mod program;
 mod reader;
 mod reserve;
 mod server;
+mod standing;
 mod working;
 
+pub use copying::Copier;
 pub use desk::GroupDesk;
 pub use desks::GroupDesks;
-pub use founding::{first_view, found_node, found_without_lease};
+pub use founding::{first_view, found_joiner, found_node, found_without_lease};
 pub use gate::Ending;
 pub use group::Group;
 pub use member::{Member, Running, Way};
 pub use reader::Reader;
 pub use server::{serve, start_each};
+pub use standing::NodeWatch;

@@ -3,6 +3,7 @@
 use hk_base::{Actor, Memory, Sequence};
 use hk_link::{Bell, Inlet, Outlet, link};
 use hk_overseer::Outlets;
+use hk_routes::Routes;
 use std::alloc::Global;
 use std::sync::{Arc, Wait};
 
@@ -42,6 +43,12 @@ impl Lines {
     /// One outlet more to each of them.
     pub(crate) fn split(&mut self, alloc: Global) -> Result<Outlets, Memory> {
         split_all(alloc, &mut self.outlets)
+    }
+
+    /// One outlet more to each of them, as they are before they change.
+    pub(crate) fn routes(&mut self, alloc: Global) -> Result<Arc<Routes>, Memory> {
+        let outlets = self.split(alloc)?;
+        Ok(Arc::new(alloc, Routes::new(outlets))?)
     }
 
     /// One outlet more by the first link.

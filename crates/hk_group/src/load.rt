@@ -1,13 +1,19 @@
 //! What the journals of all nodes hold, as far as it is counted.
 
+ghost use Rattle.std.specs.Prelude.{◌≡◌};
+
+use crate::completion::Unheard;
 use hk_base::Op;
+use hk_locked::Places;
+use hk_worker::Post;
+use std::sync::Wait;
 use std::sync::atomic::{AtomicU64, Ordering};
 
 /// A journal is begun anew at so many entries. That is done under the lock of its shard, for which all who ask there wait.
 pub(crate) const MAX_ENTRIES: u32 = 64;
 
 // Or where calls and letters brought so many bytes since, to all nodes.
-const MAX_DATA: u64 = 16 * 1_048_576;
+pub(crate) const MAX_DATA: u64 = 16 * 1_048_576;
 
 /// How many bytes the data of calls and the letters between nodes brought to all nodes.
 #[derive(Drop)]
@@ -68,13 +74,27 @@ impl Trimming {
         true
     }
 
-    /// From how many entries on journals are to begin anew, if any are: all, where much was brought, else those that are full.
-    pub(crate) fn due(&mut self, load: &Load) -> Option<u32> {
+    /// Has the journals of the node begun anew: all, where much was brought, else those that are full. Where memory is wanting, they do later.
+    pub(crate) fn trim<R: Wait, P: Places>(
+        &mut self,
+        rt: &R,
+        post: &mut Post<Unheard, P>,
+        load: &Load,
+    ) {
         if self.is_much(load) {
-            return Some(1);
+            empty_journals(rt, post);
+        } else if self.is_full() {
+            let _ = post.trim(rt, MAX_ENTRIES);
         }
-        self.is_full().then_some(MAX_ENTRIES)
     }
+}
+
+/// Has all journals of the node begun anew, and twice, since a shard keeps for a while what its journal let go.
+pub(crate) fn empty_journals<R: Wait, P: Places>(rt: &R, post: &mut Post<Unheard, P>)
+    ensures { post.new ≡ post.old }
+{
+    let _ = post.trim(rt, 0);
+    let _ = post.trim(rt, 0);
 }
 
 /// How many bytes of data an operation brings.

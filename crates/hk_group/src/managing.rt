@@ -2,6 +2,7 @@
 
 use crate::gate::Open;
 use crate::lines::ROOM;
+use crate::reserve::begin_memory;
 use crossbeam_utils::sync::WaitGroup;
 use hk_outside::{Clock, Job};
 use hk_overseer::{ManagerPost, oversee};
@@ -48,6 +49,7 @@ impl<R: Wait + Send + Drop + 'static, C: Clock + Send + Sync + Drop + 'static> J
             mut gate,
             jobs,
         } = self;
+        begin_memory(alloc);
         go_on(&rt, alloc, &mut post, &*clock, &mut gate);
         drop(post);
         drop(jobs);

@@ -8,13 +8,14 @@ use crate::desks::GroupDesks;
 use crate::gate::Ending;
 use crate::group::Group;
 use crate::lines::Lines;
-use crate::program::{Seat, Shared, seat_node};
+use crate::program::{EACH_READING, Seat, Shared, seat_node};
 use crate::working::WorkJob;
 use crossbeam_utils::sync::WaitGroup;
 use hk_base::{Actor, Memory, NodeId};
 use hk_link::{Bell, Inlet, Outlet};
 use hk_locked::Places;
 use hk_outside::Clock;
+use hk_routes::Routes;
 use hk_worker::{Founded, Waits};
 use std::alloc::Global;
 use std::sync::{Arc, Wait};
@@ -36,8 +37,10 @@ pub struct Member<R: Wait + Drop, C: Drop, P: Places> {
     pub desks: GroupDesks<R, C, P>,
     /// Leads to the node. Its workers take what is put.
     pub outlet: Outlet,
-    /// One to each other node, in the order of their numbers, and then one to each manager.
+    /// One to each other node of which it knew as it was made, in the order of their numbers, and then one to each manager.
     pub ways: Vec<Way>,
+    /// The outlets from the node, those of its ways at first. Its workers and its desks follow them.
+    pub routes: Arc<Routes>,
     pub running: Running,
 }
 
@@ -135,15 +138,25 @@ fn new_staff<
     shared: &Shared<R, C>,
     seat: Seat<P>,
     group: &Group,
-    lines: &mut Lines,
+    pause: u64,
+    routes: &Arc<Routes>,
 ) -> Result<(Vec<WorkJob<R, C, P>>, GroupDesks<R, C, P>), Memory>
     ensures { IfOk result (λ staff. length staff.0.items ≡ group.now.workers) }
 {
     let mut seats = Vec::new(shared.alloc);
     seats.push(seat)?;
-    let workers = shared.workers(&mut seats, group.workers, lines)?;
-    let desks = shared.desks(seats, group, lines)?;
+    let workers = shared.workers(&mut seats, group.workers, pause, routes)?;
+    let desks = shared.desks(seats, group, routes)?;
     Ok((workers, desks))
+}
+
+// A way to each manager of the group.
+fn ways_to_managers(alloc: Global, group: &Group, lines: &mut Lines) -> Result<Vec<Way>, Memory>
+    ensures { IfOk result (λ ways. length ways.items ≡ group.now.managers) }
+{
+    let mut ways = Vec::new(alloc);
+    add_manager_ways(alloc, &mut ways, group.managers, lines)?;
+    Ok(ways)
 }
 
 impl<
@@ -170,14 +183,53 @@ impl<
         let seat = seat_node::<P>(alloc, founded, &mut lines)?;
         let shared = Shared::new(rt, alloc, clock)?;
         let ways = new_ways(alloc, number, group, &mut lines)?;
+        Member::with_ways(shared, seat, ways, lines, EACH_READING, group)
+    }
+
+    /// The same, but of the other nodes it does not know yet: ways to them are put into its routes as they come. Its workers raise its clock no sooner than `pause`
+    /// milliseconds behind the last time.
+    pub fn among_managers(
+        rt: R,
+        alloc: Global,
+        clock: Arc<C>,
+        founded: Founded,
+        pause: u64,
+        group: &Group,
+    ) -> Result<Member<R, C, P>, Memory>
+        requires named { node_names P.places founded.node ≡ names_of founded }
+        ensures workers { IfOk result (λ member. length member.workers.items ≡ group.now.workers) }
+        ensures ways { IfOk result (λ member. length member.ways.items ≡ group.now.managers) }
+    {
+        let mut lines = Lines::new(alloc);
+        let founded = founded.with_waits(waits_of(group));
+        let seat = seat_node::<P>(alloc, founded, &mut lines)?;
+        let shared = Shared::new(rt, alloc, clock)?;
+        let ways = ways_to_managers(alloc, group, &mut lines)?;
+        Member::with_ways(shared, seat, ways, lines, pause, group)
+    }
+
+    // The node at this seat, with these ways.
+    fn with_ways(
+        shared: Shared<R, C>,
+        seat: Seat<P>,
+        ways: Vec<Way>,
+        mut lines: Lines,
+        pause: u64,
+        group: &Group,
+    ) -> Result<Member<R, C, P>, Memory>
+        ensures workers { IfOk result (λ member. length member.workers.items ≡ group.now.workers) }
+        ensures ways { IfOk result (λ member. member.ways ≡ ways) }
+    {
         let outlet = lines.split_first()?;
-        let (workers, desks) = new_staff(&shared, seat, group, &mut lines)?;
+        let routes = lines.routes(shared.alloc)?;
+        let (workers, desks) = new_staff(&shared, seat, group, pause, &routes)?;
         let Shared { ending, jobs, .. } = shared;
         Ok(Member {
             workers,
             desks,
             outlet,
             ways,
+            routes,
             running: Running {
                 ending,
                 lines,

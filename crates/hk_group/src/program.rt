@@ -7,10 +7,10 @@ ghost use Rattle.hk_group.specs.Founding.{IsGroup, first_view};
 ghost use Rattle.std.specs.Prelude.{◌≡◌, ◌<◌, ◌+◌, ◌*◌, length, IfOk, OnOk};
 
 use crate::completion::Unheard;
-use crate::desk::LeaseTerms;
 use crate::desks::{GroupDesks, Station};
 use crate::gate::{Ending, Open, Rings};
 use crate::group::Group;
+use crate::leases::LeaseTerms;
 use crate::lines::Lines;
 use crate::load::Load;
 use crate::managing::ManageJob;
@@ -21,10 +21,14 @@ use hk_link::{Bell, Inlet};
 use hk_locked::Places;
 use hk_outside::Clock;
 use hk_overseer::ManagerPost;
+use hk_routes::{Follower, Routes};
 use hk_worker::{Founded, Post, Shards};
 use std::alloc::Global;
 use std::collections::VecDeque;
-use std::sync::{Arc, Mutex, Wait};
+use std::sync::{Arc, Wait};
+
+/// Clocks rise with each reading.
+pub(crate) const EACH_READING: u64 = 1;
 
 /// What all loops share.
 #[derive(Drop)]
@@ -150,10 +154,12 @@ impl<R: Wait + Copy + Send + Sync + Drop + 'static, C: Clock + Send + Sync + Dro
         &self,
         seat: &mut Seat<P>,
         number: u8,
-        lines: &mut Lines,
+        pause: u64,
+        routes: &Arc<Routes>,
     ) -> Result<WorkJob<R, C, P>, Memory> {
         let mut inlets = Sequence::new(self.alloc);
         inlets.push(seat.inlet.split()?)?;
+        let (routes, outlets) = Follower::begin(&self.rt, self.alloc, routes)?;
         let post = Post::new(
             &self.rt,
             self.alloc,
@@ -161,12 +167,15 @@ impl<R: Wait + Copy + Send + Sync + Drop + 'static, C: Clock + Send + Sync + Dro
             u32::from(number),
             Arc::try_clone(&seat.shards)?,
             inlets,
-            lines.split(self.alloc)?,
+            outlets,
             Unheard,
         )?;
         Ok(WorkJob {
             rt: self.rt,
+            alloc: self.alloc,
             post,
+            routes,
+            pause,
             clock: Arc::try_clone(&self.clock)?,
             load: Arc::try_clone(&self.load)?,
             gate: self.gate(&seat.rings)?,
@@ -180,28 +189,30 @@ impl<R: Wait + Copy + Send + Sync + Drop + 'static, C: Clock + Send + Sync + Dro
         jobs: &mut Vec<WorkJob<R, C, P>>,
         seat: &mut Seat<P>,
         count: u8,
-        lines: &mut Lines,
+        pause: u64,
+        routes: &Arc<Routes>,
     ) -> Result<(), Memory>
         ensures { OnOk result (length jobs.new.items ≡ length jobs.old.items + count) }
     {
         for number in 0..count {
-            jobs.push(self.worker(seat, number, lines)?)?;
+            jobs.push(self.worker(seat, number, pause, routes)?)?;
         }
         Ok(())
     }
 
-    /// So many workers of each node.
+    /// So many workers of each node, which raise its clock no sooner than so many milliseconds behind the last time.
     pub(crate) fn workers<P: Places>(
         &self,
         seats: &mut Vec<Seat<P>>,
         count: u8,
-        lines: &mut Lines,
+        pause: u64,
+        routes: &Arc<Routes>,
     ) -> Result<Vec<WorkJob<R, C, P>>, Memory>
         ensures { IfOk result (λ jobs. length jobs.items ≡ length seats.old.items * count) }
     {
         let mut jobs = Vec::new(self.alloc);
         for place in 0..seats.len() {
-            self.add_workers(&mut jobs, &mut seats[place], count, lines)?;
+            self.add_workers(&mut jobs, &mut seats[place], count, pause, routes)?;
         }
         Ok(jobs)
     }
@@ -267,13 +278,12 @@ impl<R: Wait + Copy + Send + Sync + Drop + 'static, C: Clock + Send + Sync + Dro
         &self,
         seats: Vec<Seat<P>>,
         group: &Group,
-        lines: &mut Lines,
+        routes: &Arc<Routes>,
     ) -> Result<GroupDesks<R, C, P>, Memory> {
         let mut nodes = Vec::new(self.alloc);
         for seat in seats {
             nodes.push(seat.shards)?;
         }
-        let outlets = lines.split(self.alloc)?;
         Ok(GroupDesks {
             station: Station {
                 rt: self.rt,
@@ -288,7 +298,7 @@ impl<R: Wait + Copy + Send + Sync + Drop + 'static, C: Clock + Send + Sync + Dro
                 workers: u32::from(group.workers),
             },
             nodes,
-            outlets: Mutex::new(outlets.into_vec()),
+            routes: Arc::try_clone(routes)?,
         })
     }
 }
@@ -314,9 +324,10 @@ pub(crate) fn prepare<
     let mut lines = Lines::new(alloc);
     let mut seats = seat_nodes::<P>(alloc, founded, &mut lines)?;
     let manager_seats = seat_managers(alloc, group.managers, &mut lines)?;
-    let workers = shared.workers(&mut seats, group.workers, &mut lines)?;
+    let routes = lines.routes(alloc)?;
+    let workers = shared.workers(&mut seats, group.workers, EACH_READING, &routes)?;
     let managers = shared.managers(manager_seats, view, group, &mut lines)?;
-    let desks = shared.desks(seats, group, &mut lines)?;
+    let desks = shared.desks(seats, group, &routes)?;
     let desks = Arc::new(alloc, desks)?;
     Ok(Program {
         shared,

@@ -9,6 +9,7 @@ use hk_base::{Actor, Memory, Sequence};
 use hk_link::{Bell, Inlet, Outlet, link};
 use hk_locked::Places;
 use hk_overseer::Outlets;
+use hk_routes::Follower;
 use hk_worker::{Post, Shards, work};
 use std::alloc::Global;
 use std::sync::{Arc, Wait};
@@ -18,7 +19,10 @@ use std::sync::{Arc, Wait};
 #[derive(Drop)]
 pub struct Reader<R: Wait + Drop, P: Places> {
     rt: R,
+    alloc: Global,
     post: Post<Unheard, P>,
+    // The outlets of its post, as they change.
+    routes: Follower,
     load: Arc<Load>,
     gate: Open,
     trimming: Trimming,
@@ -52,6 +56,7 @@ impl<R: Wait + Drop, P: Places> Reader<R, P> {
         shards: &Arc<Shards<Unheard, P>>,
         load: &Arc<Load>,
         number: u32,
+        routes: Follower,
         outlets: Outlets,
     ) -> Result<(Outlet, Reader<R, P>), Memory> {
         let (outlet, inlet, gate) = way_in(alloc)?;
@@ -69,7 +74,9 @@ impl<R: Wait + Drop, P: Places> Reader<R, P> {
         )?;
         let reader = Reader {
             rt,
+            alloc,
             post,
+            routes,
             load: Arc::try_clone(load)?,
             gate,
             trimming: Trimming::new(),
@@ -77,8 +84,20 @@ impl<R: Wait + Drop, P: Places> Reader<R, P> {
         Ok((outlet, reader))
     }
 
+    // Its letters go by the outlets as they are now. Where memory is wanting for that they go by those of before.
+    fn follow(&mut self) {
+        let Some(outlets) = self.routes.renewed(&self.rt, self.alloc) else {
+            return;
+        };
+        match quiet(self.alloc, outlets) {
+            Ok(outlets) => self.post.lead(&self.rt, outlets),
+            Err(_) => self.routes.tell_again(),
+        }
+    }
+
     /// Makes the steps of all parcels that were put.
     pub fn step(&mut self) {
+        self.follow();
         for _ in self.rt.forever() {
             let turns = work(&self.rt, &mut self.post, &mut self.gate, TURNS);
             tend(

@@ -2,11 +2,13 @@
 
 ghost use Rattle.std.specs.Prelude.{◌≡◌, None};
 ghost use Rattle.hk_outside.specs.Desk.{BeginSuits, IsSettled, Suits};
-ghost use Rattle.hk_worker.specs.Reading.{AsksByClock};
-ghost use Rattle.hk_worker.specs.Opening.{BeginsByClock, FinishesAtPost};
+ghost use Rattle.hk_worker.specs.Opening.{FinishesAtPost};
+ghost use Rattle.hk_group.specs.Led.{AsksAgain, BeginsAgain};
 
 use crate::lane::Lanes;
 use crate::reader::LaneReader;
+use crate::tally::{Counters, Tallies};
+use crossbeam_utils::CachePadded;
 use hk_accept::Desks;
 use hk_base::{Key, Memory, Op};
 use hk_conn::serve_connection;
@@ -28,6 +30,7 @@ pub struct LaneDesk<C: DeskClock + Drop, R: Wait + Drop, P: Places, X: Drop> {
     rt: R,
     desk: GroupDesk<C, R, P>,
     lanes: Arc<Lanes<X>>,
+    counters: Arc<CachePadded<Counters>>,
 }
 
 impl<C: DeskClock + Drop, R: Wait + Drop, P: Places, X: PromptCarrier + Drop> Desk
@@ -40,26 +43,38 @@ impl<C: DeskClock + Drop, R: Wait + Drop, P: Places, X: PromptCarrier + Drop> De
 
     fn ask(&mut self, key: &Key, op: &Op) -> Result<DeskReply, Memory>
         ensures suits { Suits op.now result }
-        ensures told { AsksByClock (C.was_read self.old.desk.desk.clock.value) (C.reading self.old.desk.desk.clock.value) key.now op.now self.old.desk.desk.desk.post self.new.desk.desk.desk.post result }
+        ensures told { AsksAgain (C.was_read self.old.desk.clock.value) (C.reading self.old.desk.clock.value) key.now op.now self.old.desk.post self.new.desk.post result }
     {
-        self.desk.ask(key, op)
+        let told = self.desk.ask(key, op);
+        if let Ok(reply) = &told {
+            self.counters.note(op, reply);
+        }
+        told
     }
 
     fn begin(&mut self, key: &Key, op: &Op) -> Result<Begun<OpenAsk>, Memory>
         ensures suits { BeginSuits (λ waits. waits.op) op.now result }
-        ensures told { BeginsByClock (C.was_read self.old.desk.desk.clock.value) (C.reading self.old.desk.desk.clock.value) key.now op.now self.old.desk.desk.desk.post self.new.desk.desk.desk.post result }
+        ensures told { BeginsAgain (C.was_read self.old.desk.clock.value) (C.reading self.old.desk.clock.value) key.now op.now self.old.desk.post self.new.desk.post result }
     {
-        self.desk.begin(key, op)
+        let begun = self.desk.begin(key, op);
+        if let Ok(Begun::Told(reply)) = &begun {
+            self.counters.note(op, reply);
+        }
+        begun
     }
 
     fn finish(&mut self, waits: OpenAsk) -> Result<DeskReply, Memory>
         ensures suits { Suits waits.op result }
         ensures settled { IsSettled result }
-        ensures told { FinishesAtPost waits self.old.desk.desk.desk.post self.new.desk.desk.desk.post result }
+        ensures told { FinishesAtPost waits self.old.desk.post self.new.desk.post result }
     {
         self.lanes.send(&self.rt);
         self.desk.hush();
-        self.desk.finish(waits)
+        let told = self.desk.finish(waits);
+        if let Ok(reply) = &told {
+            self.counters.note_update(reply);
+        }
+        told
     }
 }
 
@@ -70,6 +85,7 @@ pub struct LaneDesks<R: Wait + Drop, C: Drop, P: Places, X: Drop> {
     alloc: Global,
     desks: GroupDesks<R, C, P>,
     lanes: Arc<Lanes<X>>,
+    tallies: Arc<Tallies>,
 }
 
 impl<R: Wait + Copy + Drop, C: DeskClock + Drop, P: Places, X: PromptCarrier + Drop> LaneDesks<
@@ -78,18 +94,20 @@ impl<R: Wait + Copy + Drop, C: DeskClock + Drop, P: Places, X: PromptCarrier + D
     P,
     X,
 > {
-    /// Desks of these, whose letters to other nodes leave on these lanes.
+    /// Desks of these, whose letters to other nodes leave on these lanes. What they tell is counted there.
     pub fn new(
         rt: R,
         alloc: Global,
         desks: GroupDesks<R, C, P>,
         lanes: Arc<Lanes<X>>,
+        tallies: Arc<Tallies>,
     ) -> LaneDesks<R, C, P, X> {
         LaneDesks {
             rt,
             alloc,
             desks,
             lanes,
+            tallies,
         }
     }
 
@@ -117,6 +135,7 @@ impl<R: Wait + Copy + Drop, C: DeskClock + Drop, P: Places, X: PromptCarrier + D
             rt: self.rt,
             desk: self.desks.desk(number)?,
             lanes: Arc::try_clone(&self.lanes)?,
+            counters: self.tallies.of(number)?,
         })
     }
 }

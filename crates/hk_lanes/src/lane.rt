@@ -4,6 +4,7 @@ use hk_base::{Memory, frame_length};
 use hk_link::{Bell, Inlet, Parcel};
 use hk_peer::{PromptCarrier, Prompted};
 use std::alloc::Global;
+use std::mem;
 use std::sync::atomic::{AtomicBool, AtomicU64, Ordering};
 use std::sync::{Arc, Mutex, Wait};
 
@@ -51,6 +52,21 @@ fn take_batch<R: Wait>(rt: &R, inlet: &mut Inlet, batch: &mut Vec<Parcel>) {
 }
 
 impl<C: PromptCarrier + Drop> Freight<C> {
+    // Nothing waits yet but what is in the link.
+    fn new(alloc: Global, inlet: Inlet, carrier: C) -> Freight<C> {
+        Freight {
+            inlet,
+            carrier,
+            batch: Vec::new(alloc),
+            keeps: false,
+        }
+    }
+
+    fn into_carrier(self) -> C {
+        let Freight { carrier, .. } = self;
+        carrier
+    }
+
     // Sends a batch of what waits, unless that would wait.
     fn send_some<R: Wait>(&mut self, rt: &R) -> Progress {
         take_batch(rt, &mut self.inlet, &mut self.batch);
@@ -84,7 +100,29 @@ impl<C: PromptCarrier + Drop> Freight<C> {
     }
 }
 
-/// A way to another actor on which any thread sends, one at a time.
+// Sends a batch of what waits on a lane, unless that would wait.
+fn send_some<R: Wait, C: PromptCarrier + Drop>(
+    rt: &R,
+    freight: &mut Option<Freight<C>>,
+) -> Progress {
+    match freight {
+        Some(freight) => freight.send_some(rt),
+        None => Progress::Clear,
+    }
+}
+
+// Sends a batch of what waits on a lane, however long that takes. Gives whether there was any.
+fn send_patiently<R: Wait, C: PromptCarrier + Drop>(
+    rt: &R,
+    freight: &mut Option<Freight<C>>,
+) -> bool {
+    match freight {
+        Some(freight) => freight.send_patiently(rt),
+        None => false,
+    }
+}
+
+/// A way to another actor on which any thread sends, one at a time. It may be given another actor to lead to.
 #[derive(Drop)]
 pub struct Lane<C: Drop> {
     // So many asked that what waits be sent since it was clear. Who finds none before it sends, and sees to it for those that come meanwhile.
@@ -93,7 +131,9 @@ pub struct Lane<C: Drop> {
     is_left: AtomicBool,
     // Wakes that thread.
     bell: Arc<Bell>,
-    freight: Mutex<Freight<C>>,
+    // It leads nowhere.
+    is_free: AtomicBool,
+    freight: Mutex<Option<Freight<C>>>,
 }
 
 impl<C: PromptCarrier + Drop> Lane<C> {
@@ -103,17 +143,46 @@ impl<C: PromptCarrier + Drop> Lane<C> {
             wanted: AtomicU64::new(0),
             is_left: AtomicBool::new(false),
             bell,
-            freight: Mutex::new(Freight {
-                inlet,
-                carrier,
-                batch: Vec::new(alloc),
-                keeps: false,
-            }),
+            is_free: AtomicBool::new(false),
+            freight: Mutex::new(Some(Freight::new(alloc, inlet, carrier))),
+        }
+    }
+
+    /// A lane that leads nowhere yet. The bell wakes its own thread.
+    pub fn free(bell: Arc<Bell>) -> Lane<C> {
+        Lane {
+            wanted: AtomicU64::new(0),
+            is_left: AtomicBool::new(false),
+            bell,
+            is_free: AtomicBool::new(true),
+            freight: Mutex::new(None),
+        }
+    }
+
+    /// Whether it leads nowhere.
+    pub fn is_free(&self) -> bool {
+        self.is_free.load(Ordering::SeqCst)
+    }
+
+    /// It leads by this carrier from now on, over a link of which this is the one inlet. It led nowhere.
+    pub fn begin<R: Wait>(&self, rt: &R, alloc: Global, inlet: Inlet, carrier: C) {
+        let mut guard = self.freight.lock(rt);
+        *guard = Some(Freight::new(alloc, inlet, carrier));
+        self.is_free.store(false, Ordering::SeqCst);
+    }
+
+    /// It leads nowhere from now on; what still waits is lost. It gives the carrier that it had. Where a thread sends, it waits for that.
+    pub fn end<R: Wait>(&self, rt: &R) -> Option<C> {
+        self.is_free.store(true, Ordering::SeqCst);
+        let mut guard = self.freight.lock(rt);
+        match mem::replace(&mut *guard, None) {
+            Some(freight) => Some(freight.into_carrier()),
+            None => None,
         }
     }
 
     /// What wakes the lane's own thread.
-    pub(crate) fn bell(&self) -> &Bell {
+    pub fn bell(&self) -> &Arc<Bell> {
         &self.bell
     }
 
@@ -139,7 +208,7 @@ impl<C: PromptCarrier + Drop> Lane<C> {
         let freight = &mut *guard;
         for _ in 0..ROUNDS {
             let wanted = self.wanted();
-            match freight.send_some(rt) {
+            match send_some(rt, freight) {
                 Progress::Clear => {
                     if self.is_given_up(wanted) {
                         return true;
@@ -154,7 +223,7 @@ impl<C: PromptCarrier + Drop> Lane<C> {
 
     /// Sends what was put, or leaves that to whoever sends already. It does not wait for the other end.
     pub fn send<R: Wait>(&self, rt: &R) {
-        if !self.claim() {
+        if self.is_free() || !self.claim() {
             return;
         }
         if !self.send_now(rt) {
@@ -173,7 +242,7 @@ impl<C: PromptCarrier + Drop> Lane<C> {
         let freight = &mut *guard;
         for _ in rt.forever() {
             let wanted = self.wanted();
-            if !freight.send_patiently(rt) && self.is_given_up(wanted) {
+            if !send_patiently(rt, freight) && self.is_given_up(wanted) {
                 return;
             }
         }

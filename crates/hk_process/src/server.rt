@@ -248,6 +248,7 @@ fn serve_member<
         desks,
         outlet,
         ways,
+        routes: _routes,
         running,
     } = member;
     let bell = shared_bell(&outlet);

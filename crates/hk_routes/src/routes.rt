@@ -106,4 +106,11 @@ impl Follower {
         self.seen = changes;
         Some(outlets)
     }
+
+    /// Whoever was told the outlets could not take them: they are told anew.
+    pub fn tell_again(&mut self)
+        ensures { self.new.routes ≡ self.old.routes }
+    {
+        self.seen = u64::MAX;
+    }
 }

@@ -1,0 +1,155 @@
+//! The leases of a desk's node.
+
+ghost use Rattle.std.specs.Prelude.{◌≡◌, ◌<◌, length};
+
+use crate::completion::Unheard;
+use hk_base::Key;
+use hk_link::Bell;
+use hk_locked::Places;
+use hk_outside::Clock;
+use hk_shard::shard_of;
+use hk_snap::LeaseCell;
+use hk_worker::{Patience, Post};
+use std::sync::{Arc, Wait};
+
+// So long, in milliseconds, a desk waits at least for a lease that serves.
+const LEASE_WAIT: u64 = 1_000;
+
+/// What a desk has to know of leases.
+#[derive(Clone, Copy)]
+pub(crate) struct LeaseTerms {
+    /// Whether leases have to be asked for.
+    pub(crate) asked: bool,
+    /// How long a lease is, in milliseconds.
+    pub(crate) length: u64,
+    /// By how many milliseconds two clocks may differ.
+    pub(crate) skew: u64,
+}
+
+impl LeaseTerms {
+    // For how many milliseconds a new lease serves. One no longer than the skew serves nothing.
+    fn serves(self) -> u64 {
+        self.length.saturating_sub(self.skew)
+    }
+
+    // Whether a lease is worth waiting for.
+    fn is_asked(self) -> bool {
+        self.asked && self.serves() > 0
+    }
+
+    // Whether less is left of that than has gone.
+    fn is_short(self, left: u64) -> bool {
+        left < self.serves().saturating_sub(left)
+    }
+
+    // Whether a step that is made where so much of it is left finds it serving, though its thread may have to wait for its turn: a sixteenth of what a new one has.
+    fn is_enough(self, left: u64) -> bool {
+        left >= self.serves() / 16
+    }
+
+    // How long a desk waits for a lease that serves, in milliseconds.
+    fn wait(self) -> u64 {
+        self.length.saturating_mul(2).max(LEASE_WAIT)
+    }
+}
+
+/// The leases of a node's shards, as a desk there sees them.
+#[derive(Drop)]
+pub(crate) struct Leases<C: Drop> {
+    pub(crate) clock: Arc<C>,
+    pub(crate) terms: LeaseTerms,
+    /// Of each shard, shard 0 first.
+    pub(crate) cells: Vec<LeaseCell>,
+    /// Wakes the workers of the node.
+    pub(crate) bell: Arc<Bell>,
+    /// The desk waited for a lease in vain, and has found none since.
+    pub(crate) is_out: bool,
+    pub(crate) ghost eight: { length cells.items ≡ 8 },
+}
+
+impl<C: Clock + Drop> Leases<C> {
+    // For how many milliseconds the lease of a shard is still sure to serve; None where it serves no longer.
+    fn left<R: Wait>(&mut self, rt: &R, shard: u8) -> Option<u64>
+        requires { shard < 8 }
+    {
+        let end = self.cells[usize::from(shard)].end(rt);
+        end.checked_sub(self.clock.now().saturating_add(self.terms.skew))
+    }
+
+    // Has the workers ask for a lease where so much of it is left.
+    fn ask_if_short<R: Wait>(&self, rt: &R, left: Option<u64>) {
+        if self.terms.is_short(left.unwrap_or(0)) {
+            self.bell.ring(rt, 1);
+        }
+    }
+
+    // Whether so much of a lease is enough for a step.
+    fn is_enough(&self, left: Option<u64>) -> bool {
+        match left {
+            Some(left) => self.terms.is_enough(left),
+            None => false,
+        }
+    }
+
+    // Whether the desk waits no more.
+    fn is_over(&self, until: u64) -> bool {
+        self.is_out || self.clock.now() >= until
+    }
+
+    // Waits until enough is left of the lease of the shard, behind each step that is made there, and gives whether it serves. Whoever waited in vain waits no more until
+    // it does. Before it waits it rings for the letters of asks that were begun.
+    fn wait_for<R: Wait, P: Places>(
+        &mut self,
+        rt: &R,
+        post: &Post<Unheard, P>,
+        shard: u8,
+        until: u64,
+    ) -> bool
+        requires { shard < 8 }
+    {
+        let steps = post.shards().steps_at(shard);
+        let mut patience = Patience::new(self.terms.wait());
+        let mut asks = true;
+        for _ in rt.forever() {
+            let seen = steps.seen();
+            let left = self.left(rt, shard);
+            if asks {
+                self.ask_if_short(rt, left);
+            }
+            if self.is_enough(left) || patience.is_over() || self.is_over(until) {
+                return left.is_some();
+            }
+            post.ring(rt);
+            patience.wait(rt, steps, seen);
+            asks = patience.is_to_ask();
+        }
+        unreachable!()
+    }
+
+    /// Has the lease of the key's shard asked for where it is near its end, and waits a while where it serves no longer.
+    pub(crate) fn keep<R: Wait, P: Places>(
+        &mut self,
+        rt: &R,
+        post: &Post<Unheard, P>,
+        key: &Key,
+        until: u64,
+    ) {
+        if self.terms.is_asked() {
+            let serves = self.wait_for(rt, post, shard_of(key), until);
+            self.is_out = !serves;
+        }
+    }
+
+    /// By this time of its clock a desk that can't begin anything gives up. Where there is nothing to wait for it is 0.
+    pub(crate) fn until(&self) -> u64 {
+        if !self.terms.is_asked() {
+            return 0;
+        }
+        self.clock.now().saturating_add(self.terms.wait())
+    }
+
+    /// Whether what came too late for a lease is to be asked again.
+    pub(crate) fn is_to_go_on(&self, until: u64) -> bool {
+        self.terms.is_asked() && !self.is_over(until)
+    }
+}
