@@ -47,6 +47,18 @@ abbrev pub leaves_out : NodeId → Ticket → BoardLine → Bool
 leaves_out node ticket line =
     if is_left_out line.mark then is_node node line.party && same_ticket ticket line.ticket else false
 
+-- who is to leave
+abbrev pub is_leave_mark : Mark → Bool
+is_leave_mark marks.Bound = false
+is_leave_mark marks.Member = false
+is_leave_mark marks.ToLeave = true
+is_leave_mark marks.Out = false
+
+-- the line tells that the process of this ticket, which has the number, is to leave
+abbrev pub wants_to_leave : NodeId → Ticket → BoardLine → Bool
+wants_to_leave node ticket line =
+    if is_leave_mark line.mark then is_node node line.party && same_ticket ticket line.ticket else false
+
 -- ---- what is told of a number
 
 -- the line that binds the number, of a board of the group
@@ -71,6 +83,12 @@ abbrev pub tells_out : ℕ → NodeId → Ticket → Option HeardBoard → Bool
 tells_out founding node ticket None = false
 tells_out founding node ticket (Some heard) =
     if is_of founding heard then list_any (leaves_out node ticket) heard.board.lines else false
+
+-- the manager tells that the process of this ticket, which has the number, is to leave
+abbrev pub tells_to_leave : ℕ → NodeId → Ticket → Option HeardBoard → Bool
+tells_to_leave founding node ticket None = false
+tells_to_leave founding node ticket (Some heard) =
+    if is_of founding heard then list_any (wants_to_leave node ticket) heard.board.lines else false
 
 -- ---- who is ready
 

@@ -8,7 +8,7 @@ use Rattle.hk_base.specs.View.{is_member, member_numbers}
 use Rattle.hk_fields.specs.declared.tickets.Ticket.{Ticket}
 use Rattle.hk_roll.specs.Boards.{named}
 use Rattle.hk_boards.specs.declared.heard.HeardBoard.{HeardBoard}
-use Rattle.hk_boards.specs.Heard.{line_of, ticket_told, tells, tells_out, tells_ready}
+use Rattle.hk_boards.specs.Heard.{line_of, ticket_told, tells, tells_out, tells_to_leave, tells_ready}
 
 -- the last board of each manager, if one came, by their places
 abbrev pub ByPlaces : Type 0
@@ -25,6 +25,10 @@ holder founding node boards = named (tickets_told founding node boards)
 -- more than half of all managers have left out the process of this ticket, which had the number
 abbrev pub is_out : ℕ → NodeId → Ticket → ByPlaces → Bool
 is_out founding node ticket boards = nat_lt (length boards / 2) (count_by (tells_out founding node ticket) boards)
+
+-- more than half of all managers tell that the process of this ticket, which has the number, is to leave
+abbrev pub is_to_leave : ℕ → NodeId → Ticket → ByPlaces → Bool
+is_to_leave founding node ticket boards = nat_lt (length boards / 2) (count_by (tells_to_leave founding node ticket) boards)
 
 -- ---- where a holder is reached
 

@@ -57,7 +57,7 @@ tells_open founding (Some heard) = is_of founding heard
 abbrev pub is_open_with : ByPlaces → ℕ → Bool
 is_open_with boards founding = nat_lt (length boards / 2) (count_by (tells_open founding) boards)
 
--- The founding with which more than half of all managers are open. Two can't be so.
+-- the founding with which more than half of all managers are open
 abbrev pub open_founding : ByPlaces → Option ℕ
 open_founding boards = find (is_open_with boards) (filter_map founding_told boards)
 

@@ -3,7 +3,7 @@
 ghost use Rattle.std.specs.Prelude.{◌≡◌};
 ghost use Rattle.std.specs.List.{find, list_any};
 ghost use Rattle.std.specs.Option.{option_copied};
-ghost use Rattle.hk_boards.specs.Heard.{is_open, is_of, is_node, is_left_out, is_member_mark, is_manager, is_manager_line, binds, leaves_out, line_of, manager_line, ticket_told, tells, tells_out, tells_ready, manager_told};
+ghost use Rattle.hk_boards.specs.Heard.{is_open, is_of, is_node, is_left_out, is_leave_mark, is_member_mark, is_manager, is_manager_line, binds, leaves_out, wants_to_leave, line_of, manager_line, ticket_told, tells, tells_out, tells_to_leave, tells_ready, manager_told};
 ghost use Rattle.hk_boards.specs.Holders.{came_telling, is_told_at};
 ghost use Rattle.hk_boards.specs.Managers.{answered_lately, is_answered, founding_told, tells_open, tells_another, records_told, tells_records};
 
@@ -50,6 +50,17 @@ fn is_left_out(mark: Mark) -> bool
     }
 }
 
+fn is_leave_mark(mark: Mark) -> bool
+    ensures { result ≡ is_leave_mark mark }
+{
+    match mark {
+        Mark::Bound => false,
+        Mark::Member => false,
+        Mark::ToLeave => true,
+        Mark::Out => false,
+    }
+}
+
 fn is_member_mark(mark: Mark) -> bool
     ensures { result ≡ is_member_mark mark }
 {
@@ -85,6 +96,16 @@ fn leaves_out(node: NodeId, ticket: Ticket, line: &BoardLine) -> bool
     ensures { result ≡ leaves_out node ticket line.now }
 {
     if is_left_out(line.mark) {
+        is_node(node, line.party) && ticket == line.ticket
+    } else {
+        false
+    }
+}
+
+fn wants_to_leave(node: NodeId, ticket: Ticket, line: &BoardLine) -> bool
+    ensures { result ≡ wants_to_leave node ticket line.now }
+{
+    if is_leave_mark(line.mark) {
         is_node(node, line.party) && ticket == line.ticket
     } else {
         false
@@ -147,6 +168,16 @@ impl HeardBoard {
             .iter()
             .any(|line| leaves_out(node, ticket, line))
     }
+
+    fn has_to_leave(&self, node: NodeId, ticket: Ticket) -> bool
+        ensures { result ≡ list_any (wants_to_leave node ticket) self.now.board.lines }
+    {
+        self.board
+            .lines
+            .as_slice()
+            .iter()
+            .any(|line| wants_to_leave(node, ticket, line))
+    }
 }
 
 // What is told of a number, where a board may not have come.
@@ -184,6 +215,26 @@ pub(crate) fn tells_out(
         Some(heard) => {
             if heard.is_of(founding) {
                 heard.has_left_out(node, ticket)
+            } else {
+                false
+            }
+        }
+        None => false,
+    }
+}
+
+pub(crate) fn tells_to_leave(
+    heard: &Option<HeardBoard>,
+    founding: u64,
+    node: NodeId,
+    ticket: Ticket,
+) -> bool
+    ensures { result ≡ tells_to_leave founding node ticket heard.now }
+{
+    match heard {
+        Some(heard) => {
+            if heard.is_of(founding) {
+                heard.has_to_leave(node, ticket)
             } else {
                 false
             }

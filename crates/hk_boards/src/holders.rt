@@ -3,11 +3,11 @@
 ghost use Rattle.std.specs.Prelude.{◌≡◌, ◌/◌, max};
 ghost use Rattle.std.specs.List.{find, filter_map, count_by};
 ghost use Rattle.std.specs.Option.{option_copied, option_map};
-ghost use Rattle.hk_boards.specs.Heard.{tells_out};
-ghost use Rattle.hk_boards.specs.Holders.{tickets_told, holder, is_out, came_telling, last_told, is_told_at, newest, address_of};
+ghost use Rattle.hk_boards.specs.Heard.{tells_out, tells_to_leave};
+ghost use Rattle.hk_boards.specs.Holders.{tickets_told, holder, is_out, is_to_leave, came_telling, last_told, is_told_at, newest, address_of};
 
 use crate::boards::Boards;
-use crate::heard::{HeardBoard, came_telling, is_told_at, tells_out, ticket_told};
+use crate::heard::{HeardBoard, came_telling, is_told_at, tells_out, tells_to_leave, ticket_told};
 use crate::told::TicketsTold;
 use hk_base::NodeId;
 use hk_fields::Ticket;
@@ -46,6 +46,22 @@ impl Boards {
         self.heard
             .iter()
             .filter(|heard| tells_out(heard, founding, node, ticket))
+            .count()
+    }
+
+    /// Whether the last boards of a majority tell that the process of this ticket, which has the number, is to leave.
+    pub fn is_to_leave(&self, founding: u64, node: NodeId, ticket: Ticket) -> bool
+        ensures { result ≡ is_to_leave founding node ticket self.now }
+    {
+        self.managers() / 2 < self.count_to_leave(founding, node, ticket)
+    }
+
+    fn count_to_leave(&self, founding: u64, node: NodeId, ticket: Ticket) -> usize
+        ensures { result ≡ count_by (tells_to_leave founding node ticket) self.now }
+    {
+        self.heard
+            .iter()
+            .filter(|heard| tells_to_leave(heard, founding, node, ticket))
             .count()
     }
 

@@ -2,9 +2,10 @@
 //!
 //! Each process asks each manager for its board at each beat, and keeps the last one that came of each, in [`Boards`].
 //! More than half of all managers are a *majority*, also where of some no board came. By majorities of the last boards
-//! it tells which process holds a node's number and where that one is reached, who was left out, and whether the group
-//! is another one by now. One manager's word is taken alone for an address, for whom a newcomer asks first, and for how
-//! many records the own manager once had.
+//! it tells which process holds a node's number and where that one is reached, who was left out, whether the group is
+//! another one by now, and, to a process whose own manager is not open, with which founding the group is and to which
+//! tickets its managers are bound. One manager's word is taken alone for an address, for whom a newcomer asks first, for
+//! who is ready, and for how many records the own manager once had.
 //!
 //! A board counts where its manager is open, with the founding that is asked for. A line binds a node's number to its
 //! ticket, whatever mark it has, but for that of one that was left out.

@@ -137,8 +137,8 @@ impl Managers {
         &self.items[usize::from(shard)]
     }
 
-    // Whether the clock of a shard's manager reads more than 1 and the wait.
-    pub(crate) fn may_begin(&self, shard: u8) -> bool
+    /// Whether the clock of a shard's manager reads more than 1 and the wait. Before, it lets no view begin.
+    pub fn may_begin(&self, shard: u8) -> bool
         requires { shard < 8 }
         ensures { result ≡ may_begin (slice_get self.now shard) }
     {

@@ -99,6 +99,17 @@ impl<F: LogFile + Drop> DurablePost<F> {
         self.records
     }
 
+    /// From now on its letters go by these outlets. What earlier turns sent was rung for.
+    pub fn lead(&mut self, outlets: Outlets)
+        ensures outlets { self.new.outlets.items ≡ outlets }
+        ensures batch { self.new.batch ≡ self.old.batch }
+        ensures inlet { self.new.inlet ≡ self.old.inlet }
+        ensures writer { self.new.writer ≡ self.old.writer }
+        ensures records { self.new.records ≡ self.old.records }
+    {
+        self.outlets = outlets.into_vec();
+    }
+
     /// Notes what the next turn logs beside its steps: that the group was founded, or opened, or that a number was bound. Once a turn answers it is sure, and it
     /// stands before the steps of that turn: those that still wait for their record alone stand before it. Who notes a founding owes managers that made no
     /// step yet, since what stands before it is of an earlier group. After `Memory` nothing is noted.

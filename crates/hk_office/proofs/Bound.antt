@@ -1,6 +1,7 @@
 -- Who is answered that a number is its own has it in the roll behind the step.
-use Rattle.std.proofs.Common.{◌≡◌, ℕ, Bool, true, false, cond, List, Option, None, Some, is_some, refl, sym, ap, ◌∙◌}
+use Rattle.std.proofs.Common.{◌≡◌, ℕ, Bool, true, false, cond, List, Option, None, Some, refl, sym, ap, ◌∙◌}
 use Rattle.hk_base.specs.declared.stamp.NodeId.{NodeId}
+use Rattle.hk_base.specs.declared.letter.Actor.{Actor}
 use Rattle.hk_base.specs.declared.letter.Actor.TheVariants as actors
 use Rattle.hk_base.specs.declared.view.View.{View}
 use Rattle.hk_fields.specs.declared.tickets.Ticket.{Ticket}
@@ -19,7 +20,7 @@ use Rattle.hk_office.specs.declared.answer.OfficeAnswer.TheVariants.{Seated, Yes
 use Rattle.hk_office.specs.declared.refusal.OfficeRefusal.TheVariants.{Wait}
 use Rattle.hk_office.specs.Answers.{refused}
 use Rattle.hk_office.specs.Board.{last_of}
-use Rattle.hk_office.specs.Seating.{seating_of, roll_answer, binding_taken_by, seat_noted_at, seat_noted_if, seat_given_by, seat_given, number_claimed}
+use Rattle.hk_office.specs.Seating.{seating_of, roll_answer, binding_taken_by, seat_noted_at, binding_noted, given_noted, seat_given_by, seat_given, number_claimed}
 use Rattle.hk_office.specs.Steps.{Made, stays, if_open}
 use Rattle.hk_office.specs.Laws.{AnswersAreBound}
 
@@ -29,18 +30,22 @@ roll_behind : (b : Option Binding) (o : Office) (now : ℕ) (answer : RollAnswer
 roll_behind None o now answer = refl
 roll_behind (Some b) o now answer = refl
 
-noted_roll : (x : Option Came) (o : Office) (now : ℕ) → (seat_noted_at x o now).roll ≡ o.roll
-noted_roll None o now = refl
-noted_roll (Some c) o now = refl
+noted_roll : (x : Option Came) (o : Office) (now : ℕ) (node : NodeId) (ticket : Ticket) → (seat_noted_at x o now node ticket).roll ≡ o.roll
+noted_roll None o now node ticket = refl
+noted_roll (Some c) o now node ticket = refl
 
-noted_if_roll : (t : Bool) (o : Office) (now : ℕ) (ticket : Ticket) → (seat_noted_if t o now ticket).roll ≡ o.roll
-noted_if_roll true o now ticket = noted_roll (last_of ticket o) o now
-noted_if_roll false o now ticket = refl
+actor_roll : (actor : Actor) (o : Office) (now : ℕ) (ticket : Ticket) → (binding_noted o now actor ticket).roll ≡ o.roll
+actor_roll (actors.Node node) o now ticket = noted_roll (last_of ticket o) o now node ticket
+actor_roll (actors.Manager place) o now ticket = refl
 
-seat_roll : (o : Office) (now : ℕ) (ticket : Ticket) (step : RollStep) → (seat_given_by o now ticket step).1.roll ≡ behind o.roll step.logged
-seat_roll o now ticket step =
-    roll_behind step.logged (seat_noted_if (is_some step.logged) o now ticket) now step.answer
-    ∙ ap (λ (r : Entries). behind r step.logged) (noted_if_roll (is_some step.logged) o now ticket)
+given_roll : (b : Option Binding) (o : Office) (now : ℕ) → (given_noted b o now).roll ≡ o.roll
+given_roll None o now = refl
+given_roll (Some b) o now = actor_roll b.actor o now b.ticket
+
+seat_roll : (o : Office) (now : ℕ) (step : RollStep) → (seat_given_by o now step).1.roll ≡ behind o.roll step.logged
+seat_roll o now step =
+    roll_behind step.logged (given_noted step.logged o now) now step.answer
+    ∙ ap (λ (r : Entries). behind r step.logged) (given_roll step.logged o now)
 
 -- ---- the answer
 
@@ -82,8 +87,8 @@ module _ (tells : AnswersTellTheRoll) where
   seat_has : (o : Office) (now : ℕ) (views : List View) (ticket : Ticket) (node : NodeId) → (seat_given o now views ticket).0.answer ≡ Seated node → Has ticket node (seat_given o now views ticket)
   seat_has o now views ticket node e =
       let step : RollStep = seated o.roll views (seating_of o now views ticket) ticket in
-      let same : roll_answer step.answer ≡ Seated node = sym (taken_answer step.logged (seat_noted_if (is_some step.logged) o now ticket) now step.answer) ∙ e in
-      ap (bound (actors.Node node)) (seat_roll o now ticket step) ∙ tells.1 o.roll views (seating_of o now views ticket) node ticket (was_seated step.answer node same)
+      let same : roll_answer step.answer ≡ Seated node = sym (taken_answer step.logged (given_noted step.logged o now) now step.answer) ∙ e in
+      ap (bound (actors.Node node)) (seat_roll o now step) ∙ tells.1 o.roll views (seating_of o now views ticket) node ticket (was_seated step.answer node same)
 
   claim_has : (o : Office) (now : ℕ) (views : List View) (told : List (Option Ticket)) (node : NodeId) (ticket : Ticket) → (number_claimed o now views told node ticket).0.answer ≡ Yes →
       Has ticket node (number_claimed o now views told node ticket)

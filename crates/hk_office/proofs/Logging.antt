@@ -1,6 +1,8 @@
 -- What a step logs makes of the log just the office behind it.
-use Rattle.std.proofs.Common.{◌≡◌, ℕ, ◌==◌, ◌&&◌, nat_lt, Bool, true, false, cond, List, [], map, Option, None, Some, is_some, refl, sym, ap, subst}
+use Rattle.std.proofs.Common.{◌≡◌, ℕ, ◌==◌, ◌&&◌, nat_lt, Bool, true, false, cond, List, [], map, Option, None, Some, refl, sym, ap, subst}
 use Rattle.hk_base.specs.declared.stamp.NodeId.{NodeId}
+use Rattle.hk_base.specs.declared.letter.Actor.{Actor}
+use Rattle.hk_base.specs.declared.letter.Actor.TheVariants as actors
 use Rattle.hk_base.specs.declared.view.View.{View}
 use Rattle.hk_fields.specs.declared.tickets.Ticket.{Ticket}
 use Rattle.hk_fields.specs.declared.hosts.HostTickets.{HostTickets}
@@ -29,7 +31,7 @@ use Rattle.hk_office.specs.Answers.{refused}
 use Rattle.hk_office.specs.Board.{last_of}
 use Rattle.hk_office.specs.Founding.{opening_logged, roll_of, fits}
 use Rattle.hk_office.specs.Marks.{is_in_view}
-use Rattle.hk_office.specs.Seating.{binding_taken_by, seating_of, seat_noted_at, seat_noted_if, seat_given_by, seat_given, number_claimed}
+use Rattle.hk_office.specs.Seating.{binding_taken_by, seating_of, seat_noted_at, binding_noted, given_noted, seat_given_by, seat_given, number_claimed}
 use Rattle.hk_office.specs.Leaving.{leaver_of, against_leave, left_by, left_at, left}
 use Rattle.hk_office.specs.Steps.{Made, stays, found_by, found_step, found, moved, inquired, if_open, board_told}
 use Rattle.hk_office.specs.Laws.{Logged, with_entries, logged_of, LogTellsTheOffice}
@@ -58,19 +60,23 @@ binding_tells (Some b) o now answer = refl
 
 -- ---- SEAT and CLAIM
 
-noted_same : (x : Option Came) (o : Office) (now : ℕ) → logged_of (seat_noted_at x o now) ≡ logged_of o
-noted_same None o now = refl
-noted_same (Some c) o now = refl
+noted_same : (x : Option Came) (o : Office) (now : ℕ) (node : NodeId) (ticket : Ticket) → logged_of (seat_noted_at x o now node ticket) ≡ logged_of o
+noted_same None o now node ticket = refl
+noted_same (Some c) o now node ticket = refl
 
-noted_if_same : (t : Bool) (o : Office) (now : ℕ) (ticket : Ticket) → logged_of (seat_noted_if t o now ticket) ≡ logged_of o
-noted_if_same true o now ticket = noted_same (last_of ticket o) o now
-noted_if_same false o now ticket = refl
+actor_same : (actor : Actor) (o : Office) (now : ℕ) (ticket : Ticket) → logged_of (binding_noted o now actor ticket) ≡ logged_of o
+actor_same (actors.Node node) o now ticket = noted_same (last_of ticket o) o now node ticket
+actor_same (actors.Manager place) o now ticket = refl
 
-seat_tells : (o : Office) (now : ℕ) (ticket : Ticket) (step : RollStep) → Tells o (seat_given_by o now ticket step)
-seat_tells o now ticket step =
-    subst (λ (l : Logged). with_entries l (seat_given_by o now ticket step).0.logged ≡ logged_of (seat_given_by o now ticket step).1)
-    (noted_if_same (is_some step.logged) o now ticket)
-    (binding_tells step.logged (seat_noted_if (is_some step.logged) o now ticket) now step.answer)
+given_same : (b : Option Binding) (o : Office) (now : ℕ) → logged_of (given_noted b o now) ≡ logged_of o
+given_same None o now = refl
+given_same (Some b) o now = actor_same b.actor o now b.ticket
+
+seat_tells : (o : Office) (now : ℕ) (step : RollStep) → Tells o (seat_given_by o now step)
+seat_tells o now step =
+    subst (λ (l : Logged). with_entries l (seat_given_by o now step).0.logged ≡ logged_of (seat_given_by o now step).1)
+    (given_same step.logged o now)
+    (binding_tells step.logged (given_noted step.logged o now) now step.answer)
 
 -- ---- LEAVE
 
@@ -155,7 +161,7 @@ module _ (stage : LogTellsTheStage) where
 
   step_tells : (o : Office) (now : ℕ) (views : List View) (told : List (Option Ticket)) (inquiry : Inquiry) → Tells o (inquired o now views told inquiry)
   step_tells o now views told (asks.Report report) = refl
-  step_tells o now views told (asks.Seat ticket) = if_open_tells o (seat_given o now views ticket) (seat_tells o now ticket (seated o.roll views (seating_of o now views ticket) ticket))
+  step_tells o now views told (asks.Seat ticket) = if_open_tells o (seat_given o now views ticket) (seat_tells o now (seated o.roll views (seating_of o now views ticket) ticket))
   step_tells o now views told (asks.Claim node ticket) =
       if_open_tells o (number_claimed o now views told node ticket)
       (binding_tells (claimed o.roll views told node ticket).logged o now (claimed o.roll views told node ticket).answer)

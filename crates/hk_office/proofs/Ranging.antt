@@ -1,5 +1,5 @@
 -- What may be printed.
-use Rattle.std.proofs.Common.{◌≡◌, ◌<◌, ◌≤◌, ◌==◌, ◌&&◌, ℕ, zero, suc, min, Bool, true, false, cond, List, [], ◌∷◌, ◌++◌, length, take, slice_get, Option, None, Some, is_some, refl, sym, subst, arith, All}
+use Rattle.std.proofs.Common.{◌≡◌, ◌<◌, ◌≤◌, ◌==◌, ◌&&◌, ℕ, zero, suc, min, Bool, true, false, cond, List, [], ◌∷◌, ◌++◌, length, take, slice_get, Option, None, Some, refl, sym, subst, arith, All}
 use Rattle.std.specs.List.{AllByRecursion, flat_map}
 use Rattle.std.proofs.lemmas.Bool.{eqb-true}
 use Rattle.std.proofs.lemmas.List.{length-take}
@@ -41,7 +41,7 @@ use Rattle.hk_office.specs.Numbers.{numbers}
 use Rattle.hk_office.specs.Marks.{is_in_view}
 use Rattle.hk_office.specs.Board.{last_of, inside_of, node_line, manager_line, bound_line, bound_manager, line_at, manager_at, neither_line, asker_lines_of, asker_lines, places, asker_of, board}
 use Rattle.hk_office.specs.Founding.{opening_logged, fits_at, fits, stage_answer}
-use Rattle.hk_office.specs.Seating.{roll_answer, seating_of, binding_taken_by, seat_noted_if, seat_given, number_claimed}
+use Rattle.hk_office.specs.Seating.{roll_answer, seating_of, binding_taken_by, given_noted, seat_given, number_claimed}
 use Rattle.hk_office.specs.Leaving.{leaver_of, against_leave, left_by, left_at, left}
 use Rattle.hk_office.specs.Steps.{Made, stays, with_report, found_by, found_step, found, if_open, inquired}
 use Rattle.hk_office.specs.Ranges.{IsAnswerInRange, HasFoundingInRange, StaysInRange}
@@ -171,7 +171,7 @@ answers_fit : (o : Office) (now : ℕ) (views : List View) (told : List (Option 
 answers_fit o now views told (asks.Report report) few = board_fits (with_report o now report) now views (asker_of report)
 answers_fit o now views told (asks.Seat ticket) few =
     let step : RollStep = seated o.roll views (seating_of o now views ticket) ticket in
-    if_open_answers o (seat_given o now views ticket) (taken_fits step.logged (seat_noted_if (is_some step.logged) o now ticket) now step.answer)
+    if_open_answers o (seat_given o now views ticket) (taken_fits step.logged (given_noted step.logged o now) now step.answer)
 answers_fit o now views told (asks.Claim node ticket) few =
     let step : RollStep = claimed o.roll views told node ticket in
     if_open_answers o (number_claimed o now views told node ticket) (taken_fits step.logged o now step.answer)
@@ -262,7 +262,7 @@ module _ (rule : BindsByTheRule) (reserved : FoundWhileReserved) where
   logs_fit o now views told (asks.Seat ticket) few is =
       let step : RollStep = seated o.roll views (seating_of o now views ticket) ticket in
       if_open_logs o (seat_given o now views ticket)
-      (taken_logs step.logged (seat_noted_if (is_some step.logged) o now ticket) now step.answer
+      (taken_logs step.logged (given_noted step.logged o now) now step.answer
       (λ b e. let seat = rule.1 o.roll views (seating_of o now views ticket) ticket b e in (seat.0, ticket, seat.2.is)))
   logs_fit o now views told (asks.Claim node ticket) few is =
       let step : RollStep = claimed o.roll views told node ticket in

@@ -1,5 +1,5 @@
 -- Who gets which number.
-use Rattle.std.specs.Prelude.{ℕ, Bool, true, false, List, [], ◌∷◌, Option, None, Some, is_some}
+use Rattle.std.specs.Prelude.{ℕ, Bool, true, List, [], ◌∷◌, Option, None, Some, is_some}
 use Rattle.std.specs.List.{filter, list_all}
 use Rattle.hk_base.specs.declared.stamp.NodeId.{NodeId}
 use Rattle.hk_base.specs.declared.letter.Actor.{Actor}
@@ -38,13 +38,13 @@ heard_of o now views = heard_by o.reports now o.terms.place o.terms.managers o.t
 
 -- ---- SEAT
 
-abbrev pub in_vain_at : Option Came → ℕ → ReportsState → Bool
-in_vain_at None now reports = true
-in_vain_at (Some c) now reports = was_in_vain now c.report.inside reports
+abbrev pub in_vain_at : Option Came → ℕ → Ticket → ReportsState → Bool
+in_vain_at None now ticket reports = true
+in_vain_at (Some c) now ticket reports = was_in_vain now c.report.inside ticket reports
 
--- A number was given in vain where the process is reached. A process that told nothing yet has to report first.
+-- A number was given in vain to who was reached before where the process is. A process that told nothing yet has to report first.
 abbrev pub in_vain : Office → ℕ → Ticket → Bool
-in_vain o now ticket = in_vain_at (last_of ticket o) now o.reports
+in_vain o now ticket = in_vain_at (last_of ticket o) now ticket o.reports
 
 abbrev pub seating_of : Office → ℕ → List View → Ticket → Seating
 seating_of o now views ticket = record {
@@ -64,39 +64,44 @@ roll_answer (No Wait) = answers.No refusals.Wait
 abbrev pub binding_logged : Binding → List Entry
 binding_logged b = Bound b.actor b.ticket ∷ []
 
--- a node's age counts from when its number was bound
-abbrev pub bound_noted : ℕ → Actor → ReportsState → ReportsState
-bound_noted now (actors.Node n) reports = bound_at now n reports
-bound_noted now (actors.Manager p) reports = reports
+-- A node's age counts from when its number was bound; and to any other process that number was not given in vain.
+abbrev pub bound_noted : ℕ → Actor → Ticket → ReportsState → ReportsState
+bound_noted now (actors.Node n) ticket reports = bound_at now n ticket reports
+bound_noted now (actors.Manager p) ticket reports = reports
 
 abbrev pub binding_taken_by : Option Binding → Office → ℕ → RollAnswer → OfficeStep × Office
 binding_taken_by None o now answer = (record { answer = roll_answer answer; logged = [] }, o)
 binding_taken_by (Some b) o now answer = (
   record { answer = roll_answer answer; logged = binding_logged b },
-  record o { roll = with_bound o.roll b; reports = bound_noted now b.actor o.reports },
+  record o { roll = with_bound o.roll b; reports = bound_noted now b.actor b.ticket o.reports },
 )
 
 -- what a step binds is logged, and in the roll
 abbrev pub binding_taken : Office → ℕ → RollStep → OfficeStep × Office
 binding_taken o now step = binding_taken_by step.logged o now step.answer
 
-abbrev pub seat_noted_at : Option Came → Office → ℕ → Office
-seat_noted_at None o now = o
-seat_noted_at (Some c) o now = record o { reports = seat_kept now c.report.inside o.reports }
+abbrev pub seat_noted_at : Option Came → Office → ℕ → NodeId → Ticket → Office
+seat_noted_at None o now node ticket = o
+seat_noted_at (Some c) o now node ticket = record o { reports = seat_kept now node ticket c.report.inside o.reports }
 
--- the process at this address was given a number
-abbrev pub seat_noted : Office → ℕ → Ticket → Office
-seat_noted o now ticket = seat_noted_at (last_of ticket o) o now
+-- the process was given this number, at its address
+abbrev pub seat_noted : Office → ℕ → NodeId → Ticket → Office
+seat_noted o now node ticket = seat_noted_at (last_of ticket o) o now node ticket
 
-abbrev pub seat_noted_if : Bool → Office → ℕ → Ticket → Office
-seat_noted_if true o now ticket = seat_noted o now ticket
-seat_noted_if false o now ticket = o
+abbrev pub binding_noted : Office → ℕ → Actor → Ticket → Office
+binding_noted o now (actors.Node node) ticket = seat_noted o now node ticket
+binding_noted o now (actors.Manager place) ticket = o
 
-abbrev pub seat_given_by : Office → ℕ → Ticket → RollStep → OfficeStep × Office
-seat_given_by o now ticket step = binding_taken (seat_noted_if (is_some step.logged) o now ticket) now step
+-- to whom the number is given that a step binds
+abbrev pub given_noted : Option Binding → Office → ℕ → Office
+given_noted None o now = o
+given_noted (Some b) o now = binding_noted o now b.actor b.ticket
+
+abbrev pub seat_given_by : Office → ℕ → RollStep → OfficeStep × Office
+seat_given_by o now step = binding_taken (given_noted step.logged o now) now step
 
 abbrev pub seat_given : Office → ℕ → List View → Ticket → OfficeStep × Office
-seat_given o now views ticket = seat_given_by o now ticket (seated o.roll views (seating_of o now views ticket) ticket)
+seat_given o now views ticket = seat_given_by o now (seated o.roll views (seating_of o now views ticket) ticket)
 
 -- ---- CLAIM
 

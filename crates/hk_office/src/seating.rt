@@ -3,7 +3,7 @@
 ghost use Rattle.std.specs.Prelude.{◌≡◌, ◌<◌, ◌≤◌, length, IfOk, OnOk, OnErr};
 ghost use Rattle.std.specs.List.{filter};
 ghost use Rattle.hk_reports.specs.Reports.{asked};
-ghost use Rattle.hk_office.specs.Seating.{is_bound, heard_of, in_vain, seating_of, roll_answer, binding_logged, bound_noted, binding_taken, seat_noted, seat_given, number_claimed};
+ghost use Rattle.hk_office.specs.Seating.{is_bound, heard_of, in_vain, seating_of, roll_answer, binding_logged, bound_noted, binding_taken, seat_noted, binding_noted, given_noted, seat_given, number_claimed};
 
 use crate::answer::{OfficeAnswer, OfficeStep, answered};
 use crate::numbers::numbers;
@@ -74,15 +74,15 @@ impl Office {
         )
     }
 
-    // Whether a number was given in vain where the process is reached. A process that told nothing yet has to report
-    // first.
+    // Whether a number was given in vain to who was reached before where the process is. A process that told nothing yet has to
+    // report first.
     fn in_vain(&self, now: u64, ticket: Ticket) -> bool
         ensures { result ≡ in_vain self.now now ticket }
     {
         match self.reports.last(ticket) {
             Some(came) => self
                 .reports
-                .was_lately_in_vain(now, came.report.inside.as_slice()),
+                .was_lately_in_vain(now, came.report.inside.as_slice(), ticket),
             None => true,
         }
     }
@@ -113,12 +113,12 @@ impl Office {
         self.reports.note_ask(now, shard, node, epoch)
     }
 
-    fn note_bound(&mut self, now: u64, actor: Actor) -> Result<(), Memory>
-        ensures ok { OnOk result (self.new ≡ record self.old { reports = bound_noted now actor self.old.reports }) }
+    fn note_bound(&mut self, now: u64, binding: Binding) -> Result<(), Memory>
+        ensures ok { OnOk result (self.new ≡ record self.old { reports = bound_noted now binding.actor binding.ticket self.old.reports }) }
         ensures err { OnErr result (self.new ≡ self.old) }
     {
-        match actor {
-            Actor::Node(node) => self.reports.note_bound(now, node),
+        match binding.actor {
+            Actor::Node(node) => self.reports.note_bound(now, node, binding.ticket),
             Actor::Manager(_) => Ok(()),
         }
     }
@@ -137,7 +137,7 @@ impl Office {
         match step.logged {
             Some(binding) => {
                 let logged = binding_logged(alloc, binding)?;
-                self.note_bound(now, binding.actor)?;
+                self.note_bound(now, binding)?;
                 self.roll.bind(binding)?;
                 Ok(OfficeStep { answer, logged })
             }
@@ -145,16 +145,44 @@ impl Office {
         }
     }
 
-    // Notes that the process was given a number.
-    fn note_seated(&mut self, alloc: Global, now: u64, ticket: Ticket) -> Result<(), Memory>
-        ensures ok { OnOk result (self.new ≡ seat_noted self.old now ticket) }
+    // Notes that the process was given this number.
+    fn note_seat(
+        &mut self,
+        alloc: Global,
+        now: u64,
+        node: NodeId,
+        ticket: Ticket,
+    ) -> Result<(), Memory>
+        ensures ok { OnOk result (self.new ≡ seat_noted self.old now node ticket) }
         ensures err { OnErr result (self.new ≡ self.old) }
     {
         match self.reports.last(ticket) {
             Some(came) => {
                 let inside = came.report.inside.as_slice().to_vec(alloc)?;
-                self.reports.note_seated(alloc, now, &inside)
+                self.reports.note_seated(alloc, now, node, ticket, &inside)
             }
+            None => Ok(()),
+        }
+    }
+
+    // Notes to whom a number is given that is bound so.
+    fn note_seated(&mut self, alloc: Global, now: u64, binding: Binding) -> Result<(), Memory>
+        ensures ok { OnOk result (self.new ≡ binding_noted self.old now binding.actor binding.ticket) }
+        ensures err { OnErr result (self.new ≡ self.old) }
+    {
+        match binding.actor {
+            Actor::Node(node) => self.note_seat(alloc, now, node, binding.ticket),
+            Actor::Manager(_) => Ok(()),
+        }
+    }
+
+    // Notes to whom the number is given that a step binds.
+    fn note_given(&mut self, alloc: Global, now: u64, given: Option<Binding>) -> Result<(), Memory>
+        ensures ok { OnOk result (self.new ≡ given_noted given self.old now) }
+        ensures err { OnErr result (self.new ≡ self.old) }
+    {
+        match given {
+            Some(binding) => self.note_seated(alloc, now, binding),
             None => Ok(()),
         }
     }
@@ -172,9 +200,7 @@ impl Office {
     {
         let seating = self.seating(alloc, now, views, ticket)?;
         let step = self.roll.seat(views, seating, ticket);
-        if step.logged.is_some() {
-            self.note_seated(alloc, now, ticket)?;
-        }
+        self.note_given(alloc, now, step.logged)?;
         self.take_binding(alloc, now, step)
     }
 

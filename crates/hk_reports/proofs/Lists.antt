@@ -3,16 +3,17 @@ use Rattle.std.proofs.Common.{◌≡◌, ◌<◌, ℕ, zero, suc, Bool, true, fa
 use Rattle.std.proofs.Common.{refl, sym, ap, subst, ◌∙◌, arith}
 use Rattle.std.specs.List.{filter, find, list_any}
 use Rattle.std.specs.Cmp.Lexicographic.{pointwise}
-use Rattle.std.proofs.lemmas.Bool.{true≢false, eqb-true}
+use Rattle.std.proofs.lemmas.Bool.{true≢false, eqb-true, eq-eqb}
 use Rattle.std.proofs.lemmas.List.{take_all}
 use Rattle.std.proofs.lemmas.Slice.Eq.{bytes_eq-Decides}
 use Rattle.hk_base.specs.declared.stamp.NodeId.{NodeId}
+use Rattle.hk_fields.specs.declared.tickets.Ticket.{Ticket}
 use Rattle.hk_reports.specs.declared.kept.Came.{Came}
 use Rattle.hk_reports.specs.declared.kept.NumberKept.{NumberKept}
 use Rattle.hk_reports.specs.declared.kept.SeatGiven.{SeatGiven}
 use Rattle.hk_reports.specs.declared.reports.TheConstants.{MOST_PROCESSES, IN_VAIN_FOR}
-use Rattle.hk_reports.specs.Reports.{age, same_ticket, is_of, is_at, is_number, number_or, number_of, with_ask, other_reports, other_seats, lately_at, still_in_vain, with_report, AreOneEach}
-use Rattle.hk_reports.specs.Laws.{ReportIsLast, OthersStay, OtherNumbersStay, VainForTenMinutes, ReadyIsNotInVain}
+use Rattle.hk_reports.specs.Reports.{age, same_ticket, is_of, is_at, is_number, number_or, number_of, with_ask, other_reports, other_seats, lately_at, is_lost_to, still_in_vain, with_report, AreOneEach}
+use Rattle.hk_reports.specs.Laws.{ReportIsLast, OthersStay, OtherNumbersStay, VainForTenMinutes, ReadyIsNotInVain, LostIsNotInVain, OwnIsNotInVain}
 
 own_bytes : (xs : List ℕ) → pointwise nat_eq xs xs ≡ true
 own_bytes xs = (bytes_eq-Decides xs xs).1 refl
@@ -149,20 +150,47 @@ none_taken test (suc n) (x ∷ xs) e = at (test x) e (none_taken test n xs)
     at true e later = absurd (true≢false e)
     at false e later = later e
 
-seat_away : (inside : List ℕ) (later : ℕ) (s : SeatGiven) → is_at inside s ≡ false → lately_at later inside s ≡ false
-seat_away inside later s e = rw e refl
+seat_away : (inside : List ℕ) (ticket : Ticket) (later : ℕ) (s : SeatGiven) → is_at inside s ≡ false → lately_at later inside ticket s ≡ false
+seat_away inside ticket later s e = rw e refl
 
 or_nothing : (b c : Bool) → c ≡ false → (b || c) ≡ b
 or_nothing true c e = refl
 or_nothing false c e = e
 
+-- of the seats that stand behind a new one none is at its address
+none_behind : (inside : List ℕ) (ticket : Ticket) (later : ℕ) (seats : List SeatGiven) → list_any (lately_at later inside ticket) (take 63 (other_seats inside seats)) ≡ false
+none_behind inside ticket later seats =
+    none_taken (lately_at later inside ticket) 63 (other_seats inside seats) (none_kept (lately_at later inside ticket) (is_at inside) (seat_away inside ticket later) seats)
+
 pub vain_for_ten_minutes : VainForTenMinutes
-vain_for_ten_minutes now later inside s =
+vain_for_ten_minutes now later node ticket other inside s differs =
     let own : pointwise nat_eq inside inside ≡ true = own_bytes inside in
-    let behind = none_taken (lately_at later inside) 63 (other_seats inside s.seats) (none_kept (lately_at later inside) (is_at inside) (seat_away inside later) s.seats) in
-    rw own (or_nothing (nat_lt (age later now) IN_VAIN_FOR) (list_any (lately_at later inside) (take 63 (other_seats inside s.seats))) behind)
+    rw own (rw differs (or_nothing (nat_lt (age later now) IN_VAIN_FOR) (list_any (lately_at later inside other) (take 63 (other_seats inside s.seats))) (none_behind inside other later s.seats)))
 
 pub ready_is_not_in_vain : ReadyIsNotInVain
-ready_is_not_in_vain now later report s ready =
+ready_is_not_in_vain now later report ticket s ready =
     let seats : still_in_vain report s.seats ≡ other_seats report.inside s.seats = rw ready refl in
-    ap (list_any (lately_at later report.inside)) seats ∙ none_kept (lately_at later report.inside) (is_at report.inside) (seat_away report.inside later) s.seats
+    ap (list_any (lately_at later report.inside ticket)) seats
+    ∙ none_kept (lately_at later report.inside ticket) (is_at report.inside) (seat_away report.inside ticket later) s.seats
+
+pub own_is_not_in_vain : OwnIsNotInVain
+own_is_not_in_vain now later node ticket inside s =
+    let here : pointwise nat_eq inside inside ≡ true = own_bytes inside in
+    let own : same_ticket ticket ticket ≡ true = own_bytes ticket.0 in
+    rw here (rw own (none_behind inside ticket later s.seats))
+
+none_left : {X : Type 0} (test keep : X → Bool) (xs : List X) → list_any test xs ≡ false → list_any test (filter keep xs) ≡ false
+none_left test keep [] e = refl
+none_left test keep (x ∷ xs) e = at (test x) refl (keep x) e (none_left test keep xs)
+  where
+    at : (b : Bool) → test x ≡ b → (k : Bool) → (b || list_any test xs) ≡ false → (list_any test xs ≡ false → list_any test (filter keep xs) ≡ false) →
+        list_any test (cond k (x ∷ filter keep xs) (filter keep xs)) ≡ false
+    at true is k e later = absurd (true≢false e)
+    at false is true e later = rw is (later e)
+    at false is false e later = later e
+
+pub lost_is_not_in_vain : LostIsNotInVain
+lost_is_not_in_vain now behind later node ticket holder other inside s differs =
+    let same : nat_eq node.0 node.0 ≡ true = eq-eqb node.0 node.0 refl in
+    let left = none_left (lately_at later inside other) (λ seat. not (is_lost_to node holder seat)) (take 63 (other_seats inside s.seats)) (none_behind inside other later s.seats) in
+    rw same (rw differs left)

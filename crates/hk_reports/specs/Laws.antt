@@ -10,7 +10,7 @@ use Rattle.hk_inside.specs.declared.report.Report.{Report}
 use Rattle.hk_keeper.specs.Heard.{is_up}
 use Rattle.hk_reports.specs.declared.reports.TheConstants.{MOST_PROCESSES, IN_VAIN_FOR}
 use Rattle.hk_reports.specs.Reports.{ReportsState, age, same_ticket, is_of, other_reports, reported, is_ready_state}
-use Rattle.hk_reports.specs.Reports.{other_numbers, number_of, asked, seated, most_of, was_in_vain}
+use Rattle.hk_reports.specs.Reports.{other_numbers, number_of, asked, bound_at, seated, most_of, was_in_vain}
 use Rattle.hk_reports.specs.Hearing.{is_up_at, managers_up, manager_heard, known_nodes, ask_in, heard_by}
 
 -- ---- reports
@@ -82,15 +82,25 @@ KnownOnce = (views : List View) (bound : List NodeId) → AreOnce (known_nodes v
 
 -- ---- newcomers
 
--- An address to which a number was given was seated in vain for ten minutes from then on,
+-- Behind a process that was given a number, any other one at its address was seated in vain for ten minutes from then on,
 abbrev pub VainForTenMinutes : Type 0
-VainForTenMinutes = (now later : ℕ) (inside : List ℕ) (s : ReportsState) →
-    was_in_vain later inside (seated now inside s) ≡ nat_lt (age later now) IN_VAIN_FOR
+VainForTenMinutes = (now later : ℕ) (node : NodeId) (ticket other : Ticket) (inside : List ℕ) (s : ReportsState) → same_ticket ticket other ≡ false →
+    was_in_vain later inside other (seated now node ticket inside s) ≡ nat_lt (age later now) IN_VAIN_FOR
 
--- or until a process there is ready.
+-- or until a process there is ready,
 abbrev pub ReadyIsNotInVain : Type 0
-ReadyIsNotInVain = (now later : ℕ) (report : Report) (s : ReportsState) → is_ready_state report.state ≡ true →
-    was_in_vain later report.inside (reported now report s) ≡ false
+ReadyIsNotInVain = (now later : ℕ) (report : Report) (ticket : Ticket) (s : ReportsState) → is_ready_state report.state ≡ true →
+    was_in_vain later report.inside ticket (reported now report s) ≡ false
+
+-- or until the number is bound to another process.
+abbrev pub LostIsNotInVain : Type 0
+LostIsNotInVain = (now behind later : ℕ) (node : NodeId) (ticket holder other : Ticket) (inside : List ℕ) (s : ReportsState) → same_ticket ticket holder ≡ false →
+    was_in_vain later inside other (bound_at behind node holder (seated now node ticket inside s)) ≡ false
+
+-- That process itself was not: who asks again for a number has lost the one that it was given.
+abbrev pub OwnIsNotInVain : Type 0
+OwnIsNotInVain = (now later : ℕ) (node : NodeId) (ticket : Ticket) (inside : List ℕ) (s : ReportsState) →
+    was_in_vain later inside ticket (seated now node ticket inside s) ≡ false
 
 -- ---- logs
 

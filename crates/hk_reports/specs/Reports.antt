@@ -147,10 +147,17 @@ asked now shard node epoch s =
 abbrev pub with_bound : ℕ → NumberKept → NumberKept
 with_bound now number = record number { bound = Some now }
 
--- a number was bound
-abbrev pub bound_at : ℕ → NodeId → ReportsState → ReportsState
-bound_at now node s =
-    record s { numbers = with_number (with_bound now (number_of node s.numbers)) s.numbers }
+-- the number that was given so is another process's
+abbrev pub is_lost_to : NodeId → Ticket → SeatGiven → Bool
+is_lost_to node ticket seat = (seat.node.0 == node.0) && not (same_ticket seat.ticket ticket)
+
+abbrev pub still_theirs : NodeId → Ticket → List SeatGiven → List SeatGiven
+still_theirs node ticket seats = filter (λ seat. not (is_lost_to node ticket seat)) seats
+
+-- A number was bound to a process. To any other one it was not given in vain: that never had it.
+abbrev pub bound_at : ℕ → NodeId → Ticket → ReportsState → ReportsState
+bound_at now node ticket s =
+    record s { numbers = with_number (with_bound now (number_of node s.numbers)) s.numbers; seats = still_theirs node ticket s.seats }
 
 -- ---- this manager's proposals
 
@@ -169,18 +176,19 @@ proposes now shard epoch s =
 abbrev pub with_seat : SeatGiven → List SeatGiven → List SeatGiven
 with_seat seat seats = take MOST_PROCESSES (seat ∷ other_seats seat.inside seats)
 
--- a number was given to the process at an address
-abbrev pub seated : ℕ → List ℕ → ReportsState → ReportsState
-seated now inside s = record s { seats = with_seat (record { inside = inside; at = now }) s.seats }
+-- a number was given to a process at an address
+abbrev pub seated : ℕ → NodeId → Ticket → List ℕ → ReportsState → ReportsState
+seated now node ticket inside s = record s { seats = with_seat (record { node = node; ticket = ticket; inside = inside; at = now }) s.seats }
 
 -- ---- what is asked of them
 
 abbrev pub most_of : ℕ → ReportsState → ℕ
 most_of place s = if nat_lt place 9 then slice_index s.records place else 0
 
-abbrev pub lately_at : ℕ → List ℕ → SeatGiven → Bool
-lately_at now inside seat = is_at inside seat && nat_lt (age now seat.at) IN_VAIN_FOR
+abbrev pub lately_at : ℕ → List ℕ → Ticket → SeatGiven → Bool
+lately_at now inside ticket seat = is_at inside seat && (not (same_ticket seat.ticket ticket) && nat_lt (age now seat.at) IN_VAIN_FOR)
 
--- in the last ten minutes a number was given there, and no process was ready there since
-abbrev pub was_in_vain : ℕ → List ℕ → ReportsState → Bool
-was_in_vain now inside s = list_any (lately_at now inside) s.seats
+-- A number was given in vain to who was at an address before: that process had it, by this manager's roll, and did not become ready. In the last ten minutes
+-- one was given there to another process than the asker, nobody else took it, and no process was ready there since. A process that asks again still runs.
+abbrev pub was_in_vain : ℕ → List ℕ → Ticket → ReportsState → Bool
+was_in_vain now inside ticket s = list_any (lately_at now inside ticket) s.seats

@@ -1,6 +1,7 @@
 //! What a manager keeps of what it was told.
 
 use hk_base::NodeId;
+use hk_fields::Ticket;
 use hk_inside::{Report, Text};
 
 /// The last report of a process.
@@ -44,6 +45,9 @@ pub struct Proposed {
 /// A number was given to a process that has not become ready since.
 #[derive(Drop)]
 pub struct SeatGiven {
+    pub node: NodeId,
+    /// The process to which it was given.
+    pub ticket: Ticket,
     /// The address at which other processes reach it.
     pub inside: Text,
     /// The reading at which the number was given, in milliseconds.

@@ -1,6 +1,6 @@
 //! The laws of what is kept, and of what a keeper hears of it.
 
-ghost use Rattle.hk_reports.specs.Laws.{ReportIsLast, OthersStay, BitsAreManagersUp, UpAsTheKeeperSays, LastAskCounts, OtherShardsStay, OtherNumbersStay, KnowsBoundAndMembers, KnownOnce, VainForTenMinutes, ReadyIsNotInVain, MostRecordsStay};
+ghost use Rattle.hk_reports.specs.Laws.{ReportIsLast, OthersStay, BitsAreManagersUp, UpAsTheKeeperSays, LastAskCounts, OtherShardsStay, OtherNumbersStay, KnowsBoundAndMembers, KnownOnce, VainForTenMinutes, ReadyIsNotInVain, LostIsNotInVain, OwnIsNotInVain, MostRecordsStay};
 
 /// A report takes the place of its ticket's last one, and of no other where there is room.
 pub fn the_last_report_counts()
@@ -27,10 +27,13 @@ pub fn bound_nodes_and_members_are_heard()
     ensures once { KnownOnce }
 {}
 
-/// An address was seated in vain for ten minutes, or until a process there is ready.
+/// An address was seated in vain for ten minutes, or until a process there is ready or the number is another one's; but not for
+/// the process to which the number was given.
 pub fn an_address_is_in_vain_for_ten_minutes()
     ensures until { VainForTenMinutes }
     ensures ready { ReadyIsNotInVain }
+    ensures lost { LostIsNotInVain }
+    ensures own { OwnIsNotInVain }
 {}
 
 /// Of a manager's log the most records are known that its reports told.

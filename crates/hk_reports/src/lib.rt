@@ -18,8 +18,9 @@
 //! is up, as the keeper takes it to be (`BitsAreManagersUp`, `UpAsTheKeeperSays`). What is heard of a node in a shard
 //! is its last ask there (`LastAskCounts`, `OtherShardsStay`, `OtherNumbersStay`). The nodes that are heard of are
 //! those that are bound and the members of the views, each once (`KnowsBoundAndMembers`, `KnownOnce`). An address was
-//! seated in vain for ten minutes, or until a process there is ready (`VainForTenMinutes`, `ReadyIsNotInVain`). Of a
-//! manager's log the most records are known that were told (`MostRecordsStay`).
+//! seated in vain for ten minutes, or until a process there is ready or the number is bound to another one
+//! (`VainForTenMinutes`, `ReadyIsNotInVain`, `LostIsNotInVain`); but not for the process to which the number was given
+//! (`OwnIsNotInVain`). Of a manager's log the most records are known that were told (`MostRecordsStay`).
 //!
 //! What no clause says: that what is reported is true, and that a report of a number or of a manager's place comes from
 //! who has it. Of two processes that say the same, the one counts that reported last.

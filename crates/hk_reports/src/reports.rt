@@ -11,8 +11,8 @@ use crate::hearing::{
 };
 use crate::kept::{AskCame, Came, NumberKept, Proposed, SeatGiven};
 use crate::steps::{
-    forget_if_ready, is_of, last_ready, lately_at, most_told, number_of, put_number, put_report,
-    put_seat,
+    forget_if_ready, forget_lost, is_of, last_ready, lately_at, most_told, number_of, put_number,
+    put_report, put_seat,
 };
 use hk_base::{Memory, NodeId, Sequence, View};
 use hk_fields::Ticket;
@@ -102,27 +102,41 @@ impl Reports {
         Ok(())
     }
 
-    /// A node's number was bound to a process.
-    pub fn note_bound(&mut self, now: u64, node: NodeId) -> Result<(), Memory>
-        ensures ok { OnOk result (self.new ≡ bound_at now node self.old) }
+    /// A node's number was bound to a process. Who was given it before did not get it.
+    pub fn note_bound(&mut self, now: u64, node: NodeId, ticket: Ticket) -> Result<(), Memory>
+        ensures ok { OnOk result (self.new ≡ bound_at now node ticket self.old) }
         ensures err { OnErr result (self.new ≡ self.old) }
     {
         self.numbers.reserve(1)?;
+        forget_lost(&mut self.seats, node, ticket);
         let mut number = number_of(self.numbers.as_slice(), node);
         number.bound = Some(now);
         put_number(&mut self.numbers, number);
         Ok(())
     }
 
-    /// A number was given to the process at this address.
-    pub fn note_seated(&mut self, alloc: Global, now: u64, inside: &[u8]) -> Result<(), Memory>
-        ensures ok { OnOk result (self.new ≡ seated now inside.now self.old) }
+    /// A number was given to the process of this ticket, at this address.
+    pub fn note_seated(
+        &mut self,
+        alloc: Global,
+        now: u64,
+        node: NodeId,
+        ticket: Ticket,
+        inside: &[u8],
+    ) -> Result<(), Memory>
+        ensures ok { OnOk result (self.new ≡ seated now node ticket inside.now self.old) }
         ensures err { OnErr result (self.new ≡ self.old) }
     {
         let text = inside.to_vec(alloc)?;
         self.seats.reserve(1)?;
         let inside = Text::from_vec(text);
-        put_seat(&mut self.seats, SeatGiven { inside, at: now });
+        let seat = SeatGiven {
+            node,
+            ticket,
+            inside,
+            at: now,
+        };
+        put_seat(&mut self.seats, seat);
         Ok(())
     }
 
@@ -171,12 +185,14 @@ impl Reports {
         }
     }
 
-    /// Whether in the last ten minutes a number was given to a process at this address, and no process there was ready
-    /// since.
-    pub fn was_lately_in_vain(&self, now: u64, inside: &[u8]) -> bool
-        ensures { result ≡ was_in_vain now inside.now self.now }
+    /// Whether in the last ten minutes a number was given to another process than that of this ticket, at this address, which
+    /// no other one took, and no process there was ready since.
+    pub fn was_lately_in_vain(&self, now: u64, inside: &[u8], ticket: Ticket) -> bool
+        ensures { result ≡ was_in_vain now inside.now ticket self.now }
     {
-        self.seats.iter().any(|seat| lately_at(now, inside, seat))
+        self.seats
+            .iter()
+            .any(|seat| lately_at(now, inside, ticket, seat))
     }
 
     // The bit of a manager, if that is up.

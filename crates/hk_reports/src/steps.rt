@@ -4,7 +4,7 @@ ghost use Rattle.std.specs.Prelude.{◌≡◌, ◌<◌, ◌≤◌, ◌∷◌, le
 ghost use Rattle.std.specs.List.{find};
 ghost use Rattle.std.specs.Option.{option_copied};
 ghost use Rattle.hk_reports.specs.declared.reports.TheConstants.{MOST_PROCESSES};
-ghost use Rattle.hk_reports.specs.Reports.{is_of, is_number, is_at, is_ready_state, other_reports, other_numbers, other_seats, with_report, AreOneEach, IsFew, with_number, with_seat, still_in_vain, last_ready, most_told, number_of, proposed_again, lately_at};
+ghost use Rattle.hk_reports.specs.Reports.{is_of, is_number, is_at, is_ready_state, other_reports, other_numbers, other_seats, with_report, AreOneEach, IsFew, with_number, with_seat, is_lost_to, still_theirs, still_in_vain, last_ready, most_told, number_of, proposed_again, lately_at};
 
 use crate::hearing::age;
 use crate::kept::{Came, NumberKept, Proposed, SeatGiven};
@@ -93,11 +93,26 @@ pub(crate) fn put_seat(seats: &mut Vec<SeatGiven>, seat: SeatGiven)
     put_first(seats, seat);
 }
 
-// Whether a number was given there in the last ten minutes.
-pub(crate) fn lately_at(now: u64, inside: &[u8], seat: &SeatGiven) -> bool
-    ensures { result ≡ lately_at now inside.now seat.now }
+// Whether the number that was given so is another process's.
+fn is_lost_to(node: NodeId, ticket: Ticket, seat: &SeatGiven) -> bool
+    ensures { result ≡ is_lost_to node ticket seat.now }
 {
-    is_at(inside, seat) && age(now, seat.at) < IN_VAIN_FOR
+    seat.node.0 == node.0 && seat.ticket != ticket
+}
+
+// Of those to whom a number was given that is another process's it is forgotten.
+pub(crate) fn forget_lost(seats: &mut Vec<SeatGiven>, node: NodeId, ticket: Ticket)
+    ensures items { seats.new.items ≡ still_theirs node ticket seats.old.items }
+    ensures few { length seats.new.items ≤ length seats.old.items }
+{
+    seats.retain(|seat| !is_lost_to(node, ticket, seat));
+}
+
+// Whether a number was given there in the last ten minutes, to another process.
+pub(crate) fn lately_at(now: u64, inside: &[u8], ticket: Ticket, seat: &SeatGiven) -> bool
+    ensures { result ≡ lately_at now inside.now ticket seat.now }
+{
+    is_at(inside, seat) && seat.ticket != ticket && age(now, seat.at) < IN_VAIN_FOR
 }
 
 fn is_ready_state(state: NodeState) -> bool

@@ -13,7 +13,7 @@ use Rattle.hk_roll.specs.declared.answer.RollRefusal.TheVariants.{Taken, Wait}
 use Rattle.hk_roll.specs.declared.steps.Seating.{Seating}
 use Rattle.hk_roll.specs.Rolls.{Entries, bound, with_bound}
 use Rattle.hk_roll.specs.Boards.{same_ticket, names, named}
-use Rattle.hk_roll.specs.Numbers.{are_new, have_member, may_bind, are_level, next_by, next_number}
+use Rattle.hk_roll.specs.Numbers.{are_new, have_member, may_bind, is_over, are_level, next_by, next_number}
 use Rattle.hk_roll.specs.Steps.{answered, refused, binds, holder, names_another, unbindable, claimed, may_seat, seat_by, seat_next, seated}
 use Rattle.hk_roll.specs.Laws.{IsAllowed, BindsByTheRule, behind, AnswersTellTheRoll}
 use Rattle.hk_roll.proofs.Lookups.{one_ticket, named_is, bound_same}
@@ -36,30 +36,33 @@ free t (Some u) None mine rival = absurd (true≢false (sym (not_another (same_t
 pub claim_allowed : (roll : Entries) (views : List View) (boards : List (Option Ticket)) (node : NodeId) (ticket : Ticket) (b : Binding) →
     (claimed roll views boards node ticket).logged ≡ Some b → IsAllowed roll views boards node ticket b
 claim_allowed roll views boards node ticket b e =
-    at (names ticket (bound (Node node) roll)) (names_another ticket (holder (bound (Node node) roll) (named boards))) (may_bind views node) refl refl refl e
+    at (is_over views node) (names ticket (bound (Node node) roll)) (names_another ticket (holder (bound (Node node) roll) (named boards))) (may_bind views node) refl refl refl e
   where
-    at : (own rival may : Bool) → names ticket (bound (Node node) roll) ≡ own → names_another ticket (holder (bound (Node node) roll) (named boards)) ≡ rival → may_bind views node ≡ may →
-        (cond own (answered Yes) (cond rival (refused (Taken node.0)) (cond may (binds Yes node ticket) (refused (unbindable views node))))).logged ≡ Some b → IsAllowed roll views boards node ticket b
-    at true rival may p q r e = none_is b e
-    at false true may p q r e = none_is b e
-    at false false false p q r e = none_is b e
-    at false false true p q r e = record { is = cc; may = r; changes = free ticket (bound (Node node) roll) (named boards) p q }
+    at : (over own rival may : Bool) → names ticket (bound (Node node) roll) ≡ own → names_another ticket (holder (bound (Node node) roll) (named boards)) ≡ rival → may_bind views node ≡ may →
+        (cond over (refused (Taken node.0)) (cond own (answered Yes) (cond rival (refused (Taken node.0)) (cond may (binds Yes node ticket) (refused (unbindable views node)))))).logged ≡ Some b →
+        IsAllowed roll views boards node ticket b
+    at true own rival may p q r e = none_is b e
+    at false true rival may p q r e = none_is b e
+    at false false true may p q r e = none_is b e
+    at false false false false p q r e = none_is b e
+    at false false false true p q r e = record { is = cc; may = r; changes = free ticket (bound (Node node) roll) (named boards) p q }
 
 yes_is_bound : (roll : Entries) (views : List View) (boards : List (Option Ticket)) (node : NodeId) (ticket : Ticket) →
     (claimed roll views boards node ticket).answer ≡ Yes → bound (Node node) (behind roll (claimed roll views boards node ticket).logged) ≡ Some ticket
 yes_is_bound roll views boards node ticket e =
-    at (names ticket (bound (Node node) roll)) (names_another ticket (holder (bound (Node node) roll) (named boards))) (may_bind views node) refl e
+    at (is_over views node) (names ticket (bound (Node node) roll)) (names_another ticket (holder (bound (Node node) roll) (named boards))) (may_bind views node) refl e
   where
     no_yes : {G : Type 0} (r : RollRefusal) → No r ≡ Yes → G
     no_yes r e = absurd cc
 
-    at : (own rival may : Bool) → names ticket (bound (Node node) roll) ≡ own →
-        (cond own (answered Yes) (cond rival (refused (Taken node.0)) (cond may (binds Yes node ticket) (refused (unbindable views node))))).answer ≡ Yes →
-        bound (Node node) (behind roll (cond own (answered Yes) (cond rival (refused (Taken node.0)) (cond may (binds Yes node ticket) (refused (unbindable views node))))).logged) ≡ Some ticket
-    at true rival may p e = named_is ticket (bound (Node node) roll) p
-    at false true may p e = no_yes (Taken node.0) e
-    at false false false p e = no_yes (unbindable views node) e
-    at false false true p e = bound_same (record { actor = Node node; ticket = ticket }) roll
+    at : (over own rival may : Bool) → names ticket (bound (Node node) roll) ≡ own →
+        (cond over (refused (Taken node.0)) (cond own (answered Yes) (cond rival (refused (Taken node.0)) (cond may (binds Yes node ticket) (refused (unbindable views node)))))).answer ≡ Yes →
+        bound (Node node) (behind roll (cond over (refused (Taken node.0)) (cond own (answered Yes) (cond rival (refused (Taken node.0)) (cond may (binds Yes node ticket) (refused (unbindable views node)))))).logged) ≡ Some ticket
+    at true own rival may p e = no_yes (Taken node.0) e
+    at false true rival may p e = named_is ticket (bound (Node node) roll) p
+    at false false true may p e = no_yes (Taken node.0) e
+    at false false false false p e = no_yes (unbindable views node) e
+    at false false false true p e = bound_same (record { actor = Node node; ticket = ticket }) roll
 
 -- ---- SEAT
 

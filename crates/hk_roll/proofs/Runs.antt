@@ -39,4 +39,4 @@ changes = record {
 }
 
 pub unbound : OldNumbersStayUnbound
-unbound = record { past = refl; member = refl; midway = refl }
+unbound = record { past = refl; member = refl; midway = refl; passed_over = refl; half_over = refl }

@@ -23,6 +23,10 @@ may_bind views node = are_new views node || have_member views node
 abbrev pub is_past : List View → NodeId → Bool
 is_past views node = list_any (λ v. not (is_new node v) && not (is_member node v.members)) views
 
+-- All shards have given the number or passed it over, and its node is a member of none: it never is one again.
+abbrev pub is_over : List View → NodeId → Bool
+is_over views node = list_all (λ v. not (is_new node v) && not (is_member node v.members)) views
+
 -- at most 16 are members
 abbrev pub have_room : List View → Bool
 have_room views = list_all (λ v. nat_lt (length v.members) 16) views

@@ -12,7 +12,7 @@ use Rattle.hk_roll.specs.declared.answer.RollStep.{RollStep}
 use Rattle.hk_roll.specs.declared.steps.Seating.{Seating}
 use Rattle.hk_roll.specs.Rolls.{Entries, bound}
 use Rattle.hk_roll.specs.Boards.{names, named}
-use Rattle.hk_roll.specs.Numbers.{may_bind, is_past, have_room, next_number}
+use Rattle.hk_roll.specs.Numbers.{may_bind, is_past, is_over, have_room, next_number}
 
 abbrev pub refusal_code : RollRefusal → ℕ
 refusal_code (Taken number) = 7
@@ -45,12 +45,14 @@ names_another ticket told = is_some told && not (names ticket told)
 abbrev pub unbindable : List View → NodeId → RollRefusal
 unbindable views node = if is_past views node then Taken node.0 else Wait
 
--- Yes where the number is bound to the asker; taken where another holds it; else it is bound to the asker, where it may be bound.
+-- Taken where no shard has or will have the number, whoever asks; yes where it is bound to the asker; taken where another holds it; else it is bound to the
+-- asker, where it may be bound.
 abbrev pub claimed : Entries → List View → List (Option Ticket) → NodeId → Ticket → RollStep
 claimed roll views told node ticket =
+    if is_over views node then refused (Taken node.0) else (
     if names ticket (bound (Node node) roll) then answered Yes else (
     if names_another ticket (holder (bound (Node node) roll) (named told)) then refused (Taken node.0) else (
-    if may_bind views node then binds Yes node ticket else refused (unbindable views node)))
+    if may_bind views node then binds Yes node ticket else refused (unbindable views node))))
 
 -- ---- SEAT
 

@@ -80,8 +80,11 @@ pub record MinorityChanges : Type 0 where
   pub other : (claimed ((last founded at_once).roll 2) views no_boards (node 3) b).answer ≡ No (Taken 3)
   pub behind : bound (Node (node 3)) ((last (last founded at_once) changing).roll 1) ≡ Some a
 
--- ---- A number that a shard gave before, and whose node is out, is never bound again; one that is given in some shards alone is waited for.
+-- ---- A number that a shard gave before, and whose node is out, is never bound again; one that is given in some shards alone is waited for. Who had a number that
+-- all shards have passed over has it no more, though it stays bound to it.
 pub record OldNumbersStayUnbound : Type 0 where
   pub past : (claimed (given.roll 2) (in_all (node 0 ∷ node 1 ∷ node 2 ∷ []) 4) no_boards (node 3) a).answer ≡ No (Taken 3)
   pub member : (claimed (given.roll 2) with_3 no_boards (node 3) a).answer ≡ Yes
   pub midway : (claimed (given.roll 2) (record { epoch = 2; members = node 0 ∷ node 3 ∷ []; next = 4 } ∷ views) no_boards (node 3) a).answer ≡ No Wait
+  pub passed_over : (claimed (given.roll 0) (in_all (node 0 ∷ node 1 ∷ node 2 ∷ []) 4) no_boards (node 3) a).answer ≡ No (Taken 3)
+  pub half_over : (claimed (given.roll 0) (record { epoch = 2; members = node 0 ∷ node 1 ∷ []; next = 4 } ∷ views) no_boards (node 3) a).answer ≡ Yes

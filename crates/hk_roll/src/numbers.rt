@@ -1,7 +1,7 @@
 //! Which numbers the views of the shards leave to be bound.
 
 ghost use Rattle.std.specs.Prelude.{◌≡◌};
-ghost use Rattle.hk_roll.specs.Numbers.{is_new, are_new, have_member, may_bind, is_past, have_room, are_level, next_number};
+ghost use Rattle.hk_roll.specs.Numbers.{is_new, are_new, have_member, may_bind, is_past, is_over, have_room, are_level, next_number};
 
 use hk_base::{NodeId, View};
 
@@ -37,6 +37,15 @@ pub(crate) fn is_past(views: &[View], node: NodeId) -> bool
     views
         .iter()
         .any(|view| !is_new(view, node) && !view.has_member(node))
+}
+
+// Whether no shard has the number, and none will.
+pub(crate) fn is_over(views: &[View], node: NodeId) -> bool
+    ensures { result ≡ is_over views.now node }
+{
+    views
+        .iter()
+        .all(|view| !is_new(view, node) && !view.has_member(node))
 }
 
 // Whether one more member is allowed.

@@ -6,7 +6,7 @@ ghost use Rattle.hk_roll.specs.Steps.{answered, refused, binds, holder, names_an
 use crate::answer::{RollAnswer, RollRefusal, RollStep};
 use crate::binding::Binding;
 use crate::boards::{named, names};
-use crate::numbers::{have_room, is_past, may_bind, next_number};
+use crate::numbers::{have_room, is_over, is_past, may_bind, next_number};
 use crate::roll::Roll;
 use hk_base::{Actor, NodeId, View};
 use hk_fields::Ticket;
@@ -125,9 +125,9 @@ impl Roll {
     /// CLAIM: a process tells that this number is its own. `views` are those of the eight shards that this manager holds, and `told` is what the last board of
     /// each manager told of the number, by their places: the ticket to which it is bound there, or nothing, also where no board came.
     ///
-    /// YES comes where the number is bound to the process already, and where nobody else holds it and it may be bound. It is taken where a majority's boards name
-    /// another ticket, where this manager has bound it to another one and no majority names the asker's, and where its node is out of a view; else, while some
-    /// shards alone have given it, the process has to wait.
+    /// It is taken, whoever asks, where the views of all shards are past it and none has its node. Else YES comes where the number is bound to the process
+    /// already, and where nobody else holds it and it may be bound. It is taken where a majority's boards name another ticket, where this manager has bound it to
+    /// another one and no majority names the asker's, and where its node is out of a view; else, while some shards alone have given it, the process has to wait.
     pub fn claim(
         &self,
         views: &[View],
@@ -137,6 +137,9 @@ impl Roll {
     ) -> RollStep
         ensures { result ≡ claimed self.now views.now told.now node ticket }
     {
+        if is_over(views, node) {
+            return refused(RollRefusal::Taken(node.0));
+        }
         let own = self.bound(Actor::Node(node));
         if names(ticket, own) {
             return answered(RollAnswer::Yes);
