@@ -1,5 +1,5 @@
 -- What a process knows of actors: who is at this process, to whose process an actor belongs, and where it is reached.
-use Rattle.std.specs.Prelude.{◌≡◌, ⊤, ℕ, Bool, true, false, not, ◌==◌, if◌then◌else◌, List, slice_get, replicate, Option, None, Some, is_some}
+use Rattle.std.specs.Prelude.{◌≡◌, ⊤, ℕ, Bool, true, false, not, ◌==◌, if◌then◌else◌, List, [], slice_get, replicate, Option, None, Some, is_some}
 use Rattle.std.specs.Option.{option_flatten}
 use Rattle.hk_base.specs.declared.letter.Actor.{Actor}
 use Rattle.hk_base.specs.declared.letter.Actor.TheVariants.{Node, Manager}
@@ -13,6 +13,7 @@ use Rattle.hk_hello.specs.declared.hello.Purpose.TheVariants.{Letters, Requests}
 use Rattle.hk_hello.specs.declared.judging.LookedUp.{LookedUp}
 use Rattle.hk_hosts.specs.declared.address.Address.{Address}
 use Rattle.hk_hosts.specs.Addresses.{IsTextOf}
+use Rattle.hk_inside.specs.declared.report.Counts.{Counts}
 use Rattle.hk_inside.specs.declared.report.NodeState.TheVariants.{Waiting}
 use Rattle.hk_roll.specs.Boards.{same_ticket}
 use Rattle.hk_boards.specs.Holders.{holder, address_of}
@@ -25,16 +26,26 @@ use Rattle.hk_host_words.specs.declared.words.TheConstants.{INSIDE_PORT}
 abbrev pub none_seen : ShardsSeen
 none_seen = record { ready = 0; least_epoch = 0; lease_end = 0 }
 
+-- nothing was counted
+abbrev pub none_counted : Counts
+none_counted = record { keys = 0; bytes = 0; gets = 0; sets = 0; busy = 0; aborted = 0; unknown = 0 }
+
 -- nothing was heard yet, in a group with so many managers
 pub record IsNew (managers : ℕ) (s : Standing) : Type 0 where
   pub founding : s.founding ≡ 0
   pub manager : s.manager ≡ None
   pub roll : s.managers ≡ replicate 9 None
+  pub founder : s.is_founder ≡ false
   pub records : s.records ≡ 0
   pub whole : s.lost_tail ≡ None
+  pub given : s.given ≡ None
+  pub refusals : s.refusals ≡ replicate 9 false
   pub node : s.node ≡ None
   pub state : s.state ≡ Waiting
+  pub leaving : s.leaving ≡ None
   pub shards : s.shards ≡ none_seen
+  pub counts : s.counts ≡ none_counted
+  pub asks : s.asks ≡ []
   pub boards : s.boards ≡ replicate managers None
 
 -- ---- who is at this process
@@ -66,7 +77,7 @@ is_here s i purpose parties.Neither = false
 -- ---- to whose process an actor belongs
 
 -- The ticket to which an actor is bound. A manager is bound by the roll of this process's own manager, which begins as
--- that opens; a node by the last boards of a majority of the managers.
+-- that opens, or, before it is open, by the last boards of a majority of the managers; a node by those boards.
 abbrev pub bound : Standing → Actor → Option Ticket
 bound s (Manager place) = option_flatten (slice_get s.managers place)
 bound s (Node node) = holder s.founding node s.boards

@@ -14,6 +14,7 @@ use hk_hello::{Hello, LookedUp, Ours};
 use hk_hosts::Address;
 use hk_link::Outlet;
 use std::alloc::Global;
+use std::sync::atomic::{AtomicBool, Ordering};
 use std::sync::{Arc, Mutex, Wait};
 
 /// What the threads of a process share.
@@ -30,6 +31,10 @@ pub struct House<R: Wait + Drop, C: Drop> {
     pub manager: Mutex<Option<Outlet>>,
     /// What comes to the loop of its manager.
     pub inbox: Inbox,
+    /// Whether the process is to end, since its node was left out.
+    pub is_out: AtomicBool,
+    /// Whether its node is leaving the group.
+    pub is_leaving: AtomicBool,
 }
 
 impl<R: Wait + Drop, C: Drop> House<R, C> {
@@ -74,6 +79,43 @@ impl<R: Wait + Drop, C: Drop> House<R, C> {
             Some(outlet) => outlet.split().ok(),
             None => None,
         }
+    }
+
+    /// Whether the process is to end.
+    pub fn is_out(&self) -> bool {
+        self.is_out.load(Ordering::SeqCst)
+    }
+
+    /// Looks whether the process is to end: a majority of the managers left its node out, or is open with another founding. It is to end from then on.
+    pub fn look_out(&self) -> bool {
+        if self.is_left_out() {
+            self.is_out.store(true, Ordering::SeqCst);
+        }
+        self.is_out()
+    }
+
+    fn is_left_out(&self) -> bool {
+        let guard = self.standing.lock(&self.rt);
+        let standing = &*guard;
+        standing.is_left_out(&self.identity)
+    }
+
+    /// Whether its node leaves the group: it serves no clients, and asks for no lease.
+    pub fn is_leaving(&self) -> bool {
+        self.is_leaving.load(Ordering::SeqCst)
+    }
+
+    /// Notes, at this reading, whether its node leaves the group from now on, or stays after all.
+    pub fn look_leaving(&self, now: u64) {
+        let leaves = self.note_leaving(now);
+        self.is_leaving.store(leaves, Ordering::SeqCst);
+    }
+
+    fn note_leaving(&self, now: u64) -> bool {
+        let mut guard = self.standing.lock(&self.rt);
+        let standing = &mut *guard;
+        standing.note_leaving(&self.identity, now);
+        standing.leaving.is_some()
     }
 
     /// What an acceptor of this process is of.

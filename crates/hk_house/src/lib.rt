@@ -6,14 +6,20 @@
 //! to its manager go in (under another one) and what waits for the manager's loop ([`Inbox`]).
 //!
 //! Whom the process knows: itself, since its manager takes requests at every stage and letters once it is open, and its
-//! node takes letters once it has a number; managers by the roll of its own manager, once that is open; nodes by what the
-//! last boards of a majority of the managers bind. A hello is judged by that ([`House`] is the `LookUp` of greetings).
+//! node takes letters once it has a number; managers by the roll of its own manager, once that is open, else by what the
+//! last boards of a majority of the managers bind; nodes by these boards. A hello is judged by that ([`House`] is the `LookUp` of greetings).
+//!
+//! A process that is no founder of its group asks for a number until the boards of a majority bind one to it ([`Standing::asks_of`], [`Standing::held`]). It is to
+//! end where a majority left its node out, or is open with another founding ([`House::look_out`]). Where the boards of a majority tell that its node is to leave
+//! it leaves first: it serves no clients and asks for no lease ([`House::is_leaving`]).
 //!
 //! What is proved. An identity is exactly what words, a secret and a ticket tell, or it is told that no process may be so
 //! (`specs/Identities.antt`). Its type keeps that the group has a name, that it has 1 to 9 hosts, that this host is one of
 //! them if it has a manager, and that its addresses stand in a message: so each hello of it is in range, and is exactly
 //! the one that was asked for. What a standing tells of actors is that of the definitions in `specs/Standings.antt`,
-//! exactly: own tickets, what a hello is judged by, addresses. Behind the lock it is that of some standing, as another
+//! exactly: own tickets, what a hello is judged by, addresses. What a process asks managers for its number, what becomes
+//! of their answers and boards, which number it holds, and when it is to end, is that of `specs/Seeking.antt`, exactly; when its node leaves, and when it stays after
+//! all, that of `specs/Leaving.antt`. Behind the lock it is that of some standing, as another
 //! thread may change it at any moment. At most 1,024 wait in an inbox, in their order. A refusal is to be told
 //! exactly where for a lease nothing but refusals came, and none was told within a minute (`specs/Notices.antt`).
 //!
@@ -21,15 +27,18 @@
 //!
 //! No clause says which standing stood behind the lock at a moment, that what was put into an inbox is taken, that who
 //! waits at a [`Slot`] is woken, or that the answer there is the one to its inquiry: each inquiry has a slot of its own,
-//! to which nothing else leads. Nor does one say that a line for the operator was written.
+//! to which nothing else leads. Nor does one say that a line for the operator was written, or that a process which was left
+//! out ends: [`House::look_out`] tells that to whoever asks.
 #![tactic(auto)]
 
 mod house;
 mod identity;
 mod inbox;
+mod leaving;
 mod making;
 mod notices;
 mod resting;
+mod seeking;
 mod standing;
 mod terms;
 
@@ -37,6 +46,6 @@ pub use house::House;
 pub use identity::Identity;
 pub use inbox::{Coming, Inbox, Slot};
 pub use making::{IdentityFault, digest_of};
-pub use notices::{Told, tell_log_ended, tell_open, tell_ready, tell_refused};
+pub use notices::{Told, tell_leaving, tell_log_ended, tell_open, tell_ready, tell_refused};
 pub use resting::rest;
 pub use standing::{LostTail, ShardsSeen, Standing, copy_of};

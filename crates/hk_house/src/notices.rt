@@ -99,6 +99,11 @@ pub fn tell_open<R: Eprint>(rt: &R, founding: u64) {
     let _ = eprintln!(rt; "hermes: the group of founding {founding:016x} is open");
 }
 
+/// The node leaves the group, and serves no clients any more.
+pub fn tell_leaving<R: Eprint>(rt: &R, node: u16) {
+    let _ = eprintln!(rt; "hermes: node {node} leaves");
+}
+
 /// The node serves clients.
 pub fn tell_ready<R: Eprint>(rt: &R, node: u16) {
     let _ = eprintln!(rt; "hermes: node {node} is ready");

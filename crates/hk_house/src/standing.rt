@@ -1,7 +1,7 @@
 //! What a process has come to know of its group.
 
 ghost use Rattle.std.specs.Prelude.{◌≡◌, ◌≤◌, IfOk, IfSome};
-ghost use Rattle.hk_house.specs.Standings.{none_seen, IsNew, is_place, is_number, own_ticket, takes, is_here, bound, bound_party, is_another, look_up, IsReached, IsNodeReached};
+ghost use Rattle.hk_house.specs.Standings.{none_seen, none_counted, IsNew, is_place, is_number, own_ticket, takes, is_here, bound, bound_party, is_another, look_up, IsReached, IsNodeReached};
 
 use crate::identity::Identity;
 use hk_base::{Actor, Memory, NodeId, Sequence};
@@ -10,7 +10,7 @@ use hk_fields::Ticket;
 use hk_hello::{Hello, LookedUp, Party, Purpose};
 use hk_host_words::INSIDE_PORT;
 use hk_hosts::{Address, read_address};
-use hk_inside::NodeState;
+use hk_inside::{Counts, NodeState, NodesSeen};
 use std::alloc::Global;
 use thiserror::Error;
 
@@ -50,30 +50,57 @@ impl ShardsSeen {
     }
 }
 
+// What is counted before there is a node.
+fn none_counted() -> Counts
+    ensures { result ≡ none_counted }
+{
+    Counts {
+        keys: 0,
+        bytes: 0,
+        gets: 0,
+        sets: 0,
+        busy: 0,
+        aborted: 0,
+        unknown: 0,
+    }
+}
+
 /// How the process stands in its group.
 #[derive(Drop)]
 pub struct Standing {
-    /// The number of its founding, 0 unless its manager is open.
+    /// The number of its founding: that of its manager, once this is open, else that with which a majority is open; 0 before.
     pub founding: u64,
     /// The ticket of its manager, if that is open.
     pub manager: Option<Ticket>,
-    /// To which tickets its manager binds managers, by their places. It binds none before it is open.
+    /// To which tickets its manager binds managers, by their places; where it is not open, to which a majority's boards bind them.
     pub managers: [Option<Ticket>; 9],
+    /// Whether its manager binds the number of its place to this process: then its node is a founder.
+    pub is_founder: bool,
     /// How many records the log of its manager has.
     pub records: u64,
     /// What shows that this log lost records, if anything does.
     pub lost_tail: Option<LostTail>,
-    /// The number of its node, if it has one.
+    /// The number that a manager gave it, which it claims at the others.
+    pub given: Option<NodeId>,
+    /// By the managers' places, which of them refused that.
+    pub refusals: [bool; 9],
+    /// The number of its node, once the node is made.
     pub node: Option<NodeId>,
     /// How its node stands.
     pub state: NodeState,
+    /// The reading at which its node began to leave, as long as it leaves.
+    pub leaving: Option<u64>,
     /// How the shards of its node stand.
     pub shards: ShardsSeen,
+    /// What its node holds, and what it has told.
+    pub counts: Counts,
+    /// When nodes asked its manager for leases last.
+    pub asks: NodesSeen,
     /// What the managers told last.
     pub boards: Boards,
 }
 
-fn is_place(place: u8, own: Option<u8>) -> bool
+pub(crate) fn is_place(place: u8, own: Option<u8>) -> bool
     ensures { result ≡ is_place place own }
 {
     match own {
@@ -111,11 +138,17 @@ impl Standing {
             founding: 0,
             manager: None,
             managers: [None; 9],
+            is_founder: false,
             records: 0,
             lost_tail: None,
+            given: None,
+            refusals: [false; 9],
             node: None,
             state: NodeState::Waiting,
+            leaving: None,
             shards: ShardsSeen::none(),
+            counts: none_counted(),
+            asks: Sequence::new(alloc),
             boards: Boards::new(alloc, managers)?,
         })
     }

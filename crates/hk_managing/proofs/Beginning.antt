@@ -14,14 +14,13 @@ use Rattle.hk_manager.specs.Manager.{ManagerState}
 use Rattle.hk_durable.specs.Replays.{taken_up}
 use Rattle.hk_roll.specs.declared.binding.Binding.{Binding}
 use Rattle.hk_roll.specs.Rolls.{Entries, with_bound, replayed}
-use Rattle.hk_stage.specs.declared.stage.Stage.{Stage}
 use Rattle.hk_stage.specs.declared.stage.Stage.TheVariants as stages
 use Rattle.hk_restore.specs.declared.fault.RestoreFault.{RestoreFault}
 use Rattle.hk_restore.specs.declared.fault.RestoreFault.TheVariants.{DoesNotReplay, OfHost, OtherTerms}
 use Rattle.hk_restore.specs.declared.group.Terms.{Terms}
 use Rattle.hk_restore.specs.declared.group.RestoredGroup.{RestoredGroup}
 use Rattle.hk_restore.specs.declared.group.Restored.{Restored}
-use Rattle.hk_restore.specs.Restoring.{SoFar, is_of_host, has_terms, founding_fault, begun, unless, with_managers, stepped, behind_entry, behind_entries, behind_records, up_to_fault, returns, with_untils, restored_with, restored}
+use Rattle.hk_restore.specs.Restoring.{SoFar, is_of_host, has_terms, founding_fault, begun, unless, with_managers, stepped, behind_entry, behind_entries, behind_records, up_to_fault, with_untils, restored_with, restored}
 use Rattle.hk_restore.specs.Laws.{entries_of}
 use Rattle.hk_restore.proofs.Returning.{starts_long}
 use Rattle.hk_office.specs.Founding.{roll_of}

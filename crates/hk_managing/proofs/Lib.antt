@@ -1,2 +1,4 @@
 mod Telling
 mod Beginning
+mod Passing
+mod Staying

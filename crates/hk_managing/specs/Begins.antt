@@ -1,5 +1,5 @@
 -- With what a host's manager begins, by its log.
-use Rattle.std.specs.Prelude.{◌≡◌, ⊤, ℕ, List, [], replicate, slice_get, false, true, if◌then◌else◌, Option, None, Some, Result, Ok, Err}
+use Rattle.std.specs.Prelude.{◌≡◌, ⊤, ℕ, List, [], replicate, slice_get, false, if◌then◌else◌, Option, None, Some, Result, Ok, Err}
 use Rattle.hk_base.specs.declared.view.View.{View}
 use Rattle.hk_fields.specs.declared.hosts.HostTickets.{HostTickets}
 use Rattle.hk_log.specs.declared.entry.Founding.{Founding}

@@ -1,2 +1,5 @@
 pub mod Begins
 pub mod Turns
+pub mod Relaying
+pub mod Intending
+pub mod Standing

@@ -1,11 +1,9 @@
 -- What a turn of a manager gathers, and what of that its log takes.
-use Rattle.std.specs.Prelude.{◌≡◌, ℕ, List, [], ◌∷◌, ◌++◌, map, take, replicate}
+use Rattle.std.specs.Prelude.{◌≡◌, List, [], ◌∷◌, ◌++◌, map, take}
 use Rattle.hk_base.specs.declared.view.View.{View}
 use Rattle.hk_log.specs.declared.entry.Entry.{Entry}
 use Rattle.hk_stage.specs.declared.stage.Stage.TheVariants.{Empty}
 use Rattle.hk_durable.specs.Batches.{BatchState}
-use Rattle.hk_durable.specs.declared.batch.Intent.{Intent}
-use Rattle.hk_durable.specs.declared.batch.Intent.TheVariants.{Nothing}
 use Rattle.hk_manager.specs.Manager.{ManagerState}
 use Rattle.hk_office.specs.declared.office.Office.{Office}
 use Rattle.hk_office.specs.Laws.{Logged, with_entries, logged_of}
@@ -31,10 +29,6 @@ StayTold before had after has = (l : Logged) → with_entries l had ≡ logged_o
 abbrev pub all_noted : BatchState → List Entry → BatchState
 all_noted b [] = b
 all_noted b (n ∷ notes) = all_noted (record b { entries = b.entries ++ n ∷ [] }) notes
-
--- the cores wish nothing of themselves
-abbrev pub no_intents : List Intent
-no_intents = replicate 8 Nothing
 
 -- the views that eight cores hold, by their shards
 abbrev pub views_held : List ManagerState → List View

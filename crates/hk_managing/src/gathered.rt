@@ -9,7 +9,7 @@ use crate::cores::{Cores, Unlogged};
 use hk_base::{Memory, Sequence, View};
 use hk_boards::HeardBoard;
 use hk_disk::LogFile;
-use hk_durable::LateClock;
+use hk_durable::{Intent, LateClock};
 use hk_fields::Ticket;
 use hk_house::Slot;
 use hk_inside::{Inquiry, Response};
@@ -166,16 +166,17 @@ impl Gathered {
         self.note(logged)
     }
 
-    /// The log takes what was noted, and the cores make a turn behind that. Only where it is sure are there answers to leave.
+    /// The log takes what was noted, and the cores make a turn behind that, with what is intended. Only where it is sure are there answers to leave.
     pub fn sure<F: LogFile + Drop, C: LateClock, R: Wait>(
         self,
         rt: &R,
         alloc: Global,
         clock: &C,
         cores: &mut Cores<F>,
+        intents: &[Intent; 8],
     ) -> Result<Replies, Unlogged> {
         let Gathered { notes, replies } = self;
-        let records = cores.log(rt, alloc, clock, notes)?;
+        let records = cores.log(rt, alloc, clock, notes, intents)?;
         Ok(Replies { replies, records })
     }
 }

@@ -16,6 +16,11 @@
 //! but binds no number. Where a manager was told of more records than the log has, this manager never acts, and
 //! [`hk_house::Standing`] tells whoever ends the process.
 //!
+//! Letters come to the cores by a [`Relay`]: of each ask for a lease it notes who asks, and of which view. At each beat,
+//! once a majority of the managers has answered for long enough, the office is asked what it wishes, by what was noted and
+//! reported so far; the cores propose that, or let a view begin, in the same turn, behind the letters that came. Which views
+//! were let begin the office learns behind the turn. How long ago nodes asked goes into the next reports.
+//!
 //! Where the log can't be written, or memory is wanting for what the office did, nothing of this manager is told any more:
 //! it is stopped for good ([`Cores::Ended`]), and its process goes on with its node. An inquiry for which memory is wanting
 //! before the office did anything is not answered. Who asks then asks again.
@@ -25,14 +30,19 @@
 //!
 //! What is proved. [`begin_by`] gives just what the log's records give (`IsBegun`, of `hk_restore`'s `restored`), or just
 //! its fault, or memory was wanting. [`begin_manager`] gives that of records which the file has and which are sure, and the
-//! office is the one of which they tell (`Begins`). No step of the office in a turn is without its note: what told the
-//! office before it, with what was gathered, tells the office behind it (`StayTold`). What the log of a group that is not
+//! office is the one of which they tell (`Begins`). No step that the office makes of what came is without its note: what
+//! told the office before it, with what was gathered, tells the office behind it (`StayTold`). What the log of a group that is not
 //! open takes is these notes, as one record; what that of an open one takes is a turn of `hk_durable`, of which they are
-//! the front (`IsTurn` behind `all_noted`), and its letters go behind the record.
+//! the front (`IsTurn` behind `all_noted`), and its letters go behind the record. A relay puts what it took, in that order,
+//! but a last parcel for which its link had no room, and notes just the asks among that (`NotesAll`); where memory was
+//! wanting for the last one's ask, those before it (`NotesFront`). What is intended is made of wishes as `intents_of` has it,
+//! and which views are told as begun is that of `begun_below`, by the managers as they stand behind the turn. What others of
+//! the process learn of the manager is that of `stands`.
 //!
 //! What no clause says: which faults of a file are told when; what is left at a slot, and that it is the answer to what
-//! was asked there, which the code does in one place ([`Gathered::ask`]); what others of the process are told
-//! ([`hk_house::Standing`]); when the manager acts; and how many records the log has.
+//! was asked there, which the code does in one place ([`Gathered::ask`]); when others of the process are told
+//! ([`hk_house::Standing`]); when the manager acts, and when it wishes; that the cores took what the relay put; that the step
+//! was made by which a view is told as begun, for which memory may have been wanting; and how many records the log has.
 #![tactic(auto)]
 
 mod begin;
@@ -40,9 +50,12 @@ mod cores;
 mod gathered;
 mod managing;
 mod notes;
+mod relay;
+mod stand;
 
 pub use begin::{BeginFault, Begun, ManagerStart, begin_by, begin_manager};
-pub use cores::{Cores, Unlogged};
+pub use cores::{Cores, NOTHING, Unlogged};
 pub use gathered::{Gathered, Replies, Seen};
 pub use managing::{Behind, ManagerJob};
 pub use notes::{are_notes, is_note};
+pub use relay::Relay;

@@ -1,24 +1,29 @@
 //! The job of a host's manager.
 
-ghost use Rattle.std.specs.Prelude.{◌≡◌, ◌≤◌, [], OnOk, IfOk};
+ghost use Rattle.std.specs.Prelude.{◌≡◌, ◌≤◌, ◌<◌, [], List, OnOk, IfOk};
 ghost use Rattle.hk_base.specs.declared.time.TheConstants.{MAX_TIME};
+ghost use Rattle.hk_log.specs.declared.entry.Entry.{Entry};
 ghost use Rattle.hk_managing.specs.Turns.{StayTold};
+ghost use Rattle.hk_managing.specs.Intending.{intent_of, intent_in, intents_of};
 
 use crate::begin::{Begun, ManagerStart};
-use crate::cores::{Cores, Unlogged};
+use crate::cores::{Cores, NOTHING, Unlogged};
 use crate::gathered::{Gathered, Replies, Seen};
+use crate::relay::Relay;
+use crate::stand::stand;
 use hk_base::{Actor, Body, MAX_TIME, Memory, NodeId, View};
 use hk_boards::{Boards, TicketsTold};
 use hk_disk::LogFile;
-use hk_durable::LateClock;
+use hk_durable::{Intent, LateClock};
 use hk_fields::Ticket;
-use hk_house::{Coming, House, LostTail, Slot, Standing, tell_log_ended, tell_open};
+use hk_house::{Coming, House, LostTail, Slot, tell_log_ended, tell_open};
 use hk_inside::Inquiry;
+use hk_keeper::Wish;
 use hk_lease::wait;
 use hk_link::{Inlet, Parcel};
 use hk_office::{Acting, Office, has_founding_in_range};
 use hk_outside::{Clock, Job};
-use hk_overseer::Outlets;
+use hk_routes::{Follower, Routes};
 use std::io::Eprint;
 use std::sync::atomic::{AtomicU64, Ordering};
 use std::sync::{Arc, Wait};
@@ -26,12 +31,28 @@ use std::sync::{Arc, Wait};
 // So much that waits is taken in one turn.
 const MOST_TAKEN: usize = 64;
 
+// Once a majority of the managers answers, a manager wishes nothing for so many milliseconds and beats. Whoever could not reach its host before has tried again by then: else
+// it would take those who live for gone, of whom it has only not heard yet.
+const FIRST_WISH: u64 = 1_000;
+
+const FIRST_BEATS: u64 = 4;
+
 /// The manager of a host: what it knows, and its cores.
 #[derive(Drop)]
 pub struct ManagerJob<R: Wait + Drop, C: Drop, F: LogFile + Drop> {
     house: Arc<House<R, C>>,
     office: Office,
     cores: Cores<F>,
+    // What comes for the cores.
+    relay: Relay,
+    // The outlets of the cores, as they change.
+    routes: Follower,
+    // The reading at which it looked last at what it heard.
+    looked: u64,
+    // The reading since which a majority of the managers answers, if it does.
+    answered_since: Option<u64>,
+    // By shards the epoch of the last view that it let begin, 0 where it let none.
+    begun: [u64; 8],
     // How many records its log has.
     records: u64,
     // The process's clock, as the cores read it.
@@ -119,31 +140,65 @@ fn tail_lost(boards: &Boards, records: u64) -> Option<LostTail> {
     })
 }
 
-// Others of this process learn how its manager stands. Before its group is open nothing is told of that.
-fn stand(standing: &mut Standing, office: &Office, place: Option<u8>, records: u64) {
-    standing.records = records;
-    if !office.takes_letters() {
-        return;
+// What is intended where this is wished of a view, and the last view that this manager let begin has the epoch `begun`. One that only others let begin it does too: whoever
+// is left out learns of it from a majority of those that did.
+fn intent_of(view: &View, wish: Wish, begun: u64) -> Intent
+    ensures { result ≡ intent_of view.now wish begun }
+{
+    match wish {
+        Wish::Nothing => {
+            if begun < view.epoch {
+                Intent::Activate
+            } else {
+                Intent::Nothing
+            }
+        }
+        Wish::Propose(proposal) => Intent::Propose {
+            base: view.epoch,
+            change: proposal.change,
+        },
+        Wish::Activate => Intent::Activate,
     }
-    standing.founding = office.founding();
-    for at in 0..9 {
-        standing.managers[usize::from(at)] = office.roll().bound(Actor::Manager(at));
+}
+
+// What is intended in a shard.
+fn intent_in(views: &[View], wishes: &[Wish; 8], begun: &[u64; 8], shard: usize) -> Intent
+    requires { shard < 8 }
+    ensures { result ≡ intent_in views.now wishes.now begun.now shard }
+{
+    match views.get(shard) {
+        Some(view) => intent_of(view, wishes[shard], begun[shard]),
+        None => Intent::Nothing,
     }
-    standing.manager = match place {
-        Some(place) => office.roll().bound(Actor::Manager(place)),
-        None => None,
-    };
+}
+
+fn intents_of(views: &[View], wishes: &[Wish; 8], begun: &[u64; 8]) -> [Intent; 8]
+    ensures { result ≡ intents_of views.now wishes.now begun.now }
+{
+    [
+        intent_in(views, wishes, begun, 0),
+        intent_in(views, wishes, begun, 1),
+        intent_in(views, wishes, begun, 2),
+        intent_in(views, wishes, begun, 3),
+        intent_in(views, wishes, begun, 4),
+        intent_in(views, wishes, begun, 5),
+        intent_in(views, wishes, begun, 6),
+        intent_in(views, wishes, begun, 7),
+    ]
 }
 
 impl<R: Wait + Eprint + Drop, C: Clock + Drop, F: LogFile + Drop> ManagerJob<R, C, F> {
-    /// The job of the manager that begins so, whose letters come by the inlet and go by the outlets. `clock` is the clock of the house.
+    /// The job of the manager that begins so, whose letters come by the inlet and go by the routes. `clock` is the clock of the house.
     pub fn new(
         house: Arc<House<R, C>>,
         start: ManagerStart<F>,
         inlet: Inlet,
-        outlets: Outlets,
+        routes: &Arc<Routes>,
         clock: Arc<C>,
-    ) -> ManagerJob<R, C, F> {
+    ) -> Result<ManagerJob<R, C, F>, Memory> {
+        let alloc = house.alloc;
+        let (routes, outlets) = Follower::begin(&house.rt, alloc, routes)?;
+        let (relay, inlet) = Relay::new(alloc, inlet)?;
         let ManagerStart { begun, writer } = start;
         let Begun {
             office,
@@ -155,13 +210,18 @@ impl<R: Wait + Eprint + Drop, C: Clock + Drop, F: LogFile + Drop> ManagerJob<R, 
             house,
             office,
             cores,
+            relay,
+            routes,
+            looked: 0,
+            answered_since: None,
+            begun: [0; 8],
             records,
             behind: Behind::new(clock),
             open_since: None,
             acts_since: None,
         };
         job.publish();
-        job
+        Ok(job)
     }
 
     fn now(&self) -> u64
@@ -290,13 +350,18 @@ impl<R: Wait + Eprint + Drop, C: Clock + Drop, F: LogFile + Drop> ManagerJob<R, 
         Ok(gathered)
     }
 
-    // The log takes what was gathered, and the cores make a turn.
-    fn make_sure(&mut self, gathered: Gathered) -> Result<Replies, Unlogged> {
+    // The log takes what was gathered, and the cores make a turn, with what is intended.
+    fn make_sure(
+        &mut self,
+        gathered: Gathered,
+        intents: &[Intent; 8],
+    ) -> Result<Replies, Unlogged> {
         let replies = gathered.sure(
             &self.house.rt,
             self.house.alloc,
             &self.behind,
             &mut self.cores,
+            intents,
         )?;
         self.records = self.records.saturating_add(replies.records());
         Ok(replies)
@@ -310,11 +375,19 @@ impl<R: Wait + Eprint + Drop, C: Clock + Drop, F: LogFile + Drop> ManagerJob<R, 
             standing,
             &self.office,
             self.house.identity.place,
+            self.house.identity.ticket,
             self.records,
         );
         if self.open_since.is_none() && self.office.takes_letters() {
             self.open_since = Some(self.house.clock.now());
         }
+    }
+
+    // Others of this process learn that it has no manager any more: its reports tell of none, and no letter is taken for one.
+    fn withdraw(&self) {
+        let mut guard = self.house.standing.lock(&self.house.rt);
+        let standing = &mut *guard;
+        standing.manager = None;
     }
 
     // Whether a majority of the managers answered, this one counted, what was asked behind a reading, and none was told of more records than its log has.
@@ -347,18 +420,122 @@ impl<R: Wait + Eprint + Drop, C: Clock + Drop, F: LogFile + Drop> ManagerJob<R, 
         standing.lost_tail.is_some()
     }
 
-    // One turn: what came is gathered, then it is made sure, and only then is anything of it told. After an error nothing is told any more.
-    fn turn(&mut self) -> Result<(), Unlogged> {
+    // From now on letters of the cores go by the routes as they are now.
+    fn follow_routes(&mut self)
+        ensures { self.new.office ≡ self.old.office }
+    {
+        if let Some(outlets) = self.routes.renewed(&self.house.rt, self.house.alloc) {
+            self.cores.lead(outlets);
+        }
+    }
+
+    // Letters pass on to the cores, whose own go by the routes as they are now. It gives whether more may wait.
+    fn pass_letters(&mut self) -> bool
+        ensures { (notes : List Entry) → StayTold self.old.office notes self.new.office notes }
+    {
+        if self.cores.is_shut() {
+            return false;
+        }
+        self.follow_routes();
+        let now = self.now();
+        self.relay
+            .pass(&self.house.rt, &mut self.office, now)
+            .unwrap_or(true)
+    }
+
+    // Whether it is time to look at what it heard: once each beat, and only where it acts.
+    fn is_to_look(&self, now: u64) -> bool {
+        self.acts_since.is_some() && now.saturating_sub(self.looked) >= self.house.identity.beat()
+    }
+
+    // Notes since when a majority of the managers answers, each within half a lease.
+    fn note_answers(&mut self, now: u64)
+        ensures { self.new.office ≡ self.old.office }
+    {
+        let within = u64::from(self.house.identity.lease) / 2;
+        if !self.is_answered(now.saturating_sub(within)) {
+            self.answered_since = None;
+        } else if self.answered_since.is_none() {
+            self.answered_since = Some(now);
+        }
+    }
+
+    // Whether a majority has answered for long enough that it knows who lives.
+    fn may_wish(&self, now: u64) -> bool {
+        let Some(since) = self.answered_since else {
+            return false;
+        };
+        let beats = self.house.identity.beat().saturating_mul(FIRST_BEATS);
+        now.saturating_sub(since) >= beats.saturating_add(FIRST_WISH)
+    }
+
+    // How long ago nodes asked this manager for leases, for its reports to others.
+    fn tell_asks(&self, now: u64, views: &[View]) {
+        let Ok(seen) = self.office.asks_seen(self.house.alloc, now, views) else {
+            return;
+        };
+        let mut guard = self.house.standing.lock(&self.house.rt);
+        let standing = &mut *guard;
+        standing.asks = seen;
+    }
+
+    // What the cores are to do of themselves in this turn.
+    fn intents(&mut self) -> [Intent; 8]
+        ensures { (notes : List Entry) → StayTold self.old.office notes self.new.office notes }
+    {
+        let now = self.now();
+        if !self.is_to_look(now) {
+            return NOTHING;
+        }
+        self.looked = now;
+        let Ok(views) = self.cores.views(self.house.alloc) else {
+            return NOTHING;
+        };
+        if views.len() != 8 {
+            return NOTHING;
+        }
+        self.tell_asks(now, &views);
+        self.note_answers(now);
+        if !self.may_wish(now) {
+            return NOTHING;
+        }
+        match self.office.intents(self.house.alloc, now, &views) {
+            Ok(wishes) => intents_of(&views, &wishes, &self.begun),
+            Err(_) => NOTHING,
+        }
+    }
+
+    // The office learns which views were let begin. Where memory is wanting it learns that of a later turn.
+    fn note_begun(&mut self, intents: &[Intent; 8])
+        ensures { (notes : List Entry) → StayTold self.old.office notes self.new.office notes }
+    {
+        let alloc = self.house.alloc;
+        let Ok(begun) = self.cores.begun(alloc, intents) else {
+            return;
+        };
+        for (shard, view) in &begun {
+            if *shard < 8 && self.office.note_begun(alloc, *shard, view).is_ok() {
+                self.begun[usize::from(*shard)] = view.epoch;
+            }
+        }
+    }
+
+    // One turn: what came is gathered, then it is made sure, and only then is anything of it told. After an error nothing is told any more. It gives whether more letters may
+    // wait.
+    fn turn(&mut self) -> Result<bool, Unlogged> {
         let was_open = self.office.takes_letters();
         let gathered = self.gather()?;
-        let replies = self.make_sure(gathered)?;
+        let more = self.pass_letters();
+        let intents = self.intents();
+        let replies = self.make_sure(gathered, &intents)?;
+        self.note_begun(&intents);
         if !was_open && self.office.takes_letters() {
             tell_open(&self.house.rt, self.office.founding());
         }
         self.publish();
         self.act();
         replies.leave(&self.house.rt);
-        Ok(())
+        Ok(more)
     }
 }
 
@@ -375,11 +552,15 @@ impl<
             if manager.has_lost_tail() {
                 return;
             }
-            if manager.turn().is_err() {
-                tell_log_ended(&rt);
-                return;
+            match manager.turn() {
+                Ok(true) => {}
+                Ok(false) => manager.house.inbox.bell.wait(&rt, heard),
+                Err(_) => {
+                    manager.withdraw();
+                    tell_log_ended(&rt);
+                    return;
+                }
             }
-            manager.house.inbox.bell.wait(&rt, heard);
         }
     }
 }

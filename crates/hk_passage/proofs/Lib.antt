@@ -1,2 +1,3 @@
 mod Welcomed
 mod Answered
+mod Telling

@@ -1,13 +1,16 @@
 -- What a process reports of itself.
-use Rattle.std.specs.Prelude.{◌≡◌, ℕ, ◌+◌, ◌-◌, ◌^◌, min, nat_lt, if◌then◌else◌, [], Option, None, Some}
+use Rattle.std.specs.Prelude.{◌≡◌, ℕ, ◌+◌, ◌-◌, ◌^◌, min, Bool, true, nat_lt, if◌then◌else◌, List, take, Option, None, Some}
+use Rattle.std.specs.List.{filter}
 use Rattle.hk_base.specs.declared.stamp.NodeId.{NodeId}
 use Rattle.hk_fields.specs.declared.tickets.Ticket.{Ticket}
-use Rattle.hk_inside.specs.declared.report.Counts.{Counts}
+use Rattle.hk_inside.specs.declared.report.NodeSeen.{NodeSeen}
 use Rattle.hk_inside.specs.declared.report.Report.{Report}
 use Rattle.hk_inside.specs.declared.report.ShardsTold.{ShardsTold}
+use Rattle.hk_inside.specs.declared.inquiry.Inquiry.{Inquiry}
 use Rattle.hk_house.specs.declared.identity.Identity.{Identity}
 use Rattle.hk_house.specs.declared.standing.ShardsSeen.{ShardsSeen}
 use Rattle.hk_house.specs.declared.standing.Standing.{Standing}
+use Rattle.hk_house.specs.Seeking.{asks_of}
 
 -- The greatest number says that there is none.
 abbrev pub number_told : Option NodeId → Option NodeId
@@ -31,8 +34,17 @@ shards_told seen skew now = record {
   least_lease_left = lease_left seen.lease_end skew now;
 }
 
-abbrev pub none_counted : Counts
-none_counted = record { keys = 0; bytes = 0; gets = 0; sets = 0; busy = 0; aborted = 0; unknown = 0 }
+-- an age that a report may tell, or none
+abbrev pub is_age : Option ℕ → Bool
+is_age None = true
+is_age (Some age) = nat_lt age 4294967295
+
+abbrev pub fits : NodeSeen → Bool
+fits seen = is_age seen.age_of_ask
+
+-- A report has room for 255 nodes.
+abbrev pub nodes_told : List NodeSeen → List NodeSeen
+nodes_told asks = take 255 (filter fits asks)
 
 -- what a process tells that stands so at this reading
 abbrev pub report_of : Identity → Standing → ℕ → Report
@@ -43,12 +55,16 @@ report_of i s now = record {
   manager = manager_told s.manager i.place;
   records = s.records;
   shards = shards_told s.shards i.skew now;
-  counts = none_counted;
+  counts = s.counts;
   inside = i.inside;
   clients = i.clients;
-  nodes = [];
+  nodes = nodes_told s.asks;
 }
 
 -- it tells how the process stood at some moment of the call
 abbrev pub IsReport : Identity → Report → Type 0
 IsReport i report = (s : Standing) × (now : ℕ) × (report ≡ report_of i s now)
+
+-- what a process asks of the manager of a place, as it stood at some moment of the call
+abbrev pub IsAskedThen : Identity → ℕ → Option Inquiry → Type 0
+IsAskedThen i place asked = (s : Standing) × (now : ℕ) × (asked ≡ asks_of s i place now)

@@ -6,6 +6,7 @@ ghost use Rattle.hk_hello.specs.Hellos.{IsHelloInRange};
 ghost use Rattle.hk_greet.specs.Greeting.{Knocks};
 ghost use Rattle.hk_house.specs.Standings.{IsReachedThen};
 ghost use Rattle.hk_passage.specs.Greeted.{IsOwn, Says};
+ghost use Rattle.hk_passage.specs.Retrying.{at_once};
 ghost use Rattle.hk_passage.specs.Dialled.{Begins};
 
 use crate::retry::Retry;
@@ -87,7 +88,8 @@ fn call_of<R: Wait + Drop, C: Drop>(
 impl Approach {
     /// Nobody was tried yet. The first pause is of so many milliseconds.
     pub fn new(to: Actor, pause: u64) -> Approach
-        ensures { result.to ≡ to }
+        ensures to { result.to ≡ to }
+        ensures retry { result.retry ≡ at_once pause }
     {
         Approach {
             to,

@@ -1,7 +1,8 @@
 //! The connections of a process of a group over hosts with the others.
 //!
 //! A [`Passage`] leads from an actor of this process to another one, and carries its letters; an [`Asker`] asks a manager,
-//! and a [`ReportJob`] does so at each beat and keeps the board that it is told. Both dial where they have no connection,
+//! and a [`ReportJob`] does so at each beat, keeps the board that it is told, and asks for
+//! a number where the process has none, or claims the one that it was given or has where the board lacks it. Both dial where they have no connection,
 //! and greet there as `hk_greet` does, by a hello of this process. [`start_inside`] starts the jobs that take the
 //! connections of others: each of these is greeted, and then its letters are put into the link of the actor that it asked
 //! for, or its requests are answered by this host's manager. What the threads share is `hk_house`'s.
@@ -25,10 +26,12 @@
 //! dialled where there is a connection, nor before it is due, and then the actor once at most, where the house has it
 //! (`Redials`, in `specs/Dialled.antt`). Of a connection that another process made, the letters that were put are those from
 //! one actor to another (`Serves` of `hk_peer`), which the code's one call takes from the hello; of one for requests each
-//! was answered before the next was taken, and nothing else was written (`EndsBehind`, in `specs/Answering.antt`).
+//! was answered before the next was taken, and nothing else was written (`EndsBehind`, in `specs/Answering.antt`). A report tells how
+//! the process stood, and what is asked beside it is what the process had to ask, both at some moment of the call (`IsReport`,
+//! `IsAskedThen`, in `specs/Reporting.antt`). A passage that is aimed anew is as one that was made for that actor (`aim`).
 //!
 //! What no clause says: times; how many connections and unfinished greetings there are, of which a few more may be where
-//! jobs look at the same moment; that a job goes on, what it reports, and that it keeps the board which it is told; that the
+//! jobs look at the same moment; that a job goes on, that it reports, and that it keeps the board and the answer which it is told; that the
 //! answer to a request is the one which the manager left for it. Of a connection that is dropped no clause of a passage
 //! speaks, since nothing is left of it: that letters are sent behind a welcome alone stands in its steps, as `greet` of
 //! `src/approach.rt` has it. Who is ended where a connection begins, or its hello is taken, is exact ([`Callers`]); that ending it
@@ -50,6 +53,6 @@ pub use asking::{AskManager, Asker};
 pub use callers::{CallerWay, Callers};
 pub use entry::NodeEntry;
 pub use inside::{MOST_CALLERS, start_inside};
-pub use passage::Passage;
+pub use passage::{AimedCarrier, Passage};
 pub use reporting::ReportJob;
 pub use retry::Retry;

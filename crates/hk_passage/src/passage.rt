@@ -1,10 +1,11 @@
 //! The way of letters from an actor of this process to another actor.
 
-ghost use Rattle.std.specs.Prelude.{◌≡◌, true, IfSome, None};
+ghost use Rattle.std.specs.Prelude.{◌≡◌, ◌/◌, true, max, IfSome, None};
 ghost use Rattle.std.specs.Arc.{arc_value};
 ghost use Rattle.hk_peer.specs.Parcels.{frames_of};
 ghost use Rattle.hk_passage.specs.Greeted.{IsOwn, SaysForLetters};
 ghost use Rattle.hk_passage.specs.Sending.{Sent, IsWhole, HasWhole};
+ghost use Rattle.hk_passage.specs.Retrying.{at_once};
 ghost use Rattle.hk_passage.specs.Dialled.{Redials};
 
 use crate::approach::{Approach, DIAL_MILLIS, Speaker};
@@ -149,5 +150,27 @@ impl<R: Wait + Eprint + Drop, C: Clock + Drop, D: DialAt + Drop> PromptCarrier
     for Passage<R, C, D> {
     fn forward_now(&mut self, batch: &[Parcel]) -> Prompted {
         send_now(self.house.alloc, &mut self.conn, batch)
+    }
+}
+
+/// Carries parcels to an actor, which may become another one.
+pub trait AimedCarrier: PromptCarrier {
+    /// Leads to this actor from now on. A connection that it had is ended.
+    fn aim(&mut self, to: Actor);
+}
+
+impl<R: Wait + Eprint + Drop, C: Clock + Drop, D: DialAt + Drop> AimedCarrier for Passage<R, C, D> {
+    // It is as if it were made anew.
+    fn aim(&mut self, to: Actor)
+        ensures to { self.new.approach.to ≡ to }
+        ensures retry { self.new.approach.retry ≡ at_once (max ((arc_value self.old.house).identity.lease / 16) 10) }
+        ensures conn { self.new.conn ≡ None }
+        ensures from { self.new.from ≡ self.old.from }
+        ensures house { self.new.house ≡ self.old.house }
+        ensures dialer { self.new.dialer ≡ self.old.dialer }
+    {
+        let pause = self.house.identity.beat();
+        self.approach = Approach::new(to, pause);
+        self.conn = None;
     }
 }

@@ -1,15 +1,17 @@
 //! The job that reports to a manager, and hears its board.
 
 ghost use Rattle.std.specs.Prelude.{◌≡◌, ◌<◌, ◌≤◌, IfSome, IfOk};
+ghost use Rattle.std.specs.List.{filter};
 ghost use Rattle.hk_inside.specs.Parts.{IsReportInRange};
-ghost use Rattle.hk_passage.specs.Reporting.{number_told, manager_told, lease_left, shards_told, none_counted, report_of, IsReport};
+ghost use Rattle.hk_inside.specs.Messages.{IsInquiryInRange};
+ghost use Rattle.hk_passage.specs.Reporting.{number_told, manager_told, lease_left, shards_told, fits, nodes_told, report_of, IsReport, IsAskedThen};
 
 use crate::asking::AskManager;
 use hk_base::{Memory, NodeId, Sequence};
 use hk_boards::HeardBoard;
 use hk_fields::Ticket;
 use hk_house::{Coming, House, Identity, ShardsSeen, Standing, rest};
-use hk_inside::{Board, Counts, Inquiry, Report, Response, ShardsTold};
+use hk_inside::{Board, Inquiry, NodeSeen, NodesSeen, Report, Response, ShardsTold};
 use hk_outside::{Clock, Job};
 use std::alloc::Global;
 use std::sync::{Arc, Wait};
@@ -25,6 +27,12 @@ pub struct ReportJob<R: Wait + Drop, C: Drop, A: Drop> {
 
 // The greatest number says in a report that there is none.
 const NO_NODE: u16 = u16::MAX;
+
+// The greatest number says in a report that a node never asked.
+const NO_AGE: u32 = u32::MAX;
+
+// A report tells of so many nodes at most.
+const MOST_NODES: usize = 255;
 
 // The shards of a node.
 const SHARDS: u8 = 8;
@@ -70,15 +78,31 @@ fn shards_told(seen: ShardsSeen, skew: u32, now: u64) -> ShardsTold
     }
 }
 
-const NONE_COUNTED: Counts = Counts {
-    keys: 0,
-    bytes: 0,
-    gets: 0,
-    sets: 0,
-    busy: 0,
-    aborted: 0,
-    unknown: 0,
-};
+// Whether the age, if there is one, may stand in a report.
+fn fits(seen: &NodeSeen) -> bool
+    ensures { result ≡ fits seen.now }
+{
+    match seen.age_of_ask {
+        Some(age) => age < NO_AGE,
+        None => true,
+    }
+}
+
+fn keep_fitting(nodes: &mut Vec<NodeSeen>)
+    ensures { nodes.new.items ≡ filter fits nodes.old.items }
+{
+    nodes.retain(|seen| fits(seen));
+}
+
+// What was seen of nodes, as it is reported.
+fn nodes_told(alloc: Global, asks: &[NodeSeen]) -> Result<NodesSeen, Memory>
+    ensures { IfOk result (λ nodes. nodes ≡ nodes_told asks.now) }
+{
+    let mut told = asks.to_vec(alloc)?;
+    keep_fitting(&mut told);
+    told.truncate(MOST_NODES);
+    Ok(Sequence::from_vec(told))
+}
 
 // What a process tells of itself that stands so at a reading.
 fn report_of(
@@ -99,10 +123,10 @@ fn report_of(
         manager: manager_told(standing.manager, identity.place),
         records: standing.records,
         shards: shards_told(standing.shards, identity.skew, now),
-        counts: NONE_COUNTED,
+        counts: standing.counts,
         inside: Sequence::from_vec(inside),
         clients: Sequence::from_vec(clients),
-        nodes: Sequence::new(alloc),
+        nodes: nodes_told(alloc, standing.asks.as_slice())?,
     })
 }
 
@@ -125,6 +149,7 @@ fn keep<R: Wait + Drop, C: Drop>(house: &House<R, C>, place: u8, heard: HeardBoa
     let mut guard = house.standing.lock(&house.rt);
     let standing = &mut *guard;
     standing.boards.hear(place, heard);
+    standing.note_boards();
 }
 
 // Keeps what a manager told, and tells this host's own.
@@ -155,6 +180,71 @@ fn report_to<R: Wait + Drop, C: Clock + Drop, A: AskManager>(
     }
 }
 
+// What is to be asked of the manager of this place beside the report.
+fn asks_of<R: Wait + Drop, C: Clock + Drop>(house: &House<R, C>, place: u8) -> Option<Inquiry>
+    ensures range { IfSome result IsInquiryInRange }
+    ensures asks { IsAskedThen house.now.identity place result }
+{
+    let now = house.clock.now();
+    let guard = house.standing.lock(&house.rt);
+    let standing = &*guard;
+    standing.asks_of(&house.identity, place, now)
+}
+
+// Keeps the number that the manager gave.
+fn keep_given<R: Wait + Drop, C: Drop>(house: &House<R, C>, node: NodeId) {
+    let mut guard = house.standing.lock(&house.rt);
+    let standing = &mut *guard;
+    standing.take_given(node);
+}
+
+fn keep_refusal<R: Wait + Drop, C: Drop>(house: &House<R, C>, place: u8, node: NodeId) {
+    let mut guard = house.standing.lock(&house.rt);
+    let standing = &mut *guard;
+    standing.note_refusal(place, node);
+}
+
+// Keeps what a manager answered to what was asked of it beside the report.
+fn take_answer<R: Wait + Drop, C: Drop>(
+    house: &House<R, C>,
+    place: u8,
+    claimed: Option<NodeId>,
+    answer: Response,
+) {
+    match answer {
+        Response::Seated(node) => keep_given(house, node),
+        Response::No { .. } => {
+            if let Some(node) = claimed {
+                keep_refusal(house, place, node);
+            }
+        }
+        _ => {}
+    }
+}
+
+// The number that is claimed by what is asked.
+fn number_claimed(inquiry: &Inquiry) -> Option<NodeId> {
+    match inquiry {
+        Inquiry::Claim { node, .. } => Some(*node),
+        _ => None,
+    }
+}
+
+// Asks the manager of this place for a number, or for the one that was given, where that is to be asked.
+fn seek<R: Wait + Drop, C: Clock + Drop, A: AskManager>(
+    house: &House<R, C>,
+    place: u8,
+    asker: &mut A,
+) {
+    let Some(inquiry) = asks_of(house, place) else {
+        return;
+    };
+    let claimed = number_claimed(&inquiry);
+    if let Some(answer) = asker.ask(&inquiry) {
+        take_answer(house, place, claimed, answer);
+    }
+}
+
 impl<
     R: Wait + Send + Sync + Drop + 'static,
     C: Clock + Send + Sync + Drop + 'static,
@@ -169,6 +259,7 @@ impl<
         let beat = house.identity.beat();
         for _ in house.rt.forever() {
             report_to(&*house, place, &mut asker);
+            seek(&*house, place, &mut asker);
             rest(&house.rt, beat);
         }
     }

@@ -1,4 +1,4 @@
-use Rattle.std.proofs.Common.{rules, ◌≡◌, ◌≤◌, length, arith}
+use Rattle.std.proofs.Common.{rules, arith}
 use Rattle.hk_log.specs.Entries.{IsEntryInRange}
 use Rattle.hk_managing.proofs.Telling.{one_more, all_of_them}
 use Rattle.hk_managing.proofs.notes.are_notes.Goals as goal
