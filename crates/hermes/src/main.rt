@@ -1,4 +1,4 @@
-//! The program: it makes the real objects of the outside, makes the one call, and ends with its status.
+//! The program: it makes the real objects of the outside, makes the call that its words name, and ends with its status.
 //!
 //! Standard input records what it gave, and standard output what it took, both from nothing on, so the clauses of
 //! `hk_cli::hermes` speak of the real program.

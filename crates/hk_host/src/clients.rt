@@ -1,29 +1,33 @@
 //! Doors for clients, at an address.
 
-ghost use Rattle.std.specs.Prelude.{◌≡◌, false};
+ghost use Rattle.std.specs.Prelude.{◌≡◌, None, false};
 ghost use Rattle.hk_outside.specs.Causes.{Rose};
 
+use hk_accept::{Desks, Reception};
+use hk_base::Memory;
 use hk_hosts::{Address, DoorsAt};
-use hk_house::rest;
-use hk_outside::{Doors, Failed, NoDialer};
-use std::sync::Wait;
+use hk_house::{House, rest};
+use hk_outside::{Connection, Doors, Failed, Job, NoDialer};
+use std::sync::{Arc, Wait};
 
 // So long, in milliseconds, it is waited until a port is tried again that could not be opened.
 const REST_MILLIS: u64 = 1_000;
 
-/// Doors at an address, whatever port is told.
+/// Doors at an address, whatever port is told. Once the process is to end, and while its node leaves, no connection comes: so they do not tell how many are left.
 #[derive(Drop)]
-pub(crate) struct ClientDoors<'doors, 'address, D: DoorsAt> {
+pub(crate) struct ClientDoors<'doors, 'address, 'house, D: DoorsAt, R: Wait + Drop, C: Drop> {
     pub(crate) doors: &'doors mut D,
     pub(crate) address: &'address Address,
+    pub(crate) house: &'house House<R, C>,
 }
 
-impl<'doors, 'address, D: DoorsAt> Doors for ClientDoors<'doors, 'address, D> {
+impl<'doors, 'address, 'house, D: DoorsAt, R: Wait + Drop, C: Drop> Doors
+    for ClientDoors<'doors, 'address, 'house, D, R, C> {
     type Conn = D::Conn;
 
     type Dialer = NoDialer<D::Conn>;
 
-    ghost left = { λ d. D.left d.doors.now };
+    ghost left = { λ d. None };
 
     ghost faults = { λ d. D.faults d.doors.now };
 
@@ -34,7 +38,11 @@ impl<'doors, 'address, D: DoorsAt> Doors for ClientDoors<'doors, 'address, D> {
     }
 
     fn accept(&mut self) -> Result<Option<D::Conn>, Failed> {
-        self.doors.accept()
+        let come = self.doors.accept();
+        if self.house.is_out() || self.house.is_leaving() {
+            return Ok(None);
+        }
+        come
     }
 
     fn close(&mut self) {
@@ -56,15 +64,65 @@ pub(crate) fn can_open<D: DoorsAt>(doors: &mut D, address: &Address) -> bool
     can
 }
 
-/// Opens the port of an address, as often as it takes. Whoever has it lets it go one day; until then the node serves its group, and clients at other hosts.
-pub(crate) fn open_in_time<R: Wait, D: DoorsAt>(rt: &R, doors: &mut D, address: &Address)
+/// Opens the port of an address, as often as it takes, unless the process is to end: then it gives false. Whoever has it lets it go one day; until then the node serves its
+/// group, and clients at other hosts.
+pub(crate) fn open_in_time<R: Wait + Drop, C: Drop, D: DoorsAt>(
+    house: &House<R, C>,
+    doors: &mut D,
+    address: &Address,
+) -> bool
     ensures { D.left doors.new ≡ D.left doors.old }
 {
-    for _ in rt.forever() {
-        if doors.open(address).is_ok() {
-            return;
+    for _ in house.rt.forever() {
+        if house.is_out() {
+            return false;
         }
-        rest(rt, REST_MILLIS);
+        if doors.open(address).is_ok() {
+            return true;
+        }
+        rest(&house.rt, REST_MILLIS);
     }
     unreachable!()
+}
+
+/// A connection of a client, and what makes its desk.
+#[derive(Drop)]
+pub(crate) struct Visit<N: Drop, K: Drop> {
+    conn: N,
+    desks: Arc<K>,
+    number: u32,
+}
+
+/// Takes clients in: each is served at a desk of its own.
+#[derive(Drop)]
+pub(crate) struct Visits<'a, K> {
+    pub(crate) desks: &'a Arc<K>,
+}
+
+impl<'a, N: Connection + Send + Drop + 'static, K: Desks + Send + Sync + Drop + 'static> Reception<
+    N,
+> for Visits<'a, K> {
+    type Visit = Visit<N, K>;
+
+    fn visit(&self, conn: N, number: u32) -> Result<Visit<N, K>, Memory> {
+        let desks = self.desks.clone()?;
+        Ok(Visit {
+            conn,
+            desks,
+            number,
+        })
+    }
+}
+
+impl<N: Connection + Send + Drop + 'static, K: Desks + Send + Sync + Drop + 'static> Job
+    for Visit<N, K> {
+    // Serves the connection to its end. One for whose desk there is no memory is closed.
+    fn run(self) {
+        let Visit {
+            mut conn,
+            desks,
+            number,
+        } = self;
+        desks.serve(&mut conn, number);
+    }
 }

@@ -3,6 +3,7 @@
 ghost use Rattle.std.specs.Prelude.{◌≡◌};
 
 use hk_base::Memory;
+use hk_house::LostTail;
 use hk_outside::{Failed, Status};
 use thiserror::Error;
 
@@ -15,6 +16,17 @@ pub enum StartFault {
     /// A job was refused: the spawner's count of faults rose.
     #[error("a thread could not be started")]
     Refused,
+}
+
+/// Why a process of a group ends that could go on.
+#[derive(Clone, Copy, Debug, PartialEq, Eq, Error)]
+pub enum ServeFault {
+    /// The log of its manager has fewer records than others were told.
+    #[error("{0}")]
+    LostTail(LostTail),
+    /// Its node was left out, or its group is no more.
+    #[error("left out of the view; start again")]
+    Out,
 }
 
 impl From<Memory> for StartFault {

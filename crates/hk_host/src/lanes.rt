@@ -1,13 +1,13 @@
-//! The lanes from the node of this process to others, and what lets their letters in.
+//! The lanes from an actor of this process to nodes, and what lets the letters of its own node in.
 
 ghost use Rattle.hk_host.specs.Starting.{Starts};
 
 use crate::fault::StartFault;
 use crate::sending::Dialers;
 use hk_base::{Actor, Memory};
-use hk_group::Way;
 use hk_house::House;
 use hk_lanes::{Lane, LaneDesks, LaneJob, Lanes};
+use hk_link::Bell;
 use hk_locked::Places;
 use hk_outside::{Clock, Source, Spawner};
 use hk_passage::{NodeEntry, Passage};
@@ -16,6 +16,9 @@ use hk_worker::DeskClock;
 use std::alloc::Global;
 use std::io::Eprint;
 use std::sync::{Arc, Mutex, Wait};
+
+// So many nodes an actor sends to at once: the members of a view, and some that came or went.
+const LANES: usize = 20;
 
 /// Lets letters in to the node of this process, once it has one.
 #[derive(Drop)]
@@ -58,54 +61,58 @@ impl<R: Wait + Copy + Drop, C: DeskClock + Drop, P: Places, X: PromptCarrier + D
     }
 }
 
-/// The ways of a node: those to other nodes, and those to managers.
+/// The lanes from an actor of this process to nodes, and what is to carry for them.
 #[derive(Drop)]
-pub(crate) struct NodeWays {
-    pub(crate) nodes: Vec<Way>,
-    pub(crate) managers: Vec<Way>,
+pub(crate) struct Berths<X: Drop> {
+    pub(crate) lanes: Vec<Arc<Lane<X>>>,
+    /// One for each lane that leads nowhere.
+    pub(crate) spare: Vec<X>,
 }
 
-impl NodeWays {
-    /// These, by where they lead.
-    pub(crate) fn of(alloc: Global, ways: Vec<Way>) -> Result<NodeWays, Memory> {
-        let mut split = NodeWays {
-            nodes: Vec::new(alloc),
-            managers: Vec::new(alloc),
-        };
-        for way in ways {
-            match way.to {
-                Actor::Node(_) => split.nodes.push(way)?,
-                Actor::Manager(_) => split.managers.push(way)?,
-            }
+impl<X: PromptCarrier + Drop> Berths<X> {
+    // No lanes yet.
+    fn new(alloc: Global) -> Berths<X> {
+        Berths {
+            lanes: Vec::new(alloc),
+            spare: Vec::new(alloc),
         }
-        Ok(split)
+    }
+
+    // One lane more, which leads nowhere yet, and what is to carry for it. It gives the job of the lane.
+    fn add<R: Wait + Copy + Drop>(
+        &mut self,
+        rt: R,
+        alloc: Global,
+        carrier: X,
+    ) -> Result<LaneJob<R, X>, Memory> {
+        self.spare.push(carrier)?;
+        let bell = Arc::new(alloc, Bell::new())?;
+        let lane = Arc::new(alloc, Lane::free(bell))?;
+        self.lanes.push(Arc::try_clone(&lane)?)?;
+        Ok(LaneJob { rt, lane })
+    }
+
+    /// The same lanes, for whoever sends.
+    pub(crate) fn shared(&self, alloc: Global) -> Result<Arc<Lanes<X>>, Memory> {
+        let mut lanes = Lanes::new(alloc);
+        for lane in &self.lanes {
+            lanes.push(Arc::try_clone(lane)?)?;
+        }
+        Ok(Arc::new(alloc, lanes)?)
     }
 }
 
-// A lane over a way from an actor of this process.
-fn new_lane<R: Wait + Eprint + Copy + Drop, C: Clock + Drop, E: Dialers>(
+// What is to carry for a lane from an actor of this process. It leads nowhere before it is aimed.
+fn new_carrier<R: Wait + Drop, C: Drop, E: Dialers>(
     house: &Arc<House<R, C>>,
     dialers: &E,
     from: Actor,
-    way: Way,
-) -> Result<Arc<Lane<Passage<R, C, E::Dialer>>>, Memory> {
-    let Way { to, inlet, bell } = way;
-    let passage = Passage::new(Arc::try_clone(house)?, dialers.dialer(), from, to);
-    Ok(Arc::new(house.alloc, Lane::new(house.alloc, inlet, bell, passage))?)
+) -> Result<Passage<R, C, E::Dialer>, Memory> {
+    let house = Arc::try_clone(house)?;
+    Ok(Passage::new(house, dialers.dialer(), from, from))
 }
 
-// The job of a lane.
-fn lane_job<R: Wait + Copy + Drop, X: Drop>(
-    rt: R,
-    lane: &Arc<Lane<X>>,
-) -> Result<LaneJob<R, X>, Memory> {
-    Ok(LaneJob {
-        rt,
-        lane: Arc::try_clone(lane)?,
-    })
-}
-
-/// Makes a lane for each of these ways from an actor of this process, and starts its thread.
+/// Makes the lanes of an actor of this process, and starts their threads.
 pub(crate) fn start_lanes<
     R: Wait + Eprint + Copy + Send + Sync + Drop + 'static,
     C: Clock + Send + Sync + Drop + 'static,
@@ -116,18 +123,13 @@ pub(crate) fn start_lanes<
     dialers: &E,
     spawner: &mut S,
     from: Actor,
-    ways: Vec<Way>,
-) -> Result<Arc<Lanes<Passage<R, C, E::Dialer>>>, StartFault>
+) -> Result<Berths<Passage<R, C, E::Dialer>>, StartFault>
     ensures { Starts (S.faults spawner.old) (S.faults spawner.new) result }
 {
-    let mut lanes = Lanes::new(house.alloc);
-    for way in ways {
-        let lane = new_lane(house, dialers, from, way)?;
-        spawner.start_made(lane_job(house.rt, &lane))?;
-        lanes.push(lane)?;
+    let mut berths = Berths::new(house.alloc);
+    for _ in 0..LANES {
+        let carrier = new_carrier(house, dialers, from)?;
+        spawner.start_made(berths.add(house.rt, house.alloc, carrier))?;
     }
-    match Arc::new(house.alloc, lanes) {
-        Ok(lanes) => Ok(lanes),
-        Err(_) => Err(StartFault::Memory),
-    }
+    Ok(berths)
 }

@@ -1,11 +1,13 @@
 //! The jobs of this host's manager, and of whoever comes to it.
 
-ghost use Rattle.std.specs.Prelude.{◌<◌, length};
+ghost use Rattle.std.specs.Prelude.{◌<◌, length, IfSome};
 ghost use Rattle.std.specs.Arc.{arc_value};
 ghost use Rattle.hk_host.specs.Starting.{Starts};
 
 use crate::fault::StartFault;
+use crate::lanes::start_lanes;
 use crate::metronome::BeatJob;
+use crate::routing::RouteJob;
 use crate::sending::{Dialers, start_ways};
 use crate::ways::{ManagerWays, rung_link};
 use hk_base::{Actor, Memory};
@@ -18,6 +20,8 @@ use hk_outside::{Clock, Spawner};
 use hk_overseer::Outlets;
 use hk_passage::{Asker, NodeEntry, ReportJob, start_inside};
 use hk_process::Sending;
+use hk_routes::Routes;
+use std::alloc::Global;
 use std::io::Eprint;
 use std::sync::{Arc, Wait};
 
@@ -36,16 +40,62 @@ fn admit_letters<R: Wait + Drop, C: Drop>(house: &House<R, C>) -> Result<Inlet, 
     Ok(inlet)
 }
 
+/// The manager of a host, as its process begins.
+#[derive(Drop)]
+pub struct HostManager<F: LogFile + Drop> {
+    /// The place of its host.
+    pub place: u8,
+    pub start: ManagerStart<F>,
+}
+
 // The loop of the manager.
 fn manager_job<R: Wait + Eprint + Drop, C: Clock + Drop, F: LogFile + Drop>(
     house: &Arc<House<R, C>>,
-    start: ManagerStart<F>,
-    outlets: Outlets,
+    manager: HostManager<F>,
+    routes: &Arc<Routes>,
 ) -> Result<ManagerJob<R, C, F>, Memory> {
+    let HostManager { place, start } = manager;
     let inlet = admit_letters(&**house)?;
+    // a manager sends to each manager, itself too
+    if let Some(outlet) = house.manager_outlet() {
+        routes.add(&house.rt, Actor::Manager(place), outlet)?;
+    }
     let clock = Arc::try_clone(&house.clock)?;
     let house = Arc::try_clone(house)?;
-    Ok(ManagerJob::new(house, start, inlet, outlets, clock))
+    ManagerJob::new(house, start, inlet, routes, clock)
+}
+
+fn new_routes(alloc: Global, outlets: Outlets) -> Result<Arc<Routes>, Memory> {
+    Ok(Arc::new(alloc, Routes::new(outlets))?)
+}
+
+// Starts what sends for the manager of this place, and what opens ways to nodes. It gives the outlets from the manager.
+fn start_manager_ways<
+    R: Wait + Eprint + Copy + Send + Sync + Drop + 'static,
+    C: Clock + Send + Sync + Drop + 'static,
+    E: Dialers,
+    S: Spawner,
+>(
+    house: &Arc<House<R, C>>,
+    place: u8,
+    dialers: &E,
+    sending: &mut Sending,
+    spawner: &mut S,
+) -> Result<Arc<Routes>, StartFault>
+    requires { place < length (arc_value house.now).identity.hosts }
+    ensures { Starts (S.faults spawner.old) (S.faults spawner.new) result }
+{
+    let ManagerWays { outlets, ways } = ManagerWays::new(
+        house.alloc,
+        place,
+        house.identity.managers(),
+    )?;
+    let own = Actor::Manager(place);
+    let routes = new_routes(house.alloc, outlets)?;
+    start_ways(house, dialers, sending, spawner, own, ways)?;
+    let berths = start_lanes(house, dialers, spawner, own)?;
+    spawner.start_made(RouteJob::new(house, None, &routes, berths))?;
+    Ok(routes)
 }
 
 // Starts the loop of this host's manager, what gives it the beat, and what sends for it.
@@ -57,31 +107,41 @@ fn start_manager<
     S: Spawner,
 >(
     house: &Arc<House<R, C>>,
-    place: u8,
-    start: ManagerStart<F>,
+    manager: HostManager<F>,
     dialers: &E,
     sending: &mut Sending,
     spawner: &mut S,
 ) -> Result<(), StartFault>
-    requires { place < length (arc_value house.now).identity.hosts }
+    requires { manager.place < length (arc_value house.now).identity.hosts }
     ensures { Starts (S.faults spawner.old) (S.faults spawner.new) result }
 {
-    let ManagerWays { outlets, ways } = ManagerWays::new(
-        house.alloc,
-        place,
-        house.identity.managers(),
-    )?;
-    start_ways(
-        house,
-        dialers,
-        sending,
-        spawner,
-        Actor::Manager(place),
-        ways,
-    )?;
+    let routes = start_manager_ways(house, manager.place, dialers, sending, spawner)?;
     spawner.start_made(BeatJob::new(house, &house.inbox.bell, Vec::new(house.alloc)))?;
-    spawner.start_made(manager_job(house, start, outlets))?;
+    spawner.start_made(manager_job(house, manager, &routes))?;
     Ok(())
+}
+
+// The same, if the host has a manager.
+fn start_any_manager<
+    R: Wait + Eprint + Copy + Send + Sync + Drop + 'static,
+    C: Clock + Send + Sync + Drop + 'static,
+    F: LogFile + Send + Drop + 'static,
+    E: Dialers,
+    S: Spawner,
+>(
+    house: &Arc<House<R, C>>,
+    manager: Option<HostManager<F>>,
+    dialers: &E,
+    sending: &mut Sending,
+    spawner: &mut S,
+) -> Result<(), StartFault>
+    requires { IfSome manager (λ m. m.place < length (arc_value house.now).identity.hosts) }
+    ensures { Starts (S.faults spawner.old) (S.faults spawner.new) result }
+{
+    match manager {
+        Some(manager) => start_manager(house, manager, dialers, sending, spawner),
+        None => Ok(()),
+    }
 }
 
 // What reports to the manager of this place.
@@ -113,7 +173,7 @@ fn start_reports<
     Ok(())
 }
 
-/// Starts this host's manager, what takes the connections of other processes, and the reports to all managers.
+/// Starts this host's manager, if it has one, what takes the connections of other processes, and the reports to all managers.
 pub(crate) fn start_host<
     R: Wait + Eprint + Copy + Send + Sync + Drop + 'static,
     C: Clock + Send + Sync + Drop + 'static,
@@ -126,17 +186,16 @@ pub(crate) fn start_host<
 >(
     house: &Arc<House<R, C>>,
     entry: &Arc<N>,
-    place: u8,
-    manager: ManagerStart<F>,
+    manager: Option<HostManager<F>>,
     inside: Inside<D, X>,
     dialers: &E,
     sending: &mut Sending,
     spawner: &mut S,
 ) -> Result<(), StartFault>
-    requires { place < length (arc_value house.now).identity.hosts }
+    requires { IfSome manager (λ m. m.place < length (arc_value house.now).identity.hosts) }
     ensures { Starts (S.faults spawner.old) (S.faults spawner.new) result }
 {
-    start_manager(house, place, manager, dialers, sending, spawner)?;
+    start_any_manager(house, manager, dialers, sending, spawner)?;
     let Inside { doors, random } = inside;
     start_inside(house, entry, doors, random, spawner)?;
     start_reports(house, dialers, spawner)

@@ -1,30 +1,63 @@
 //! The node of this process, once its group is open.
 
 ghost use Rattle.std.specs.Prelude.{◌≡◌, ◌<◌, length};
+ghost use Rattle.hk_locked.specs.Places.{node_names};
+ghost use Rattle.hk_worker.specs.Founding.{names_of};
 ghost use Rattle.hk_group.specs.Founding.{IsGroup};
 ghost use Rattle.hk_host.specs.Starting.{Starts};
 
+use crate::copying::CopyJob;
 use crate::fault::StartFault;
-use crate::lanes::{NodeWays, start_lanes};
+use crate::lanes::start_lanes;
 use crate::metronome::BeatJob;
+use crate::routing::RouteJob;
 use crate::sending::{Dialers, start_ways};
-use hk_base::{Actor, NodeId};
-use hk_group::{Group, Member, start_each};
-use hk_house::{House, Identity, ShardsSeen};
+use crate::watching::WatchJob;
+use hk_base::{Actor, Memory, NodeId};
+use hk_group::{Group, GroupDesks, Member, start_each};
+use hk_hosts::Address;
+use hk_house::{House, Identity, copy_of};
 use hk_inside::NodeState;
-use hk_lanes::LaneDesks;
+use hk_lanes::{LaneDesks, Lanes, Tallies};
+use hk_link::Outlet;
 use hk_locked::Places;
 use hk_outside::Spawner;
 use hk_passage::Passage;
 use hk_process::Sending;
-use hk_worker::DeskClock;
+use hk_routes::Routes;
+use hk_worker::{DeskClock, Founded};
 use std::io::Eprint;
 use std::sync::{Arc, Wait};
+
+// The workers of a node raise its clock so often in a beat at most.
+const READINGS: u64 = 4;
+
+const SHARDS: u8 = 8;
+
+/// What the node of a process is.
+#[derive(Clone, Copy)]
+pub(crate) enum Part {
+    /// A founder, of the number of its host's place.
+    Founder(u8),
+    /// A joiner of this number.
+    Joiner(NodeId),
+}
+
+impl Part {
+    /// The number of the node.
+    pub(crate) fn number(self) -> NodeId {
+        match self {
+            Part::Founder(place) => NodeId(u16::from(place)),
+            Part::Joiner(node) => node,
+        }
+    }
+}
 
 /// The group as its founders have it. It opens no port of its own.
 pub(crate) fn founding_group(identity: &Identity, workers: u8) -> Group
     ensures group { IsGroup result }
     ensures nodes { result.nodes ≡ length identity.now.hosts }
+    ensures skew { result.skew ≡ identity.now.skew }
 {
     Group {
         nodes: identity.managers(),
@@ -37,22 +70,101 @@ pub(crate) fn founding_group(identity: &Identity, workers: u8) -> Group
     }
 }
 
-/// Others learn of the node.
-pub(crate) fn stand<R: Wait + Drop, C: Drop>(house: &House<R, C>, node: NodeId) {
+// Others learn of the node.
+fn stand<R: Wait + Drop, C: Drop>(house: &House<R, C>, node: NodeId) {
     let mut guard = house.standing.lock(&house.rt);
     let standing = &mut *guard;
     standing.node = Some(node);
-    standing.state = NodeState::Ready;
-    // a founder has all of its shards, in the first view
-    standing.shards = ShardsSeen {
-        ready: 8,
-        least_epoch: 1,
-        lease_end: 0,
-    };
+    standing.state = NodeState::Seated;
 }
 
-/// Starts what keeps the node going: its workers, what sends for it, and the beat. What is given makes the desks of its clients, and takes its letters.
-pub(crate) fn start_node<
+/// The member of the group that this process's node is, by this clock.
+pub(crate) fn new_member<
+    R: Wait + Copy + Send + Sync + Drop + 'static,
+    C: DeskClock + Send + Sync + Drop + 'static,
+    P: Places + Send + Sync + 'static,
+>(
+    house: &House<R, C>,
+    clock: Arc<C>,
+    founded: Founded,
+    group: &Group,
+) -> Result<Member<R, C, P>, Memory>
+    requires named { node_names P.places founded.node ≡ names_of founded }
+{
+    let pause = house.identity.beat() / READINGS;
+    Member::<R, C, P>::among_managers(house.rt, house.alloc, clock, founded, pause.max(1), group)
+}
+
+// Starts what opens ways to other nodes as they come, and gives the lanes of these.
+fn start_routing<
+    R: Wait + Eprint + Copy + Send + Sync + Drop + 'static,
+    C: DeskClock + Send + Sync + Drop + 'static,
+    E: Dialers,
+    S: Spawner,
+>(
+    house: &Arc<House<R, C>>,
+    dialers: &E,
+    spawner: &mut S,
+    node: NodeId,
+    routes: &Arc<Routes>,
+) -> Result<Arc<Lanes<Passage<R, C, E::Dialer>>>, StartFault>
+    ensures { Starts (S.faults spawner.old) (S.faults spawner.new) result }
+{
+    let berths = start_lanes(house, dialers, spawner, Actor::Node(node))?;
+    let lanes = berths.shared(house.alloc)?;
+    spawner.start_made(RouteJob::new(house, Some(node), routes, berths))?;
+    Ok(lanes)
+}
+
+// The job that copies the rows of a shard.
+fn copy_job<R: Wait + Copy + Drop, C: DeskClock + Drop, P: Places>(
+    house: &Arc<House<R, C>>,
+    desks: &GroupDesks<R, C, P>,
+    shard: u8,
+) -> Result<CopyJob<R, C, P>, Memory> {
+    Ok(CopyJob {
+        house: Arc::try_clone(house)?,
+        copier: desks.copier(shard)?,
+    })
+}
+
+// Starts what copies the rows of a joiner's shards.
+fn start_copying<
+    P: Places + Send + Sync + 'static,
+    R: Wait + Eprint + Copy + Send + Sync + Drop + 'static,
+    C: DeskClock + Send + Sync + Drop + 'static,
+    S: Spawner,
+>(house: &Arc<House<R, C>>, spawner: &mut S, desks: &GroupDesks<R, C, P>) -> Result<(), StartFault>
+    ensures { Starts (S.faults spawner.old) (S.faults spawner.new) result }
+{
+    for shard in 0..SHARDS {
+        spawner.start_made(copy_job(house, desks, shard))?;
+    }
+    Ok(())
+}
+
+// The job that looks how the node stands.
+fn watch_job<R: Wait + Copy + Drop, C: DeskClock + Drop, P: Places, E: Dialers>(
+    house: &Arc<House<R, C>>,
+    dialers: &E,
+    desks: &GroupDesks<R, C, P>,
+    tallies: &Arc<Tallies>,
+    clients: &Address,
+) -> Result<WatchJob<R, C, P, E::Dialer>, Memory> {
+    let Some(clients) = copy_of(house.alloc, clients) else {
+        return Err(Memory);
+    };
+    Ok(WatchJob {
+        house: Arc::try_clone(house)?,
+        watch: desks.watch()?,
+        tallies: Arc::try_clone(tallies)?,
+        dialer: dialers.dialer(),
+        clients,
+    })
+}
+
+// Starts what looks how the node stands, and whether it was left out.
+fn start_watching<
     P: Places + Send + Sync + 'static,
     R: Wait + Eprint + Copy + Send + Sync + Drop + 'static,
     C: DeskClock + Send + Sync + Drop + 'static,
@@ -61,10 +173,75 @@ pub(crate) fn start_node<
 >(
     house: &Arc<House<R, C>>,
     dialers: &E,
+    spawner: &mut S,
+    desks: &GroupDesks<R, C, P>,
+    tallies: &Arc<Tallies>,
+    clients: &Address,
+) -> Result<(), StartFault>
+    ensures { Starts (S.faults spawner.old) (S.faults spawner.new) result }
+{
+    spawner.start_made(watch_job(house, dialers, desks, tallies, clients))?;
+    Ok(())
+}
+
+// Starts what copies the rows, where the node is a joiner. A founder has them all.
+fn start_part<
+    P: Places + Send + Sync + 'static,
+    R: Wait + Eprint + Copy + Send + Sync + Drop + 'static,
+    C: DeskClock + Send + Sync + Drop + 'static,
+    S: Spawner,
+>(
+    house: &Arc<House<R, C>>,
+    part: Part,
+    spawner: &mut S,
+    desks: &GroupDesks<R, C, P>,
+) -> Result<(), StartFault>
+    ensures { Starts (S.faults spawner.old) (S.faults spawner.new) result }
+{
+    match part {
+        Part::Founder(_) => Ok(()),
+        Part::Joiner(_) => start_copying(house, spawner, desks),
+    }
+}
+
+// Starts what gives the beat to the workers of the node to which this outlet leads.
+fn start_beat<
+    P: Places + Send + Sync + 'static,
+    R: Wait + Eprint + Copy + Send + Sync + Drop + 'static,
+    C: DeskClock + Send + Sync + Drop + 'static,
+    S: Spawner,
+>(
+    house: &Arc<House<R, C>>,
+    spawner: &mut S,
+    desks: &GroupDesks<R, C, P>,
+    outlet: &Outlet,
+) -> Result<(), StartFault>
+    ensures { Starts (S.faults spawner.old) (S.faults spawner.new) result }
+{
+    let Some(bell) = outlet.bell() else {
+        return Ok(());
+    };
+    let leases = desks.leases()?;
+    spawner.start_made(BeatJob::new(house, bell, leases))?;
+    Ok(())
+}
+
+/// Starts what keeps the node going: its workers, a loop for each way to a manager, what opens ways to other nodes, the beat, and what copies and watches. What is
+/// given makes the desks of its clients, and takes its letters.
+pub(crate) fn start_node<
+    P: Places + Send + Sync + 'static,
+    R: Wait + Eprint + Copy + Send + Sync + Drop + 'static,
+    C: DeskClock + Send + Sync + Drop + 'static,
+    E: Dialers,
+    S: Spawner,
+>(
+    house: &Arc<House<R, C>>,
+    part: Part,
+    dialers: &E,
     sending: &mut Sending,
     spawner: &mut S,
     member: Member<R, C, P>,
-    node: NodeId,
+    listen: &Address,
 ) -> Result<LaneDesks<R, C, P, Passage<R, C, E::Dialer>>, StartFault>
     ensures { Starts (S.faults spawner.old) (S.faults spawner.new) result }
 {
@@ -73,15 +250,17 @@ pub(crate) fn start_node<
         desks,
         outlet,
         ways,
+        routes,
         running: _running,
     } = member;
-    let from = Actor::Node(node);
-    let NodeWays { nodes, managers } = NodeWays::of(house.alloc, ways)?;
+    let node = part.number();
     start_each(workers, spawner)?;
-    start_ways(house, dialers, sending, spawner, from, managers)?;
-    let lanes = start_lanes(house, dialers, spawner, from, nodes)?;
-    if let Some(bell) = outlet.bell() {
-        spawner.start_made(BeatJob::new(house, bell, desks.leases()?))?;
-    }
-    Ok(LaneDesks::new(house.rt, house.alloc, desks, lanes))
+    start_ways(house, dialers, sending, spawner, Actor::Node(node), ways)?;
+    let lanes = start_routing(house, dialers, spawner, node, &routes)?;
+    start_beat(house, spawner, &desks, &outlet)?;
+    stand(&**house, node);
+    start_part(house, part, spawner, &desks)?;
+    let tallies = Tallies::new(house.alloc)?;
+    start_watching(house, dialers, spawner, &desks, &tallies, listen)?;
+    Ok(LaneDesks::new(house.rt, house.alloc, desks, lanes, tallies))
 }

@@ -7,8 +7,10 @@ use hk_base::{Actor, Memory};
 use hk_group::{Way, start_each};
 use hk_hosts::DialAt;
 use hk_house::House;
+use hk_link::Parcel;
 use hk_outside::{Clock, Spawner};
 use hk_passage::Passage;
+use hk_peer::Carrier;
 use hk_process::{SendJob, Sending};
 use std::io::Eprint;
 use std::sync::{Arc, Wait};
@@ -20,6 +22,49 @@ pub trait Dialers {
     fn dialer(&self) -> Self::Dialer;
 }
 
+/// Carries letters from an actor of this process to a manager. A node tells managers nothing but that it wants leases, and one that leaves wants none.
+#[derive(Drop)]
+pub(crate) struct ManagerCarrier<R: Wait + Drop, C: Drop, D: DialAt + Drop> {
+    house: Arc<House<R, C>>,
+    from: Actor,
+    passage: Passage<R, C, D>,
+}
+
+// Whether an actor of this process tells the managers nothing at this moment.
+fn is_quiet<R: Wait + Drop, C: Drop>(house: &House<R, C>, from: Actor) -> bool {
+    match from {
+        Actor::Node(_) => house.is_leaving(),
+        Actor::Manager(_) => false,
+    }
+}
+
+impl<R: Wait + Eprint + Drop, C: Clock + Drop, D: DialAt + Drop> Carrier
+    for ManagerCarrier<R, C, D> {
+    fn forward(&mut self, batch: &[Parcel]) {
+        if !is_quiet(&*self.house, self.from) {
+            self.passage.forward(batch);
+        }
+    }
+
+    fn is_connected(&self) -> bool {
+        self.passage.is_connected()
+    }
+}
+
+fn carrier_to<R: Wait + Copy + Drop, C: Drop, E: Dialers>(
+    house: &Arc<House<R, C>>,
+    dialers: &E,
+    from: Actor,
+    to: Actor,
+) -> Result<ManagerCarrier<R, C, E::Dialer>, Memory> {
+    let passage = Passage::new(Arc::try_clone(house)?, dialers.dialer(), from, to);
+    Ok(ManagerCarrier {
+        house: Arc::try_clone(house)?,
+        from,
+        passage,
+    })
+}
+
 // A loop for each of these ways from an actor of this process.
 fn send_jobs<R: Wait + Copy + Drop, C: Drop, E: Dialers>(
     house: &Arc<House<R, C>>,
@@ -27,16 +72,16 @@ fn send_jobs<R: Wait + Copy + Drop, C: Drop, E: Dialers>(
     sending: &mut Sending,
     from: Actor,
     ways: Vec<Way>,
-) -> Result<Vec<SendJob<R, Passage<R, C, E::Dialer>>>, Memory> {
+) -> Result<Vec<SendJob<R, ManagerCarrier<R, C, E::Dialer>>>, Memory> {
     let mut jobs = Vec::new(house.alloc);
     for way in ways {
-        let passage = Passage::new(Arc::try_clone(house)?, dialers.dialer(), from, way.to);
-        jobs.push(sending.job(house.rt, house.alloc, passage, way)?)?;
+        let carrier = carrier_to(house, dialers, from, way.to)?;
+        jobs.push(sending.job(house.rt, house.alloc, carrier, way)?)?;
     }
     Ok(jobs)
 }
 
-/// Starts a loop for each of these ways from an actor of this process.
+/// Starts a loop for each of these ways from an actor of this process to managers.
 pub(crate) fn start_ways<
     R: Wait + Eprint + Copy + Send + Sync + Drop + 'static,
     C: Clock + Send + Sync + Drop + 'static,

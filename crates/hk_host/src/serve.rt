@@ -1,35 +1,38 @@
 //! A process of a group over hosts.
 
-ghost use Rattle.std.specs.Prelude.{◌≡◌, ◌<◌, ◌⊎◌, true, length, Ok, IfOk};
+ghost use Rattle.std.specs.Prelude.{◌≡◌, ◌<◌, ◌⊎◌, true, length, Ok, IfOk, IfSome};
 ghost use Rattle.std.specs.Arc.{arc_value};
 ghost use Rattle.hk_outside.specs.Causes.{Rose};
 ghost use Rattle.hk_accept.specs.Serving.{EndsServe};
 ghost use Rattle.hk_locked.specs.Places.{node_names};
-ghost use Rattle.hk_worker.specs.Founding.{names_of};
-ghost use Rattle.hk_group.specs.Founding.{IsGroup};
+ghost use Rattle.hk_worker.specs.Founding.{names_of, names_of_cells, AreForAny};
+ghost use Rattle.hk_group.specs.Founding.{IsGroup, first_view};
+ghost use Rattle.hk_host.specs.Starting.{Starts};
 
-use crate::clients::{ClientDoors, can_open, open_in_time};
+use crate::clients::{ClientDoors, Visits, can_open, open_in_time};
+use crate::fault::{ServeFault, StartFault};
 use crate::lanes::NodeDoor;
-use crate::manager::{Inside, start_host};
-use crate::node::{founding_group, stand, start_node};
+use crate::manager::{HostManager, Inside, start_host};
+use crate::node::{Part, founding_group, new_member, start_node};
 use crate::sending::Dialers;
-use hk_accept::serve_each;
-use hk_base::{Memory, NodeId};
+use hk_accept::take_each;
+use hk_base::{Memory, NodeId, View};
 use hk_disk::LogFile;
-use hk_group::{Group, Member, first_view, found_without_lease};
+use hk_group::{Group, Member, first_view, found_joiner, found_without_lease};
 use hk_hosts::{Address, DoorsAt, Random};
-use hk_house::{House, Identity, Inbox, LostTail, Standing, rest, tell_ready};
+use hk_house::{House, Identity, Inbox, Standing, rest, tell_ready};
+use hk_inside::NodeState;
 use hk_lanes::LaneDesks;
 use hk_locked::Places;
-use hk_managing::ManagerStart;
 use hk_outside::{Spawner, Status};
 use hk_passage::Passage;
 use hk_peer::PromptCarrier;
 use hk_process::Sending;
-use hk_worker::{DeskClock, Founded, Tickets};
+use hk_worker::{DeskClock, Founded, NodeCells, Tickets};
 use std::alloc::Global;
 use std::io::Eprint;
 use std::marker::Brand;
+use std::sync::atomic::AtomicBool;
 use std::sync::{Arc, Mutex, Wait};
 
 /// What serves clients at this process.
@@ -60,34 +63,71 @@ fn new_house<R: Wait + Drop, C: Drop>(
         standing: Mutex::new(standing),
         manager: Mutex::new(None),
         inbox,
+        is_out: AtomicBool::new(false),
+        is_leaving: AtomicBool::new(false),
     };
     Ok(Arc::new(alloc, house)?)
 }
 
-// Whether the group is open, and the boards bind the number of this host's place to this process.
-fn is_founder<R: Wait + Drop, C: Drop>(house: &House<R, C>, node: NodeId) -> bool {
+// Whether the boards bind the number of this host's place to this process.
+fn is_founder(standing: &Standing, identity: &Identity, place: u8) -> bool {
+    let node = NodeId(u16::from(place));
+    standing.founding != 0
+        && standing.boards.holder(standing.founding, node) == Some(identity.ticket)
+}
+
+// What the node is, once that is known.
+fn part_of<R: Wait + Drop, C: Drop>(house: &House<R, C>) -> Option<Part> {
     let guard = house.standing.lock(&house.rt);
     let standing = &*guard;
-    standing.founding != 0
-        && standing.boards.holder(standing.founding, node) == Some(house.identity.ticket)
-}
-
-// What shows that the log of this process's manager lost records, if anything does.
-fn lost_tail<R: Wait + Drop, C: Drop>(house: &House<R, C>) -> Option<LostTail> {
-    let guard = house.standing.lock(&house.rt);
-    guard.lost_tail
-}
-
-// Waits until the group is open and has this process's node for a founder; or until the log is known to have lost records.
-fn wait_until_founder<R: Wait + Drop, C: Drop>(
-    house: &House<R, C>,
-    node: NodeId,
-) -> Result<(), LostTail> {
-    for _ in house.rt.forever() {
-        if let Some(lost) = lost_tail(house) {
-            return Err(lost);
+    if let Some(place) = house.identity.place {
+        if is_founder(standing, &house.identity, place) {
+            return Some(Part::Founder(place));
         }
-        if is_founder(house, node) {
+    }
+    let node = standing.held(&house.identity)?;
+    Some(Part::Joiner(node))
+}
+
+// Fails where the process is to end: the log of its manager lost records, its node was left out, or its group is no more.
+fn go_on<R: Wait + Drop, C: Drop>(house: &House<R, C>) -> Result<(), ServeFault> {
+    let lost = {
+        let guard = house.standing.lock(&house.rt);
+        guard.lost_tail
+    };
+    if let Some(lost) = lost {
+        return Err(ServeFault::LostTail(lost));
+    }
+    if house.look_out() {
+        return Err(ServeFault::Out);
+    }
+    Ok(())
+}
+
+// Waits until the group is open and the process has a number there.
+fn wait_for_part<R: Wait + Drop, C: Drop>(house: &House<R, C>) -> Result<Part, ServeFault> {
+    for _ in house.rt.forever() {
+        go_on(house)?;
+        if let Some(part) = part_of(house) {
+            return Ok(part);
+        }
+        rest(&house.rt, house.identity.beat());
+    }
+    unreachable!()
+}
+
+// Whether the node serves clients.
+fn is_ready<R: Wait + Drop, C: Drop>(house: &House<R, C>) -> bool {
+    let guard = house.standing.lock(&house.rt);
+    let standing = &*guard;
+    standing.state == NodeState::Ready
+}
+
+// Waits until all shards are ready.
+fn wait_until_ready<R: Wait + Drop, C: Drop>(house: &House<R, C>) -> Result<(), ServeFault> {
+    for _ in house.rt.forever() {
+        go_on(house)?;
+        if is_ready(house) {
             return Ok(());
         }
         rest(&house.rt, house.identity.beat());
@@ -95,7 +135,65 @@ fn wait_until_founder<R: Wait + Drop, C: Drop>(
     unreachable!()
 }
 
-// Serves clients at the node, for as long as the process runs.
+// Serves the clients that come through doors that are open, until the process is to end or its node leaves, and closes them.
+fn serve_open<
+    P: Places + Send + Sync + 'static,
+    R: Wait + Eprint + Copy + Send + Sync + Drop + 'static,
+    C: DeskClock + Send + Sync + Drop + 'static,
+    X: PromptCarrier + Send + Drop + 'static,
+    K: DoorsAt,
+    S: Spawner,
+>(
+    house: &House<R, C>,
+    desks: &Arc<LaneDesks<R, C, P, X>>,
+    listen: &Address,
+    doors: &mut K,
+    spawner: &mut S,
+)
+    ensures { K.closed doors.new ≡ true }
+{
+    let mut at = ClientDoors {
+        doors: &mut *doors,
+        address: listen,
+        house,
+    };
+    take_each(&house.rt, &mut at, spawner, &Visits { desks }, u32::MAX);
+    doors.close();
+}
+
+// Waits while the node leaves, and gives whether it stays after all. Then it serves clients again.
+fn wait_to_stay<R: Wait + Drop, C: Drop>(house: &House<R, C>) -> bool {
+    for _ in house.rt.forever() {
+        if house.is_out() {
+            return false;
+        }
+        if !house.is_leaving() {
+            return true;
+        }
+        rest(&house.rt, house.identity.beat());
+    }
+    unreachable!()
+}
+
+// How the process ends that serves no clients any more.
+fn end_of<R: Wait + Drop, C: Drop>(house: &House<R, C>) -> Result<Status, ServeFault>
+    ensures { IfOk result (λ status. status ≡ Status.Done) }
+{
+    if house.is_out() {
+        return Err(ServeFault::Out);
+    }
+    Ok(Status::Done)
+}
+
+// Its node has left: a majority of the managers let views begin without it. It acknowledges for two beats more, for those that have not heard so yet.
+fn end_left<R: Wait + Drop, C: Drop>(house: &House<R, C>) -> Result<Status, ServeFault>
+    ensures { result ≡ Ok Status.Done }
+{
+    rest(&house.rt, house.identity.beat().saturating_mul(2));
+    Ok(Status::Done)
+}
+
+// Serves clients at the node, for as long as the process is to run.
 fn serve_clients<
     P: Places + Send + Sync + 'static,
     R: Wait + Eprint + Copy + Send + Sync + Drop + 'static,
@@ -109,21 +207,60 @@ fn serve_clients<
     listen: &Address,
     doors: &mut K,
     spawner: &mut S,
-) -> Status
-    ensures ends { (result ≡ Status.Done) ⊎ (result ≡ Status.Memory) }
-    ensures closed { result ≡ Status.Done → K.closed doors.new ≡ true }
+) -> Result<Status, ServeFault>
+    ensures ends { IfOk result (λ status. status ≡ Status.Done) }
+    ensures closed { result ≡ Ok Status.Done → K.closed doors.new ≡ true }
 {
-    open_in_time(&house.rt, doors, listen);
-    let mut at = ClientDoors {
-        doors: &mut *doors,
-        address: listen,
-    };
-    let status = serve_each(&house.rt, house.alloc, &mut at, spawner, desks, u32::MAX);
-    doors.close();
-    status
+    for _ in house.rt.forever() {
+        if !open_in_time(house, doors, listen) {
+            return Err(ServeFault::Out);
+        }
+        serve_open(house, desks, listen, doors, spawner);
+        if !house.is_leaving() {
+            return end_of(house);
+        }
+        if !wait_to_stay(house) {
+            return end_left(house);
+        }
+    }
+    unreachable!()
 }
 
-// Starts the node, and serves its clients.
+// Takes letters to the node from now on, and serves its clients once it is ready.
+#[tactic(auto, using(crate::proofs::Served::served_all))]
+fn serve_ready<
+    P: Places + Send + Sync + 'static,
+    R: Wait + Eprint + Copy + Send + Sync + Drop + 'static,
+    C: DeskClock + Send + Sync + Drop + 'static,
+    X: PromptCarrier + Send + Drop + 'static,
+    K: DoorsAt,
+    S: Spawner,
+>(
+    house: &House<R, C>,
+    entry: &NodeDoor<R, C, P, X>,
+    node: NodeId,
+    desks: LaneDesks<R, C, P, X>,
+    listen: &Address,
+    doors: &mut K,
+    spawner: &mut S,
+) -> Result<Status, ServeFault>
+    ensures ends { IfOk result (λ status. (status ≡ Status.Done) ⊎ (status ≡ Status.Memory)) }
+    ensures closed { result ≡ Ok Status.Done → K.closed doors.new ≡ true }
+{
+    let Ok(desks) = Arc::new(house.alloc, desks) else {
+        return Ok(Status::Memory);
+    };
+    let Ok(own) = Arc::try_clone(&desks) else {
+        return Ok(Status::Memory);
+    };
+    entry.open(own);
+    wait_until_ready(house)?;
+    tell_ready(&house.rt, node.0);
+    serve_clients(house, &desks, listen, doors, spawner)
+}
+
+// Starts the node that this member is, and serves its clients.
+#[tactic(auto, using(crate::proofs::Served::ends_served, crate::proofs::Served::no_door_fault, crate::proofs::Served::no_spawn_fault))]
 fn serve_member<
     P: Places + Send + Sync + 'static,
     R: Wait + Eprint + Copy + Send + Sync + Drop + 'static,
@@ -134,37 +271,35 @@ fn serve_member<
 >(
     house: &Arc<House<R, C>>,
     entry: &NodeDoor<R, C, P, Passage<R, C, E::Dialer>>,
-    node: NodeId,
+    sending: &mut Sending,
+    part: Part,
     member: Member<R, C, P>,
     listen: &Address,
     dialers: &E,
-    sending: &mut Sending,
     doors: &mut K,
     spawner: &mut S,
-) -> Status
-    ensures ends { EndsServe result }
-    ensures closed { result ≡ Status.Done → K.closed doors.new ≡ true }
-    ensures no_door_fault { result ≡ Status.DoorFault → ⊥ }
-    ensures spawn_fault { result ≡ Status.SpawnFault → Rose (S.faults spawner.old) (S.faults spawner.new) }
+) -> Result<Status, ServeFault>
+    ensures ends { IfOk result EndsServe }
+    ensures closed { result ≡ Ok Status.Done → K.closed doors.new ≡ true }
+    ensures no_door_fault { result ≡ Ok Status.DoorFault → ⊥ }
+    ensures spawn_fault { result ≡ Ok Status.SpawnFault → Rose (S.faults spawner.old) (S.faults spawner.new) }
 {
-    let desks = match start_node(house, dialers, sending, spawner, member, node) {
-        Ok(desks) => desks,
-        Err(fault) => return fault.status(),
-    };
-    let Ok(desks) = Arc::new(house.alloc, desks) else {
-        return Status::Memory;
-    };
-    let Ok(own) = Arc::try_clone(&desks) else {
-        return Status::Memory;
-    };
-    entry.open(own);
-    stand(&**house, node);
-    tell_ready(&house.rt, node.0);
-    serve_clients(&**house, &desks, listen, doors, spawner)
+    match start_node(house, part, dialers, sending, spawner, member, listen) {
+        Ok(desks) => serve_ready(
+            &**house,
+            entry,
+            part.number(),
+            desks,
+            listen,
+            doors,
+            spawner,
+        ),
+        Err(fault) => Ok(fault.status()),
+    }
 }
 
-// Makes the node of these shards, and serves its clients.
-fn serve_node<
+// Starts the node that was made, if it was, and serves its clients.
+fn serve_made<
     P: Places + Send + Sync + 'static,
     R: Wait + Eprint + Copy + Send + Sync + Drop + 'static,
     C: DeskClock + Send + Sync + Drop + 'static,
@@ -173,43 +308,226 @@ fn serve_node<
     S: Spawner,
 >(
     house: &Arc<House<R, C>>,
-    clock: Arc<C>,
     entry: &NodeDoor<R, C, P, Passage<R, C, E::Dialer>>,
-    place: u8,
-    founded: Founded,
-    serving: Serving<'_>,
-    dialers: &E,
     sending: &mut Sending,
+    part: Part,
+    made: Result<Member<R, C, P>, Memory>,
+    listen: &Address,
+    dialers: &E,
     doors: &mut K,
     spawner: &mut S,
-) -> Status
-    requires named { node_names P.places founded.node ≡ names_of founded }
-    requires place { place < length (arc_value house.now).identity.hosts }
-    ensures ends { EndsServe result }
-    ensures closed { result ≡ Status.Done → K.closed doors.new ≡ true }
-    ensures no_door_fault { result ≡ Status.DoorFault → ⊥ }
-    ensures spawn_fault { result ≡ Status.SpawnFault → Rose (S.faults spawner.old) (S.faults spawner.new) }
+) -> Result<Status, ServeFault>
+    ensures ends { IfOk result EndsServe }
+    ensures closed { result ≡ Ok Status.Done → K.closed doors.new ≡ true }
+    ensures no_door_fault { result ≡ Ok Status.DoorFault → ⊥ }
+    ensures spawn_fault { result ≡ Ok Status.SpawnFault → Rose (S.faults spawner.old) (S.faults spawner.new) }
 {
-    let group = founding_group(&house.identity, serving.workers);
-    let node = NodeId(u16::from(place));
-    match Member::<R, C, P>::new(house.rt, house.alloc, clock, founded, place, &group) {
+    match made {
         Ok(member) => serve_member(
-            house,
-            entry,
-            node,
-            member,
-            serving.listen,
-            dialers,
-            sending,
-            doors,
-            spawner,
+            house, entry, sending, part, member, listen, dialers, doors, spawner,
         ),
-        Err(_) => Status::Memory,
+        Err(_) => Ok(Status::Memory),
     }
 }
 
-// Starts the process, waits until its group is open, and serves the clients of its node, of which these are the shards.
+// Makes the node of these shards, and serves its clients. What the process has of its own is let go of at one place.
 fn serve_founded<
+    P: Places + Send + Sync + 'static,
+    R: Wait + Eprint + Copy + Send + Sync + Drop + 'static,
+    C: DeskClock + Send + Sync + Drop + 'static,
+    E: Dialers,
+    K: DoorsAt,
+    S: Spawner,
+>(
+    house: &Arc<House<R, C>>,
+    started: Started<R, C, P, Passage<R, C, E::Dialer>>,
+    part: Part,
+    group: &Group,
+    clock: Arc<C>,
+    founded: Founded,
+    listen: &Address,
+    dialers: &E,
+    doors: &mut K,
+    spawner: &mut S,
+) -> Result<Status, ServeFault>
+    requires named { node_names P.places founded.node ≡ names_of founded }
+    ensures ends { IfOk result EndsServe }
+    ensures closed { result ≡ Ok Status.Done → K.closed doors.new ≡ true }
+    ensures no_door_fault { result ≡ Ok Status.DoorFault → ⊥ }
+    ensures spawn_fault { result ≡ Ok Status.SpawnFault → Rose (S.faults spawner.old) (S.faults spawner.new) }
+{
+    let Started {
+        entry,
+        mut sending,
+        tickets: _tickets,
+    } = started;
+    let made = new_member::<R, C, P>(&**house, clock, founded, group);
+    serve_made(
+        house,
+        &*entry,
+        &mut sending,
+        part,
+        made,
+        listen,
+        dialers,
+        doors,
+        spawner,
+    )
+}
+
+// What a process has of its own once it is started, and what its node is founded with.
+#[derive(Drop)]
+struct Started<R: Wait + Drop, C: Drop, P: Places, X: Drop> {
+    entry: Arc<NodeDoor<R, C, P, X>>,
+    sending: Sending,
+    tickets: Arc<Tickets>,
+}
+
+// The door to a node that is not there yet.
+fn new_entry<R: Wait + Copy + Drop, C: Drop, P: Places, X: Drop>(
+    house: &House<R, C>,
+) -> Result<Arc<NodeDoor<R, C, P, X>>, Memory> {
+    Ok(Arc::new(house.alloc, NodeDoor::new(house.rt))?)
+}
+
+fn new_tickets(alloc: Global) -> Result<Arc<Tickets>, Memory> {
+    Ok(Arc::new(alloc, Tickets::new())?)
+}
+
+// Starts the process.
+fn start_process<
+    P: Places + Send + Sync + 'static,
+    R: Wait + Eprint + Copy + Send + Sync + Drop + 'static,
+    C: DeskClock + Send + Sync + Drop + 'static,
+    F: LogFile + Send + Drop + 'static,
+    E: Dialers,
+    D: DoorsAt + Send + Drop + 'static,
+    X: Random + Send + Drop + 'static,
+    S: Spawner,
+>(
+    house: &Arc<House<R, C>>,
+    manager: Option<HostManager<F>>,
+    inside: Inside<D, X>,
+    dialers: &E,
+    spawner: &mut S,
+) -> Result<Started<R, C, P, Passage<R, C, E::Dialer>>, StartFault>
+    requires { IfSome manager (λ m. m.place < length (arc_value house.now).identity.hosts) }
+    ensures { Starts (S.faults spawner.old) (S.faults spawner.new) result }
+{
+    let mut sending = Sending::new(house.alloc)?;
+    let entry = new_entry::<R, C, P, Passage<R, C, E::Dialer>>(&**house)?;
+    let tickets = new_tickets(house.alloc)?;
+    start_host(
+        house,
+        &entry,
+        manager,
+        inside,
+        dialers,
+        &mut sending,
+        spawner,
+    )?;
+    Ok(Started {
+        entry,
+        sending,
+        tickets,
+    })
+}
+
+// The shards of a founder over these cells, at which nothing happened yet. They have no lease, so nothing is answered of them before the managers grant one.
+#[tactic(auto, using(crate::proofs::Served::is_numbered))]
+fn found_first<R: Wait + Drop, C: Drop>(
+    house: &House<R, C>,
+    cells: NodeCells,
+    view: &View,
+    group: &Group,
+    place: u8,
+    tickets: Arc<Tickets>,
+) -> Result<Founded, Memory>
+    requires group { IsGroup group.now }
+    requires view { view.now ≡ first_view group.now.nodes }
+    ensures node { IfOk result (λ founded. founded.node.0 < 65536) }
+    ensures cells { IfOk result (λ founded. names_of founded ≡ names_of_cells group.now.skew cells) }
+{
+    if place >= group.nodes {
+        return Err(Memory);
+    }
+    found_without_lease(&house.rt, house.alloc, cells, view, group, place, tickets)
+}
+
+// The shards of the node over these cells, at which nothing happened yet.
+#[tactic(auto, using(crate::proofs::Served::is_numbered))]
+fn found<R: Wait + Drop, C: Drop>(
+    house: &House<R, C>,
+    cells: NodeCells,
+    view: &View,
+    group: &Group,
+    part: Part,
+    tickets: Arc<Tickets>,
+) -> Result<Founded, Memory>
+    requires group { IsGroup group.now }
+    requires view { view.now ≡ first_view group.now.nodes }
+    ensures node { IfOk result (λ founded. founded.node.0 < 65536) }
+    ensures cells { IfOk result (λ founded. names_of founded ≡ names_of_cells group.now.skew cells) }
+{
+    match part {
+        Part::Founder(place) => found_first(house, cells, view, group, place, tickets),
+        Part::Joiner(node) => { found_joiner(&house.rt, house.alloc, cells, group, node, tickets) }
+    }
+}
+
+// Founds the node over these cells, and serves its clients.
+fn serve_part<
+    P: Places + Send + Sync + 'static,
+    R: Wait + Eprint + Copy + Send + Sync + Drop + 'static,
+    C: DeskClock + Send + Sync + Drop + 'static,
+    E: Dialers,
+    K: DoorsAt,
+    S: Spawner,
+>(
+    house: &Arc<House<R, C>>,
+    cells: NodeCells,
+    started: Started<R, C, P, Passage<R, C, E::Dialer>>,
+    part: Part,
+    serving: Serving<'_>,
+    dialers: &E,
+    doors: &mut K,
+    spawner: &mut S,
+) -> Result<Status, ServeFault>
+    requires places { AreForAny P.places (names_of_cells (arc_value house.now).identity.skew cells) }
+    ensures ends { IfOk result EndsServe }
+    ensures closed { result ≡ Ok Status.Done → K.closed doors.new ≡ true }
+    ensures no_door_fault { result ≡ Ok Status.DoorFault → ⊥ }
+    ensures spawn_fault { result ≡ Ok Status.SpawnFault → Rose (S.faults spawner.old) (S.faults spawner.new) }
+{
+    let group = founding_group(&house.identity, serving.workers);
+    let Ok(view) = first_view(house.alloc, group.nodes) else {
+        return Ok(Status::Memory);
+    };
+    let Ok(tickets) = Arc::try_clone(&started.tickets) else {
+        return Ok(Status::Memory);
+    };
+    let Ok(clock) = Arc::try_clone(&house.clock) else {
+        return Ok(Status::Memory);
+    };
+    match found(&**house, cells, &view, &group, part, tickets) {
+        Ok(founded) => serve_founded(
+            house,
+            started,
+            part,
+            &group,
+            clock,
+            founded,
+            serving.listen,
+            dialers,
+            doors,
+            spawner,
+        ),
+        Err(_) => Ok(Status::Memory),
+    }
+}
+
+// Starts the process, waits until it has a number in its group, and serves the clients of its node.
+fn serve_process<
     P: Places + Send + Sync + 'static,
     R: Wait + Eprint + Copy + Send + Sync + Drop + 'static,
     C: DeskClock + Send + Sync + Drop + 'static,
@@ -221,81 +539,43 @@ fn serve_founded<
     S: Spawner,
 >(
     house: &Arc<House<R, C>>,
-    founded: Founded,
-    place: u8,
-    manager: ManagerStart<F>,
+    cells: NodeCells,
+    manager: Option<HostManager<F>>,
     inside: Inside<D, X>,
     dialers: &E,
     serving: Serving<'_>,
     doors: &mut K,
     spawner: &mut S,
-) -> Result<Status, LostTail>
-    requires named { node_names P.places founded.node ≡ names_of founded }
-    requires place { place < length (arc_value house.now).identity.hosts }
+) -> Result<Status, ServeFault>
+    requires manager { IfSome manager (λ m. m.place < length (arc_value house.now).identity.hosts) }
+    requires places { AreForAny P.places (names_of_cells (arc_value house.now).identity.skew cells) }
     ensures ends { IfOk result EndsServe }
     ensures closed { result ≡ Ok Status.Done → K.closed doors.new ≡ true }
     ensures no_door_fault { result ≡ Ok Status.DoorFault → ⊥ }
     ensures spawn_fault { result ≡ Ok Status.SpawnFault → Rose (S.faults spawner.old) (S.faults spawner.new) }
 {
-    let Ok(mut sending) = Sending::new(house.alloc) else {
-        return Ok(Status::Memory);
+    let started = match start_process::<P, R, C, F, E, D, X, S>(
+        house, manager, inside, dialers, spawner,
+    ) {
+        Ok(started) => started,
+        Err(fault) => return Ok(fault.status()),
     };
-    let entry = NodeDoor::<R, C, P, Passage<R, C, E::Dialer>>::new(house.rt);
-    let Ok(entry) = Arc::new(house.alloc, entry) else {
-        return Ok(Status::Memory);
-    };
-    let started = start_host(
-        house,
-        &entry,
-        place,
-        manager,
-        inside,
-        dialers,
-        &mut sending,
-        spawner,
-    );
-    if let Err(fault) = started {
-        return Ok(fault.status());
+    match wait_for_part(&**house) {
+        Ok(part) => serve_part(
+            house, cells, started, part, serving, dialers, doors, spawner,
+        ),
+        Err(fault) => Err(fault),
     }
-    wait_until_founder(&**house, NodeId(u16::from(place)))?;
-    let Ok(clock) = Arc::try_clone(&house.clock) else {
-        return Ok(Status::Memory);
-    };
-    let status = serve_node(
-        house,
-        clock,
-        &*entry,
-        place,
-        founded,
-        serving,
-        dialers,
-        &mut sending,
-        doors,
-        spawner,
-    );
-    Ok(status)
 }
 
-// The shards of this host's node, should it be a founder: without a lease, so nothing is answered of them before the managers grant one.
-fn found<R: Wait + Drop, C: Drop>(
-    house: &House<R, C>,
-    group: &Group,
-    place: u8,
-) -> Result<Founded, Memory>
-    requires group { IsGroup group.now }
-    requires place { place < group.now.nodes }
-{
-    let tickets = Arc::new(house.alloc, Tickets::new())?;
-    let view = first_view(house.alloc, group.nodes)?;
-    found_without_lease(&house.rt, house.alloc, &view, group, place, &tickets)
-}
-
-/// Runs a process of a group over hosts: this host's manager, what connects it to the other processes, and, once its group is open, its node, which serves clients
-/// at `doors`. `place` is this host's, which the identity has too.
+/// Runs a process of a group over hosts: this host's manager, if it has one, what connects it to the other processes, and, once its group is open, its node, which serves
+/// clients at `doors`. The place of the manager is that of the identity. The node is a founder, where the group was founded with this process; else it asks for a number,
+/// joins, and serves clients once it has copied all that the others have.
 ///
-/// It returns where it can't go on, or where more connections were taken than are counted: Memory, where there was none to make all this; DoorFault, where the
-/// clients' address can't be opened as it begins; SpawnFault, where one of its own jobs got no thread. Later on nothing of that ends it: a connection that gets no
-/// job is closed, and a port that somebody else took in between is tried again each second. It fails where the log of the manager is told to have lost records.
+/// It returns where it can't go on, where its node has left the group, as somebody wanted, or where more connections were taken than are counted: Memory, where there was
+/// none to make all this; DoorFault, where the clients' address can't be opened as it begins; SpawnFault, where one of its own jobs got no thread. Later on nothing of
+/// that ends it: a connection that gets no job is closed, and a port that somebody else took in between is tried again each second. It fails where the log of the manager
+/// is told to have lost records, and where the node was left out otherwise, or its group is no more: whoever ran it starts it again.
 pub fn serve_host<
     R: Wait + Eprint + Copy + Send + Sync + Drop + 'static,
     C: DeskClock + Send + Sync + Drop + 'static,
@@ -310,15 +590,14 @@ pub fn serve_host<
     alloc: Global,
     clock: Arc<C>,
     identity: Identity,
-    place: u8,
-    manager: ManagerStart<F>,
+    manager: Option<HostManager<F>>,
     inside: Inside<D, X>,
     dialers: &E,
     serving: Serving<'_>,
     doors: &mut K,
     spawner: &mut S,
-) -> Result<Status, LostTail>
-    requires { place < length identity.hosts }
+) -> Result<Status, ServeFault>
+    requires { IfSome manager (λ m. m.place < length identity.hosts) }
     ensures ends { IfOk result EndsServe }
     ensures closed { result ≡ Ok Status.Done → K.closed doors.new ≡ true }
     ensures door_fault { result ≡ Ok Status.DoorFault → Rose (K.faults doors.old) (K.faults doors.new) }
@@ -330,11 +609,10 @@ pub fn serve_host<
     if !can_open(doors, serving.listen) {
         return Ok(Status::DoorFault);
     }
-    let group = founding_group(&house.identity, serving.workers);
-    let Ok(founded) = found(&*house, &group, place) else {
-        return Ok(Status::Memory);
-    };
-    serve_founded::<Brand, R, C, F, E, D, X, K, S>(
-        &house, founded, place, manager, inside, dialers, serving, doors, spawner,
-    )
+    match NodeCells::new(&rt, alloc) {
+        Ok(cells) => serve_process::<Brand, R, C, F, E, D, X, K, S>(
+            &house, cells, manager, inside, dialers, serving, doors, spawner,
+        ),
+        Err(_) => Ok(Status::Memory),
+    }
 }

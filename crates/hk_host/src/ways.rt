@@ -2,7 +2,7 @@
 
 ghost use Rattle.std.specs.Prelude.{◌≡◌, ◌≤◌, ◌<◌, ◌+◌, length, IfOk, OnOk};
 
-use hk_base::{Actor, Memory, NodeId, Sequence};
+use hk_base::{Actor, Memory, Sequence};
 use hk_group::Way;
 use hk_link::{Bell, Inlet, Outlet, link};
 use hk_overseer::Outlets;
@@ -48,20 +48,10 @@ impl ManagerWays {
         Ok(())
     }
 
-    // One more to each of so many nodes.
-    fn add_nodes(&mut self, alloc: Global, nodes: u8) -> Result<(), Memory>
-        ensures { OnOk result (length self.new.ways.items ≡ length self.old.ways.items + nodes) }
-    {
-        for number in 0..nodes {
-            self.add(alloc, Actor::Node(NodeId(u16::from(number))))?;
-        }
-        Ok(())
-    }
-
-    /// From the manager of this place to each other manager, and to the node of each host.
+    /// From the manager of this place to each other manager.
     pub(crate) fn new(alloc: Global, place: u8, managers: u8) -> Result<ManagerWays, Memory>
         requires { place < managers }
-        ensures { IfOk result (λ made. length made.ways.items + 1 ≡ managers + managers) }
+        ensures { IfOk result (λ made. length made.ways.items + 1 ≡ managers) }
     {
         let mut made = ManagerWays {
             outlets: Sequence::new(alloc),
@@ -69,7 +59,6 @@ impl ManagerWays {
         };
         made.add_managers(alloc, 0, place)?;
         made.add_managers(alloc, place + 1, managers)?;
-        made.add_nodes(alloc, managers)?;
         Ok(made)
     }
 }

@@ -8,7 +8,8 @@ use crate::files::secret_of;
 use crate::node::run_node;
 use hk_host_words::{GroupWords, HostCommand, NodeWords};
 use hk_hosts::{Address, Random, SystemRandom};
-use hk_init::{CommandFault, init, put_fault, status};
+use hk_init::{CommandFault, init, leave, put_fault, status};
+use hk_inside::Leaver;
 use hk_outside::{Sink, Status};
 use std::alloc::Global;
 use std::fs::{File, Files};
@@ -158,6 +159,23 @@ fn tell_status<
     Ok(tell(&rt, alloc, asker.hosts(), told))
 }
 
+// The command `leave`.
+fn make_leave<
+    R: Wait
+        + Net<Listener = TcpListener, Stream = TcpStream>
+        + Files<File = File>
+        + std::rt::Clock
+        + Eprint
+        + Copy
+        + Drop,
+    K: Sink,
+>(rt: R, alloc: Global, group: GroupWords, who: Leaver, sink: &mut K) -> Result<u8, HostEnd> {
+    let count = group.hosts.len();
+    let mut asker = asker_of(rt, alloc, group)?;
+    let told = leave(alloc, &mut asker, count, who, sink);
+    Ok(tell(&rt, alloc, asker.hosts(), told))
+}
+
 // The number that another command ends with.
 fn number_told<R: Eprint>(rt: &R, told: Result<u8, HostEnd>) -> u8 {
     match told {
@@ -186,9 +204,8 @@ pub fn perform<
         HostCommand::Node(words) => number_of(&rt, node(rt, alloc, words)),
         HostCommand::Init(group) => number_told(&rt, found(rt, alloc, group, sink)),
         HostCommand::Status(group) => number_told(&rt, tell_status(rt, alloc, group, sink)),
-        HostCommand::Leave { .. } => {
-            let _ = eprintln!(rt; "hermes: leave: a node can't leave its group yet");
-            HostEnd::NoCommand.number()
+        HostCommand::Leave { group, who } => {
+            number_told(&rt, make_leave(rt, alloc, group, who, sink))
         }
     }
 }

@@ -12,6 +12,9 @@ pub enum HostEnd {
     /// As any command ends.
     #[error("{0}")]
     Plain(Status),
+    /// The node was left out of the view, or its group is no more.
+    #[error("left out of the view; start again")]
+    Out,
     /// The log of the manager can't be taken up.
     #[error("{0}")]
     Log(BeginFault),
@@ -33,16 +36,14 @@ pub enum HostEnd {
     /// The system gives no random bytes.
     #[error("no random bytes can be had")]
     NoRandomness,
-    /// The command is not there.
-    #[error("is no command yet")]
-    NoCommand,
 }
 
 impl HostEnd {
-    /// The number that the process ends with: 0 to 9 as any command's, 11 for its log, 12 where it is refused, 13 where a host does not answer.
+    /// The number that the process ends with: 0 to 9 as any command's, 10 where its node was left out, 11 for its log, 12 where it is refused, 13 where a host does not answer.
     pub fn number(&self) -> u8 {
         match self {
             HostEnd::Plain(status) => status.number(),
+            HostEnd::Out => 10,
             HostEnd::Log(BeginFault::Memory) => Status::Memory.number(),
             HostEnd::Log(_) => 11,
             HostEnd::LostTail => 11,
@@ -51,7 +52,6 @@ impl HostEnd {
             HostEnd::Unreachable => 13,
             HostEnd::Shut => Status::DoorFault.number(),
             HostEnd::NoRandomness => Status::SpawnFault.number(),
-            HostEnd::NoCommand => Status::Usage.number(),
         }
     }
 }

@@ -1,6 +1,6 @@
 //! The command `node`.
 
-ghost use Rattle.std.specs.Prelude.{◌≤◌, ◌<◌, IfOk, IfSome};
+ghost use Rattle.std.specs.Prelude.{◌≡◌, ◌≤◌, ◌<◌, true, length, IfOk, IfSome};
 ghost use Rattle.hk_base.specs.View.{IsView};
 
 use crate::end::HostEnd;
@@ -10,7 +10,7 @@ use hk_base::{MAX_TIME, Memory, View};
 use hk_disk::DiskFile;
 use hk_fields::Ticket;
 use hk_group::first_view;
-use hk_host::{Dialers, Inside, Serving, serve_host};
+use hk_host::{Dialers, HostManager, Inside, ServeFault, Serving, serve_host};
 use hk_host_words::NodeWords;
 use hk_hosts::{Address, DoorsAt, HostDialer, HostDoors, Random, SystemRandom};
 use hk_house::{Identity, copy_of};
@@ -127,6 +127,100 @@ fn manager_of<R: Eprint>(
     }
 }
 
+// The log of a manager, which no other process has, and by which terms that goes.
+#[derive(Drop)]
+struct HeldLog {
+    terms: Terms,
+    file: DiskFile,
+    path: String,
+    ghost few: { terms.managers ≤ 9 },
+    ghost place_is: { terms.place < terms.managers },
+}
+
+// The log of this host's manager, if it has one.
+fn held_log<R: Files<File = File> + Eprint>(
+    rt: &R,
+    alloc: Global,
+    words: &NodeWords,
+) -> Result<Option<HeldLog>, HostEnd> {
+    let Some(place) = words.at else {
+        return Ok(None);
+    };
+    let Some(terms) = terms_of(words, place) else {
+        return Err(HostEnd::Refused);
+    };
+    let (file, path) = log_of(rt, alloc, words)?;
+    Ok(Some(HeldLog { terms, file, path }))
+}
+
+// The manager of this host, if it has one, and the path of its log.
+#[derive(Drop)]
+struct LoggedManager {
+    manager: Option<HostManager<DiskFile>>,
+    path: String,
+}
+
+// The manager of this host by the log that it holds, if it has one.
+fn logged_manager<R: Eprint>(
+    rt: &R,
+    alloc: Global,
+    held: Option<HeldLog>,
+    tickets: HostTickets,
+    now: u64,
+) -> Result<LoggedManager, HostEnd> {
+    let Some(held) = held else {
+        return Ok(LoggedManager {
+            manager: None,
+            path: String::new(alloc),
+        });
+    };
+    let HeldLog { terms, file, path } = held;
+    let start = manager_of(rt, alloc, terms, file, &path, tickets, now)?;
+    let manager = HostManager {
+        place: terms.place,
+        start,
+    };
+    Ok(LoggedManager {
+        manager: Some(manager),
+        path,
+    })
+}
+
+// Whether the place of the manager is one of the group.
+fn has_place(identity: &Identity, manager: &Option<HostManager<DiskFile>>) -> bool
+    ensures { result ≡ true → IfSome manager.now (λ m. m.place < length identity.now.hosts) }
+{
+    match manager {
+        Some(manager) => manager.place < identity.managers(),
+        None => true,
+    }
+}
+
+// How a process ends that served so. What no status of a command says is told.
+fn told_end<R: Eprint>(
+    rt: &R,
+    alloc: Global,
+    listen: &Address,
+    log: &str,
+    served: Result<Status, ServeFault>,
+) -> Result<Status, HostEnd> {
+    let status = match served {
+        Ok(status) => status,
+        Err(ServeFault::LostTail(lost)) => {
+            let _ = eprintln!(rt; "hermes: {log} {lost}");
+            return Err(HostEnd::LostTail);
+        }
+        Err(ServeFault::Out) => {
+            let _ = eprintln!(rt; "hermes: left out of the view; start again");
+            return Err(HostEnd::Out);
+        }
+    };
+    if status == Status::DoorFault {
+        return Err(tell_shut(rt, alloc, listen));
+    }
+    Ok(status)
+}
+
 /// Runs a process of a group, for as long as it can.
 pub(crate) fn run_node<
     R: Threads
@@ -142,25 +236,17 @@ pub(crate) fn run_node<
         + Drop
         + 'static,
 >(rt: R, alloc: Global, words: NodeWords, secret_path: &str) -> Result<Status, HostEnd> {
-    let Some(place) = words.at else {
-        let _ = eprintln!(rt;
-            "hermes: node: --at is not given, and a host without a manager can't join yet"
-        );
-        return Err(HostEnd::NoCommand);
-    };
-    let Some(terms) = terms_of(&words, place) else {
-        return Err(HostEnd::Refused);
-    };
     let secret = secret_of(&rt, alloc, secret_path)?;
     // The clock begins once the log is held: behind all that a process before this one has granted.
-    let (file, path) = log_of(&rt, alloc, &words)?;
+    let held = held_log(&rt, alloc, &words)?;
     let clock = Arc::new(alloc, SteadyClock::new(rt)).or(Err(Memory))?;
     let mut random = SystemRandom::new(rt);
     let tickets = HostTickets {
         manager: draw(&mut random)?,
         node: draw(&mut random)?,
     };
-    let manager = manager_of(&rt, alloc, terms, file, &path, tickets, clock.now())?;
+    let logged = logged_manager(&rt, alloc, held, tickets, clock.now())?;
+    let LoggedManager { manager, path } = logged;
     let mut doors = HostDoors::new(rt, alloc);
     if doors.open(&words.inside).is_err() {
         return Err(tell_shut(&rt, alloc, &words.inside));
@@ -169,7 +255,7 @@ pub(crate) fn run_node<
     let listen = copy_of(alloc, &words.listen).ok_or(Memory)?;
     let workers = words.workers;
     let identity = Identity::new(alloc, words, secret, tickets.node)?;
-    if place >= identity.managers() {
+    if !has_place(&identity, &manager) {
         return Err(HostEnd::Refused);
     }
     let served = serve_host(
@@ -177,7 +263,6 @@ pub(crate) fn run_node<
         alloc,
         clock,
         identity,
-        place,
         manager,
         inside,
         &TcpDialers { rt, alloc },
@@ -188,15 +273,5 @@ pub(crate) fn run_node<
         &mut HostDoors::new(rt, alloc),
         &mut LooseSpawner::new(rt),
     );
-    let status = match served {
-        Ok(status) => status,
-        Err(lost) => {
-            let _ = eprintln!(rt; "hermes: {path} {lost}");
-            return Err(HostEnd::LostTail);
-        }
-    };
-    if status == Status::DoorFault {
-        return Err(tell_shut(&rt, alloc, &listen));
-    }
-    Ok(status)
+    told_end(&rt, alloc, &listen, &path, served)
 }

@@ -6,3 +6,6 @@ mod Answering
 mod Confirming
 mod Joining
 mod Reserving
+mod Rounds
+mod Finding
+mod Numbers

@@ -8,7 +8,7 @@ use Rattle.hk_inside.specs.declared.inquiry.Inquiry.{Inquiry}
 use Rattle.hk_inside.specs.declared.inquiry.Inquiry.TheVariants as inquiry
 use Rattle.hk_inside.specs.declared.response.ManagerState.{ManagerState}
 use Rattle.hk_init.specs.declared.fault.CommandFault.{CommandFault}
-use Rattle.hk_init.specs.declared.fault.CommandFault.TheVariants.{Memory, WriteFault, Unreachable, Denied, Refused, OtherLease, NoNode, Late, NotOpen}
+use Rattle.hk_init.specs.declared.fault.CommandFault.TheVariants.{Memory, WriteFault, Unreachable, Denied, Refused, OtherLease, NoNode, Late, NotOpen, UnknownNode, StillMember}
 use Rattle.hk_init.specs.declared.opens.TheConstants.{REST, ROUNDS}
 use Rattle.hk_init.specs.Deeds.{Outcome, Deed, Exchange, Reading, Rest, exchanges_from, exchanges}
 use Rattle.hk_init.specs.Phases.{stood, Looks, Agrees, in_time, founds_from, all_took, Founds, AllTell, Waits, Opens}
@@ -70,6 +70,8 @@ opens_quiet words count deeds (Err (Refused text)) opens = absurd opens
 opens_quiet words count deeds (Err (OtherLease place)) opens = absurd opens
 opens_quiet words count deeds (Err NoNode) opens = absurd opens
 opens_quiet words count deeds (Err Late) opens = absurd opens
+opens_quiet words count deeds (Err (UnknownNode place)) opens = absurd opens
+opens_quiet words count deeds (Err StillMember) opens = absurd opens
 
 -- a deed that is FOUND stands behind all of those that are not
 passes : (quiet behind front back : List Deed) (deed : Deed) → NoFound quiet → is_found deed ≡ true → quiet ++ behind ≡ front ++ deed ∷ back →

@@ -3,7 +3,7 @@ use Rattle.std.specs.Prelude.{ℕ}
 use Rattle.hk_init.specs.declared.fault.NoAnswer.{NoAnswer}
 use Rattle.hk_init.specs.declared.fault.NoAnswer.TheVariants as asks
 use Rattle.hk_init.specs.declared.fault.CommandFault.{CommandFault}
-use Rattle.hk_init.specs.declared.fault.CommandFault.TheVariants.{Memory, WriteFault, Unreachable, Denied, Refused, OtherLease, NoNode, Late, NotOpen}
+use Rattle.hk_init.specs.declared.fault.CommandFault.TheVariants.{Memory, WriteFault, Unreachable, Denied, Refused, OtherLease, NoNode, Late, NotOpen, UnknownNode, StillMember}
 
 -- the number that the process ends with: 12 where the group refuses, 13 where a host can't be had
 abbrev pub number_of_fault : CommandFault → ℕ
@@ -16,6 +16,8 @@ number_of_fault (OtherLease place) = 12
 number_of_fault NoNode = 12
 number_of_fault Late = 12
 number_of_fault (NotOpen place) = 13
+number_of_fault (UnknownNode place) = 12
+number_of_fault StillMember = 12
 
 -- the host of a place told no answer
 abbrev pub not_asked : ℕ → NoAnswer → CommandFault

@@ -2,6 +2,8 @@ pub mod Faults
 pub mod Deeds
 pub mod Phases
 pub mod Init
+pub mod HostNodes
+pub mod Leaving
 pub mod Lines
 pub mod Texts
 pub mod Laws

@@ -5,7 +5,7 @@ use Rattle.hk_hello.specs.declared.refusal.HelloRefusal.TheVariants.{AnotherSecr
 use Rattle.hk_hosts.specs.declared.address.Address.{Address}
 use Rattle.hk_hosts.specs.Addresses.{address_text}
 use Rattle.hk_init.specs.declared.fault.CommandFault.{CommandFault}
-use Rattle.hk_init.specs.declared.fault.CommandFault.TheVariants.{Memory, WriteFault, Unreachable, Denied, Refused, OtherLease, NoNode, Late, NotOpen}
+use Rattle.hk_init.specs.declared.fault.CommandFault.TheVariants.{Memory, WriteFault, Unreachable, Denied, Refused, OtherLease, NoNode, Late, NotOpen, UnknownNode, StillMember}
 
 abbrev pub reason_text : HelloRefusal → List ℕ
 reason_text AnotherSecret = codes "another secret"
@@ -24,6 +24,10 @@ text_of_host (Some host) = address_text host
 abbrev pub host_text : List Address → ℕ → List ℕ
 host_text hosts place = text_of_host (slice_get hosts place)
 
+-- the node of that host is not known
+abbrev pub unknown_text : List Address → ℕ → List ℕ
+unknown_text hosts place = codes "the node of " ++ (host_text hosts place ++ codes " is not known")
+
 abbrev pub fault_text : List Address → CommandFault → List ℕ
 fault_text hosts Memory = codes "no memory"
 fault_text hosts WriteFault = codes "a write failed"
@@ -34,3 +38,5 @@ fault_text hosts (OtherLease place) = host_text hosts place ++ codes " has anoth
 fault_text hosts NoNode = codes "wait"
 fault_text hosts Late = codes "wait"
 fault_text hosts (NotOpen place) = host_text hosts place ++ codes " has not opened"
+fault_text hosts (UnknownNode place) = unknown_text hosts place
+fault_text hosts StillMember = codes "still a member"

@@ -6,16 +6,19 @@ ghost use Rattle.hk_inside.specs.Messages.{IsInquiryInRange};
 ghost use Rattle.hk_inside.specs.declared.inquiry.Inquiry.TheVariants.{Status as StatusOf};
 ghost use Rattle.hk_init.specs.Deeds.{Did, Asked};
 ghost use Rattle.hk_init.specs.Phases.{Founds, Opens};
+ghost use Rattle.hk_init.specs.Leaving.{NodeLeaves, TellsLeft, LeavesBy};
 ghost use Rattle.hk_init.specs.Init.{Then, IsAgreed, IsFounding, Writes, Inits, status_in, status_of, FirstAnswers, tells_lost, without_lost, count_of, denies_lost, is_confirmed, Confirms, ShowsLost, Shows, TellsOf, TellsStatus};
 
 use crate::asking::AskHost;
 use crate::fault::{CommandFault, NoAnswer};
 use crate::founds::found_all;
-use crate::lines::{founded_line, open_words};
+use crate::leaves::leave_all;
+use crate::lines::{founded_line, left_line, open_words};
 use crate::looks::{agreed, look_at_all};
+use crate::lookup::named;
 use crate::opens::await_all;
-use hk_base::Sequence;
-use hk_inside::{Inquiry, ManagerState, Response};
+use hk_base::{NodeId, Sequence};
+use hk_inside::{Inquiry, Leaver, ManagerState, Response};
 use hk_outside::{Sink, write_all};
 use std::alloc::Global;
 
@@ -259,4 +262,52 @@ pub fn status<A: AskHost, K: Sink>(
 {
     let text = group_status(asker, count)?;
     write(sink, text.as_slice())
+}
+
+// Has the node of a number leave, and gives the line that tells so.
+fn leave_node<A: AskHost>(
+    alloc: Global,
+    asker: &mut A,
+    count: usize,
+    node: NodeId,
+) -> Result<Sequence<u8>, CommandFault>
+    ensures { Did (A.deeds asker.old) (A.deeds asker.new) (λ deeds. NodeLeaves count node deeds result) }
+{
+    let Ok(line) = left_line(alloc, u64::from(node.0)) else {
+        return Err(CommandFault::Memory);
+    };
+    let leave = Inquiry::Leave(Leaver::Node(node));
+    leave_all(asker, count, &leave)?;
+    Ok(Sequence::from_vec(line))
+}
+
+// Has a node leave, which is looked up first where it is named by its host, and gives the line that tells so.
+fn left<A: AskHost>(
+    alloc: Global,
+    asker: &mut A,
+    count: usize,
+    who: Leaver,
+) -> Result<Sequence<u8>, CommandFault>
+    ensures { Did (A.deeds asker.old) (A.deeds asker.new) (λ deeds. TellsLeft who count deeds result) }
+{
+    let node = named(asker, count, who)?;
+    leave_node(alloc, asker, count, node)
+}
+
+/// Has a node leave, at each of so many hosts, and writes `left` and its number once the managers know it as a member no more.
+/// Its process ends then. It is the one that is named; or that of a host, as the first of the hosts tells it that does: it is
+/// looked up once, so no other one is made to leave where the host is started again meanwhile. Where it can't leave at this
+/// moment, it is told why, as a manager tells it.
+pub fn leave<A: AskHost, K: Sink>(
+    alloc: Global,
+    asker: &mut A,
+    count: usize,
+    who: Leaver,
+    sink: &mut K,
+) -> Result<(), CommandFault>
+    ensures does { Did (A.deeds asker.old) (A.deeds asker.new) (λ deeds. LeavesBy who count deeds (K.held sink.old) (K.held sink.new) result) }
+    ensures failed { result ≡ Err CommandFault.WriteFault → Rose (K.faults sink.old) (K.faults sink.new) }
+{
+    let line = left(alloc, asker, count, who)?;
+    write(sink, line.as_slice())
 }

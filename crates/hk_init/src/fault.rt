@@ -42,6 +42,10 @@ pub enum CommandFault {
     Late,
     /// All managers were founded, and that of this place has not opened, as often as it was asked.
     NotOpen { place: usize },
+    /// No manager that answers tells which node the host of this place has.
+    UnknownNode { place: usize },
+    /// A node was to leave, and is a member still, as often as that was asked for.
+    StillMember,
 }
 
 impl CommandFault {
@@ -60,6 +64,8 @@ impl CommandFault {
             CommandFault::NoNode => 12,
             CommandFault::Late => 12,
             CommandFault::NotOpen { .. } => 13,
+            CommandFault::UnknownNode { .. } => 12,
+            CommandFault::StillMember => 12,
         }
     }
 

@@ -2,8 +2,10 @@
 
 ghost use Rattle.std.specs.Prelude.{◌≡◌, ◌<◌, ◌++◌, IfOk, OnOk};
 ghost use Rattle.hk_init.specs.Lines.{hex_digit, hex_byte, hex_founding, founded_line, open_words};
+ghost use Rattle.hk_init.specs.Leaving.{left_line};
 
 use hk_base::Memory;
+use itoa::Buffer;
 use std::alloc::Global;
 
 fn hex_digit(n: u8) -> u8
@@ -38,6 +40,18 @@ pub(crate) fn founded_line(alloc: Global, founding: u64) -> Result<Vec<u8>, Memo
     let mut line = Vec::new(alloc);
     line.extend_from_slice(b"founded ")?;
     put_founding(&mut line, founding)?;
+    line.push(b'\n')?;
+    Ok(line)
+}
+
+/// The line that `leave` writes, with the number that it was told.
+pub(crate) fn left_line(alloc: Global, number: u64) -> Result<Vec<u8>, Memory>
+    ensures { IfOk result (λ line. line.items ≡ left_line number) }
+{
+    let mut line = Vec::new(alloc);
+    line.extend_from_slice(b"left ")?;
+    let mut digits = Buffer::new();
+    line.extend_from_slice(digits.format(number).as_bytes())?;
     line.push(b'\n')?;
     Ok(line)
 }

@@ -1,7 +1,7 @@
 //! What the operator is told where a command does not do what it is for.
 
 ghost use Rattle.std.specs.Prelude.{◌≡◌, ◌++◌, OnOk};
-ghost use Rattle.hk_init.specs.Texts.{reason_text, host_text, fault_text};
+ghost use Rattle.hk_init.specs.Texts.{reason_text, host_text, unknown_text, fault_text};
 
 use crate::fault::CommandFault;
 use hk_base::Memory;
@@ -33,6 +33,14 @@ fn put_host(out: &mut Vec<u8>, hosts: &[Address], place: usize, words: &[u8]) ->
     Ok(())
 }
 
+// Puts that the node of the host of a place is not known, behind other bytes.
+fn put_unknown(out: &mut Vec<u8>, hosts: &[Address], place: usize) -> Result<(), Memory>
+    ensures { OnOk result (out.new.items ≡ out.old.items ++ unknown_text hosts.now place) }
+{
+    out.extend_from_slice(b"the node of ")?;
+    put_host(out, hosts, place, b" is not known")
+}
+
 /// Puts what the operator is told of a fault behind other bytes. The hosts are those of the command, by their places.
 pub fn put_fault(out: &mut Vec<u8>, hosts: &[Address], fault: &CommandFault) -> Result<(), Memory>
     ensures { OnOk result (out.new.items ≡ out.old.items ++ fault_text hosts.now fault.now) }
@@ -52,6 +60,8 @@ pub fn put_fault(out: &mut Vec<u8>, hosts: &[Address], fault: &CommandFault) -> 
         CommandFault::NoNode => out.extend_from_slice(b"wait")?,
         CommandFault::Late => out.extend_from_slice(b"wait")?,
         CommandFault::NotOpen { place } => put_host(out, hosts, *place, b" has not opened")?,
+        CommandFault::UnknownNode { place } => put_unknown(out, hosts, *place)?,
+        CommandFault::StillMember => out.extend_from_slice(b"still a member")?,
     }
     Ok(())
 }

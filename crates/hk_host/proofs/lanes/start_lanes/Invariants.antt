@@ -2,5 +2,5 @@ use Rattle.std.proofs.Common.{◌≤◌}
 use Rattle.hk_host.proofs.lanes.start_lanes.Given as goal
 
 -- the spawner's count of faults never fell
-abbrev pub invariant-loop-way : goal.invariant-loop-way
-invariant-loop-way g l = g.S.Spawner.faults l.fn.spawner ≤ g.S.Spawner.faults l.spawner
+abbrev pub invariant-loop : goal.invariant-loop
+invariant-loop g l = g.S.Spawner.faults l.fn.spawner ≤ g.S.Spawner.faults l.spawner

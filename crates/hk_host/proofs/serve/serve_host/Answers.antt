@@ -1,5 +1,5 @@
-use Rattle.hk_group.proofs.Alone.{alone_named}
+use Rattle.hk_group.proofs.Alone.{anywhere_named}
 use Rattle.hk_host.proofs.serve.serve_host.Goals as goal
 
-pub serve_founded-requires-clause-named : goal.serve_founded-requires-clause-named
-serve_founded-requires-clause-named g c κs within = alone_named c.in-Ok-found.founded
+pub serve_process-requires-clause-places : goal.serve_process-requires-clause-places
+serve_process-requires-clause-places g c κs within = anywhere_named _

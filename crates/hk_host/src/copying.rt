@@ -1,0 +1,89 @@
+//! The job that copies the rows of a shard.
+
+use hk_base::{Memory, NodeId};
+use hk_group::Copier;
+use hk_house::House;
+use hk_locked::Places;
+use hk_outside::{Clock, Job};
+use std::sync::{Arc, Wait};
+
+// Behind so many beats in which no rows came another member is asked.
+const IDLE_BEATS: u64 = 4;
+
+/// Copies the rows of a shard of this process's node from other members, and ends once it has all.
+#[derive(Drop)]
+pub(crate) struct CopyJob<R: Wait + Drop, C: Drop, P: Places> {
+    pub(crate) house: Arc<House<R, C>>,
+    pub(crate) copier: Copier<P>,
+}
+
+// Whom is asked: the members that are ready, in turn.
+fn giver_of<R: Wait + Drop, C: Drop>(
+    house: &House<R, C>,
+    turn: usize,
+) -> Result<Option<NodeId>, Memory> {
+    let guard = house.standing.lock(&house.rt);
+    let standing = &*guard;
+    let ready = standing.boards.ready_nodes(house.alloc, standing.founding)?;
+    let count = ready.len();
+    if count == 0 {
+        return Ok(None);
+    }
+    Ok(Some(ready[turn % count]))
+}
+
+// How a shard is copied so far.
+#[derive(Clone, Copy)]
+struct Course {
+    // How often another member was turned to.
+    turn: usize,
+    // The reading at which rows came last, or another member was turned to.
+    moved: u64,
+}
+
+// Asks for rows where that is to be done now. Where none came for long it turns to another member.
+fn ask<R: Wait + Drop, C: Clock + Drop, P: Places>(
+    house: &House<R, C>,
+    copier: &mut Copier<P>,
+    course: &mut Course,
+) {
+    let now = house.clock.now();
+    let lasts = house.identity.beat().saturating_mul(IDLE_BEATS);
+    let again = lasts <= now.saturating_sub(course.moved);
+    if again {
+        course.turn = course.turn.wrapping_add(1);
+        course.moved = now;
+    }
+    let Ok(Some(from)) = giver_of(house, course.turn) else {
+        return;
+    };
+    if copier.ask(&house.rt, from, again) {
+        course.moved = now;
+    }
+}
+
+impl<
+    R: Wait + Copy + Send + Sync + Drop + 'static,
+    C: Clock + Send + Sync + Drop + 'static,
+    P: Places + Send + Sync + 'static,
+> Job for CopyJob<R, C, P> {
+    fn run(self) {
+        let CopyJob { house, mut copier } = self;
+        let rt = house.rt;
+        let beat = house.identity.beat();
+        let mut course = Course {
+            turn: 0,
+            moved: house.clock.now(),
+        };
+        for _ in rt.forever() {
+            let seen = copier.seen();
+            if copier.is_whole(&rt) || house.is_out() {
+                return;
+            }
+            if copier.has_view(&rt) {
+                ask(&*house, &mut copier, &mut course);
+            }
+            copier.wait(&rt, seen, beat);
+        }
+    }
+}

@@ -1,0 +1,200 @@
+//! The job that keeps the ways from an actor to the nodes of its group.
+
+use crate::lanes::Berths;
+use crate::ways::rung_link;
+use hk_base::{Actor, Memory, NodeId};
+use hk_house::{House, rest};
+use hk_lanes::Lane;
+use hk_link::Outlet;
+use hk_outside::{Clock, Job};
+use hk_passage::AimedCarrier;
+use hk_routes::Routes;
+use std::sync::{Arc, Wait};
+
+// A way stays for so many leases behind the last board that told its node: a node that is to be left out is a member of the view before for as long as that lasts.
+const LEASES: u64 = 4;
+
+// A way to a node.
+#[derive(Drop)]
+struct OpenWay<X: Drop> {
+    node: NodeId,
+    lane: Arc<Lane<X>>,
+    // The reading at which the boards told the node last.
+    told: u64,
+}
+
+/// Opens a way to each node whose number has a holder, and ends those to others. It looks at each beat at what the boards tell.
+#[derive(Drop)]
+pub(crate) struct RouteJob<R: Wait + Drop, C: Drop, X: Drop> {
+    house: Arc<House<R, C>>,
+    // The actor that sends, if it is a node.
+    own: Option<NodeId>,
+    routes: Arc<Routes>,
+    berths: Berths<X>,
+    ways: Vec<OpenWay<X>>,
+}
+
+fn is_node(node: NodeId, other: Option<NodeId>) -> bool {
+    match other {
+        Some(other) => node.0 == other.0,
+        None => false,
+    }
+}
+
+// The nodes that boards tell.
+fn nodes_told<R: Wait + Drop, C: Drop>(house: &House<R, C>) -> Result<Vec<NodeId>, Memory> {
+    let guard = house.standing.lock(&house.rt);
+    let standing = &*guard;
+    standing.boards.nodes(house.alloc, standing.founding)
+}
+
+impl<R: Wait + Drop, C: Clock + Drop, X: AimedCarrier + Drop> RouteJob<R, C, X> {
+    /// No way is open yet. `own` is the node that sends, if it is one.
+    pub(crate) fn new(
+        house: &Arc<House<R, C>>,
+        own: Option<NodeId>,
+        routes: &Arc<Routes>,
+        berths: Berths<X>,
+    ) -> Result<RouteJob<R, C, X>, Memory> {
+        Ok(RouteJob {
+            house: Arc::try_clone(house)?,
+            own,
+            routes: Arc::try_clone(routes)?,
+            berths,
+            ways: Vec::new(house.alloc),
+        })
+    }
+
+    // The place of the way to a node, if one is open.
+    fn place_of(&self, node: NodeId) -> Option<usize> {
+        self.ways.iter().position(|way| way.node.0 == node.0)
+    }
+
+    // Notes that the boards tell the node, and gives whether a way to it is open.
+    fn is_open(&mut self, node: NodeId, now: u64) -> bool {
+        let Some(place) = self.place_of(node) else {
+            return false;
+        };
+        match self.ways.get_mut(place) {
+            Some(way) => {
+                way.told = now;
+                true
+            }
+            None => false,
+        }
+    }
+
+    fn free_lane(&self) -> Option<Arc<Lane<X>>> {
+        for lane in &self.berths.lanes {
+            if lane.is_free() {
+                return Arc::try_clone(lane).ok();
+            }
+        }
+        None
+    }
+
+    // A lane leads to the node from now on. It gives what its letters are put into.
+    fn begin(&mut self, lane: Arc<Lane<X>>, node: NodeId, now: u64) -> Result<Outlet, Memory> {
+        let alloc = self.house.alloc;
+        let (outlet, inlet) = rung_link(alloc, lane.bell())?;
+        self.ways.reserve(1)?;
+        let Some(mut carrier) = self.berths.spare.pop() else {
+            return Err(Memory);
+        };
+        carrier.aim(Actor::Node(node));
+        lane.begin(&self.house.rt, alloc, inlet, carrier);
+        self.ways.push_reserved(OpenWay {
+            node,
+            lane,
+            told: now,
+        });
+        Ok(outlet)
+    }
+
+    // Opens a way to a node, where a lane is free and there is memory for it. Else that is tried again at the next beat.
+    fn open_way(&mut self, node: NodeId, now: u64) {
+        let Some(lane) = self.free_lane() else {
+            return;
+        };
+        let Ok(outlet) = self.begin(lane, node, now) else {
+            return;
+        };
+        let to = Actor::Node(node);
+        if self.routes.add(&self.house.rt, to, outlet).is_err() {
+            self.close(node);
+        }
+    }
+
+    // Ends the way at this place, if there is one.
+    fn close_at(&mut self, place: usize) {
+        if place >= self.ways.len() {
+            return;
+        }
+        let way = self.ways.swap_remove(place);
+        let to = Actor::Node(way.node);
+        self.routes.remove(&self.house.rt, to);
+        if let Some(carrier) = way.lane.end(&self.house.rt) {
+            self.keep(carrier, to);
+        }
+    }
+
+    // Keeps what carried for a lane, for the next one. Its connection is ended.
+    fn keep(&mut self, carrier: X, to: Actor) {
+        let mut carrier = carrier;
+        carrier.aim(to);
+        let _ = self.berths.spare.push(carrier);
+    }
+
+    // Ends the way to a node.
+    fn close(&mut self, node: NodeId) {
+        if let Some(place) = self.place_of(node) {
+            self.close_at(place);
+        }
+    }
+
+    // The place of a way whose node was not told for long.
+    fn outworn(&self, now: u64) -> Option<usize> {
+        let lasts = u64::from(self.house.identity.lease).saturating_mul(LEASES);
+        self.ways
+            .iter()
+            .position(|way| lasts < now.saturating_sub(way.told))
+    }
+
+    // Ends one way whose node was not told for long. One a beat is enough.
+    fn close_outworn(&mut self, now: u64) {
+        if let Some(place) = self.outworn(now) {
+            self.close_at(place);
+        }
+    }
+
+    // What is done at a beat.
+    fn turn(&mut self) {
+        let now = self.house.clock.now();
+        let Ok(nodes) = nodes_told(&*self.house) else {
+            return;
+        };
+        for node in &nodes {
+            let node = *node;
+            if !is_node(node, self.own) && !self.is_open(node, now) {
+                self.open_way(node, now);
+            }
+        }
+        self.close_outworn(now);
+    }
+}
+
+impl<
+    R: Wait + Copy + Send + Sync + Drop + 'static,
+    C: Clock + Send + Sync + Drop + 'static,
+    X: AimedCarrier + Send + Drop + 'static,
+> Job for RouteJob<R, C, X> {
+    fn run(self) {
+        let mut routing = self;
+        let rt = routing.house.rt;
+        let beat = routing.house.identity.beat();
+        for _ in rt.forever() {
+            routing.turn();
+            rest(&rt, beat);
+        }
+    }
+}
