@@ -19,6 +19,7 @@ struct Line {
     party: Party,
     ticket: Ticket,
     mark: Mark,
+    ready: bool,
     inside: &'static [u8],
 }
 
@@ -38,6 +39,7 @@ const fn member(number: u16, ticket: Ticket, inside: &'static [u8]) -> Line {
         party: Party::Node(NodeId(number)),
         ticket,
         mark: Mark::Member,
+        ready: false,
         inside,
     }
 }
@@ -46,6 +48,7 @@ const MANAGER: Line = Line {
     party: Party::Manager(3),
     ticket: B,
     mark: Mark::Bound,
+    ready: false,
     inside: b"m",
 };
 
@@ -53,6 +56,7 @@ const NEWCOMER: Line = Line {
     party: Party::Neither,
     ticket: B,
     mark: Mark::Bound,
+    ready: false,
     inside: b"n",
 };
 
@@ -62,12 +66,14 @@ const TELLS_A: &[Line] = &[
         party: Party::Node(NodeId(9)),
         ticket: A,
         mark: Mark::ToLeave,
+        ready: false,
         inside: b"nine",
     },
     Line {
         party: Party::Node(NodeId(3)),
         ticket: A,
         mark: Mark::Bound,
+        ready: false,
         inside: b"three",
     },
     NEWCOMER,
@@ -78,12 +84,14 @@ const MOVED: &[Line] = &[
         party: Party::Node(NodeId(3)),
         ticket: A,
         mark: Mark::Member,
+        ready: false,
         inside: b"moved",
     },
     Line {
         party: Party::Node(NodeId(9)),
         ticket: A,
         mark: Mark::Out,
+        ready: false,
         inside: b"nine",
     },
 ];
@@ -92,6 +100,7 @@ const TELLS_B: &[Line] = &[Line {
     party: Party::Node(NodeId(3)),
     ticket: B,
     mark: Mark::Member,
+    ready: false,
     inside: b"other",
 }];
 
@@ -99,6 +108,7 @@ const LEFT_OUT: &[Line] = &[Line {
     party: Party::Node(NodeId(9)),
     ticket: A,
     mark: Mark::Out,
+    ready: false,
     inside: b"nine",
 }];
 
@@ -122,7 +132,7 @@ fn line_of(rt: &impl Abort, alloc: Global, line: Line) -> BoardLine {
         party: line.party,
         ticket: line.ticket,
         mark: line.mark,
-        ready: false,
+        ready: line.ready,
         inside: text_of(rt, alloc, line.inside),
     }
 }
@@ -229,6 +239,18 @@ fn boards_of_managers_that_are_not_open_tell_nothing(rt: HostRuntime) {
 }
 
 #[test]
+fn a_majority_tells_who_is_to_leave(rt: HostRuntime) {
+    let alloc = rt.alloc();
+    let mut boards = boards_of(&rt, alloc, &[board_at(0, 10, TELLS_A)]);
+    assert!(rt; !boards.is_to_leave(FOUNDING, NodeId(9), A));
+    boards.hear(2, heard_of(&rt, alloc, &board_at(2, 11, TELLS_A)));
+    assert!(rt; boards.is_to_leave(FOUNDING, NodeId(9), A));
+    assert!(rt; !boards.is_to_leave(FOUNDING, NodeId(9), B));
+    assert!(rt; !boards.is_to_leave(FOUNDING, NodeId(3), A));
+    assert!(rt; !boards.is_to_leave(8, NodeId(9), A));
+}
+
+#[test]
 fn a_majority_tells_who_is_out(rt: HostRuntime) {
     let alloc = rt.alloc();
     let boards = boards_of(
@@ -265,6 +287,69 @@ fn another_founding_is_told_by_a_majority(rt: HostRuntime) {
     };
     let boards = boards_of(&rt, alloc, &[other, not_open]);
     assert!(rt; !boards.has_another_founding(FOUNDING));
+}
+
+#[test]
+fn the_founding_is_that_with_which_a_majority_is_open(rt: HostRuntime) {
+    let alloc = rt.alloc();
+    let mut other = board_at(1, 10, &[]);
+    other.founding = 8;
+    let mut boards = boards_of(&rt, alloc, &[board_at(0, 10, &[]), other]);
+    assert_eq!(rt; boards.open_founding(), None);
+    boards.hear(2, heard_of(&rt, alloc, &board_at(2, 11, &[])));
+    assert_eq!(rt; boards.open_founding(), Some(FOUNDING));
+    let mut founded = board_at(2, 12, &[]);
+    founded.stage = Stage::Founded;
+    boards.hear(2, heard_of(&rt, alloc, &founded));
+    assert_eq!(rt; boards.open_founding(), None);
+}
+
+#[test]
+fn a_majority_tells_the_ticket_of_a_manager(rt: HostRuntime) {
+    let alloc = rt.alloc();
+    let mut boards = boards_of(&rt, alloc, &[board_at(0, 10, TELLS_A)]);
+    assert_eq!(rt; boards.manager(FOUNDING, 3), None);
+    boards.hear(2, heard_of(&rt, alloc, &board_at(2, 11, TELLS_A)));
+    assert_eq!(rt; boards.manager(FOUNDING, 3), Some(B));
+    assert_eq!(rt; boards.manager(FOUNDING, 2), None);
+    assert_eq!(rt; boards.manager(8, 3), None);
+}
+
+// The first one alone is a member that has a holder.
+const READY: &[Line] = &[
+    Line {
+        party: Party::Node(NodeId(3)),
+        ticket: A,
+        mark: Mark::ToLeave,
+        ready: true,
+        inside: b"ready",
+    },
+    Line {
+        party: Party::Node(NodeId(9)),
+        ticket: A,
+        mark: Mark::Bound,
+        ready: true,
+        inside: b"ready",
+    },
+    Line {
+        party: Party::Node(NodeId(12)),
+        ticket: B,
+        mark: Mark::Member,
+        ready: true,
+        inside: b"ready",
+    },
+];
+
+#[test]
+fn one_manager_tells_who_of_the_holders_is_ready(rt: HostRuntime) {
+    let alloc = rt.alloc();
+    let boards = boards_of(
+        &rt,
+        alloc,
+        &[board_at(0, 10, READY), board_at(1, 10, TELLS_A)],
+    );
+    let nodes = boards.ready_nodes(alloc, FOUNDING).expect(&rt, "memory");
+    assert_eq!(rt; nodes.as_slice(), [NodeId(3)].as_slice());
 }
 
 #[test]

@@ -7,6 +7,7 @@ use hk_house::{House, Inbox};
 use hk_link::link;
 use std::alloc::Global;
 use std::process::Abort;
+use std::sync::atomic::AtomicBool;
 use std::sync::{Arc, Mutex, Wait};
 
 // The second host's process, whose manager takes letters.
@@ -21,6 +22,8 @@ fn house<R: Wait + Abort + Copy + Drop>(rt: R, alloc: Global) -> House<R, u8> {
         standing: Mutex::new(open(&rt, alloc)),
         manager: Mutex::new(Some(outlet)),
         inbox,
+        is_out: AtomicBool::new(false),
+        is_leaving: AtomicBool::new(false),
     }
 }
 

@@ -13,4 +13,6 @@ mod notices;
 #[cfg(test)]
 mod outside;
 #[cfg(test)]
+mod seeking;
+#[cfg(test)]
 mod standings;

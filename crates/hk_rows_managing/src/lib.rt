@@ -4,4 +4,6 @@
 #[cfg(test)]
 mod begin;
 #[cfg(test)]
+mod relays;
+#[cfg(test)]
 mod turns;

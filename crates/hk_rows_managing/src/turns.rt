@@ -10,7 +10,7 @@ use hk_fields::FoundingHosts;
 use hk_house::Slot;
 use hk_inside::{Inquiry, Response};
 use hk_link::link;
-use hk_managing::{Begun, Cores, Gathered, ManagerStart, Seen, Unlogged, begin_manager};
+use hk_managing::{Begun, Cores, Gathered, ManagerStart, NOTHING, Seen, Unlogged, begin_manager};
 use hk_office::{Acting, Office};
 use hk_outside::HandClock;
 use hk_overseer::Outlets;
@@ -19,13 +19,14 @@ use std::process::Abort;
 use std::sync::{Arc, Wait};
 
 // The manager of a group of one host, before that is founded, and its cores.
-struct NewManager {
-    office: Office,
-    cores: Cores<FakeFile>,
+#[derive(Drop)]
+pub struct NewManager {
+    pub office: Office,
+    pub cores: Cores<FakeFile>,
 }
 
 // The calls of its file of these numbers fail: reading the log and writing its header are the calls 0 to 3.
-fn new_manager(rt: &impl Abort, alloc: Global, fails: Vec<u64>) -> NewManager {
+pub fn new_manager(rt: &impl Abort, alloc: Global, fails: Vec<u64>) -> NewManager {
     let file = FakeFile::new(Vec::new(alloc), fails, 0);
     let first = first_view(alloc).expect(rt, "memory");
     let start = begin_manager(alloc, file, TERMS, DRAWN, &first, 7).expect(rt, "a manager");
@@ -106,7 +107,7 @@ fn an_answer_waits_for_the_log(rt: HostRuntime) {
     assert!(rt; gathered.has_notes());
     let clock = Late(HandClock { at: 10_000 });
     let replies = gathered
-        .sure(&rt, alloc, &clock, &mut cores)
+        .sure(&rt, alloc, &clock, &mut cores, &NOTHING)
         .expect(&rt, "it is logged");
     assert!(rt; is_none(&waits.wait(&rt, 0)));
     replies.leave(&rt);
@@ -125,11 +126,11 @@ fn nothing_is_answered_that_is_not_logged(rt: HostRuntime) {
     let mut gathered = Gathered::new(alloc);
     let waits = found(&rt, alloc, &mut office, &mut gathered);
     let clock = Late(HandClock { at: 10_000 });
-    let sure = gathered.sure(&rt, alloc, &clock, &mut cores);
+    let sure = gathered.sure(&rt, alloc, &clock, &mut cores, &NOTHING);
     assert!(rt; matches!(sure, Err(Unlogged)));
     assert!(rt; is_none(&waits.wait(&rt, 0)));
     // it is stopped for good
-    let later = Gathered::new(alloc).sure(&rt, alloc, &clock, &mut cores);
+    let later = Gathered::new(alloc).sure(&rt, alloc, &clock, &mut cores, &NOTHING);
     assert!(rt; matches!(later, Err(Unlogged)));
     assert!(rt; !cores.is_shut());
 }

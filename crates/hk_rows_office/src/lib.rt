@@ -1,6 +1,8 @@
-//! The tests of what a manager keeps of what it is told, and when it tells that all is lost.
+//! The tests of what a manager keeps of what it is told, what it tells of nodes that asked it, and when it tells that all is lost.
 #![tactic(auto)]
 
+#[cfg(test)]
+mod asks;
 #[cfg(test)]
 mod lost;
 #[cfg(test)]

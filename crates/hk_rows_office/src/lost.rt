@@ -31,7 +31,7 @@ fn hosts(rt: &impl Abort, alloc: Global) -> FoundingHosts
 }
 
 // An open group of one host, as a process begins at reading 100 that finds its log.
-fn office(rt: &impl Abort, alloc: Global) -> Option<Office> {
+pub fn office(rt: &impl Abort, alloc: Global) -> Option<Office> {
     let logged = GroupLog {
         founding: Some(Founding {
             number: 7,
@@ -46,7 +46,7 @@ fn office(rt: &impl Abort, alloc: Global) -> Option<Office> {
     Office::begin(alloc, TERMS, TICKETS, &logged, 100).ok()
 }
 
-fn view(rt: &impl Abort, alloc: Global) -> View {
+pub fn view(rt: &impl Abort, alloc: Global) -> View {
     let mut members = Sequence::new(alloc);
     members.push(NodeId(0)).expect(rt, "memory");
     View {

@@ -222,22 +222,48 @@ fn the_most_records_are_kept(rt: HostRuntime) {
     assert_eq!(rt; reports.most_records(200), 0);
 }
 
+// Who was given a number, and somebody else.
+const OWN: Ticket = Ticket([1; 16]);
+
+const OTHER: Ticket = Ticket([2; 16]);
+
 #[test]
 fn an_address_is_seated_in_vain_for_ten_minutes(rt: HostRuntime) {
     let alloc = rt.alloc();
     let mut reports = Reports::new(alloc, 1);
-    reports.note_seated(alloc, 1000, b"d").expect(&rt, "memory");
-    reports.note_seated(alloc, 1000, b"e").expect(&rt, "memory");
-    assert!(rt; reports.was_lately_in_vain(600_999, b"d"));
-    assert!(rt; !reports.was_lately_in_vain(601_000, b"d"));
-    assert!(rt; !reports.was_lately_in_vain(1000, b"f"));
+    reports
+        .note_seated(alloc, 1000, NodeId(5), OWN, b"d")
+        .expect(&rt, "memory");
+    reports
+        .note_seated(alloc, 1000, NodeId(6), OWN, b"e")
+        .expect(&rt, "memory");
+    assert!(rt; reports.was_lately_in_vain(600_999, b"d", OTHER));
+    assert!(rt; !reports.was_lately_in_vain(601_000, b"d", OTHER));
+    assert!(rt; !reports.was_lately_in_vain(1000, b"f", OTHER));
     let ready = Told {
         inside: b'd',
         ..READY
     };
     take(&rt, alloc, &mut reports, 2000, ready);
-    assert!(rt; !reports.was_lately_in_vain(2000, b"d"));
-    assert!(rt; reports.was_lately_in_vain(2000, b"e"));
+    assert!(rt; !reports.was_lately_in_vain(2000, b"d", OTHER));
+    assert!(rt; reports.was_lately_in_vain(2000, b"e", OTHER));
+}
+
+#[test]
+fn who_loses_a_race_for_a_number_is_not_seated_in_vain(rt: HostRuntime) {
+    let alloc = rt.alloc();
+    let mut reports = Reports::new(alloc, 1);
+    reports
+        .note_seated(alloc, 1000, NodeId(5), OWN, b"d")
+        .expect(&rt, "memory");
+    // whoever was given it asks again
+    assert!(rt; !reports.was_lately_in_vain(1000, b"d", OWN));
+    assert!(rt; reports.was_lately_in_vain(1000, b"d", OTHER));
+    // another one has it
+    reports
+        .note_bound(1100, NodeId(5), OTHER)
+        .expect(&rt, "memory");
+    assert!(rt; !reports.was_lately_in_vain(1100, b"d", OTHER));
 }
 
 #[test]
@@ -246,7 +272,9 @@ fn a_keeper_hears_all_of_it(rt: HostRuntime) {
     let mut reports = Reports::new(alloc, 1);
     take(&rt, alloc, &mut reports, 49_970, READY);
     take(&rt, alloc, &mut reports, 49_000, NEWCOMER);
-    reports.note_bound(40_000, NodeId(3)).expect(&rt, "memory");
+    reports
+        .note_bound(40_000, NodeId(3), OWN)
+        .expect(&rt, "memory");
     reports
         .note_ask(49_960, 5, NodeId(1), 3)
         .expect(&rt, "memory");

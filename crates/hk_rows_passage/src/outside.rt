@@ -16,7 +16,7 @@ use hk_outside::{Clock, Connection, Failed, MemorySource, Sink, Source};
 use std::alloc::Global;
 use std::collections::VecDeque;
 use std::process::Abort;
-use std::sync::atomic::{AtomicU64, Ordering};
+use std::sync::atomic::{AtomicBool, AtomicU64, Ordering};
 use std::sync::{Arc, Mutex, Wait};
 
 pub const SECRET: &[u8] = b"correct horse battery";
@@ -114,6 +114,8 @@ pub fn house<R: Wait + Abort + Copy + Drop>(
         standing: Mutex::new(standing(&rt, alloc)),
         manager: Mutex::new(manager),
         inbox: Inbox::new(alloc).expect(&rt, "memory"),
+        is_out: AtomicBool::new(false),
+        is_leaving: AtomicBool::new(false),
     };
     Arc::new(alloc, house).expect(&rt, "memory")
 }

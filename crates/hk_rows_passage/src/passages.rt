@@ -8,7 +8,7 @@ use hk_frame::print_letter;
 use hk_hello::{Party, Purpose};
 use hk_house::House;
 use hk_link::Parcel;
-use hk_passage::Passage;
+use hk_passage::{AimedCarrier, Passage};
 use hk_peer::Carrier;
 use std::alloc::Global;
 use std::collections::VecDeque;
@@ -98,6 +98,21 @@ fn who_is_not_reached_is_dialled_again_behind_a_pause(rt: HostRuntime) {
         assert!(rt; !passage.is_connected(), "{at}");
     }
     assert!(rt; seen.is(&rt, b""));
+}
+
+#[test]
+fn a_passage_that_is_aimed_anew_dials_at_once(rt: HostRuntime) {
+    let alloc = rt.alloc();
+    let house = house(rt, alloc, None);
+    let seen = Arc::new(alloc, Seen::new(alloc)).expect(&rt, "memory");
+    let mut passage = passage(rt, alloc, &house, &seen, VecDeque::new(alloc));
+    let batch = [letter(&rt, alloc)];
+    passage.forward(&batch);
+    passage.forward(&batch);
+    assert_eq!(rt; seen.dials(), 1);
+    passage.aim(TO);
+    passage.forward(&batch);
+    assert_eq!(rt; seen.dials(), 2);
 }
 
 #[test]
