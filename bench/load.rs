@@ -4,7 +4,7 @@
 // `load ADDRESSES PROCESSES CONNECTIONS DEPTH REQUESTS SETS` asks over so many connections, each a thread that has DEPTH requests on their way,
 // REQUESTS in all, of which SETS in a hundred are sets; the others are gets. There are 10,000 keys, each with a value of 100 bytes, which
 // are set first where they are not there yet. Connections go to the ADDRESSES in turn. PROCESSES are those that serve. Both are parted by commas;
-// an address is a port of 127.0.0.1, or HOST:PORT. With SECONDS behind it all, nothing is asked any more from then on.
+// an address is a port of 127.0.0.1, or HOST:PORT. With SECONDS behind it all, nothing is asked any more from then on; with `-` in their place once standard input ends.
 //
 // `load redis ADDRESSES PROCESSES ..` does the same at redis, where each batch with a set ends with a `WAIT 2 0`: it is answered once two replicas
 // have what was set.
@@ -14,10 +14,13 @@
 // `load ADDRESS KEYS` sets so many keys, each with such a value, or with one of BYTES bytes by `load ADDRESS KEYS BYTES`, and prints nothing.
 use std::io::{self, BufRead, BufReader, Read, Write};
 use std::net::TcpStream;
+use std::sync::atomic::{AtomicBool, Ordering};
 use std::time::{Duration, Instant};
 
 const KEYS: u64 = 10_000;
 const VALUE: [u8; 100] = [b'v'; 100];
+/// Whether standard input has ended, where that is waited for.
+static ENDED: AtomicBool = AtomicBool::new(false);
 
 struct Draws(u64);
 
@@ -227,7 +230,7 @@ fn ask(asked: Asked, address: &str, start: u64) -> io::Result<(Vec<Duration>, u6
     let mut draws = Draws(start);
     let (mut out, mut kinds, mut times, mut refused) = (Vec::new(), Vec::new(), Vec::new(), 0);
     for _ in 0..asked.requests / asked.depth {
-        if asked.ends.is_some_and(|ends| Instant::now() > ends) {
+        if asked.ends.is_some_and(|ends| Instant::now() > ends) || ENDED.load(Ordering::Relaxed) {
             break;
         }
         out.clear();
@@ -265,6 +268,12 @@ fn spent_by(process: u64) -> io::Result<f64> {
     Ok(ticks * 10_000.0)
 }
 
+/// Reads standard input until it ends.
+fn wait_for_end() {
+    let _ = io::stdin().read_to_end(&mut Vec::new());
+    ENDED.store(true, Ordering::Relaxed);
+}
+
 fn number(word: &str) -> u64 {
     word.parse().expect("a number")
 }
@@ -283,11 +292,15 @@ fn main() -> io::Result<()> {
         _ => {}
     }
     let (words, seconds) = match &words[..] {
+        [words @ .., "-"] if words.len() == 6 => {
+            std::thread::spawn(wait_for_end);
+            (words, None)
+        }
         [words @ .., seconds] if words.len() == 6 => (words, Some(number(seconds))),
         words => (words, None),
     };
     let [addresses, processes, connections, depth, requests, sets] = words[..] else {
-        eprintln!("usage: load [redis | etcd] ADDRESSES PROCESSES CONNECTIONS DEPTH REQUESTS SETS [SECONDS] | load [redis | etcd] ADDRESS KEYS [BYTES]");
+        eprintln!("usage: load [redis | etcd] ADDRESSES PROCESSES CONNECTIONS DEPTH REQUESTS SETS [SECONDS | -] | load [redis | etcd] ADDRESS KEYS [BYTES]");
         std::process::exit(2);
     };
     let addresses: Vec<&str> = addresses.split(',').collect();

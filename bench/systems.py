@@ -27,6 +27,8 @@ from servers import Fault, Server, until
 
 NAME = Path(sys.argv[0]).name
 HOST, MANY, MEMORY = "127.0.0.1", 1_000_000, "/dev/shm"
+# More requests than any system answers.
+ENDLESS = 1_000_000_000_000
 # Rounds of each measure, the seconds that one of them may take, those in which a system has to answer first, and those for which one is looked at that rests.
 ROUNDS, LIMIT, SOON, REST = 5, 3, 60, 10
 VALUE = b"v" * 100
@@ -233,6 +235,18 @@ class Load:
         """Asks so many requests, or for the seconds of the limit, over so many connections with so many on their way; sets in a hundred are sets."""
         asked = [",".join(system.addresses), ",".join(map(str, system.pids())), connections, depth, requests, sets, limit]
         return Figures(*map(float, self.run(system, *asked).split()))
+
+    def ask_during(self, system, connections, depth, sets, act):
+        """Asks for as long as something takes that is done meanwhile. Gives the figures, and what was given."""
+        words = [self.program, ",".join(system.addresses), ",".join(map(str, system.pids())), connections, depth, ENDLESS, sets, "-"]
+        asking = subprocess.Popen([str(word) for word in words], stdin=subprocess.PIPE, stdout=subprocess.PIPE, stderr=subprocess.PIPE, text=True)
+        try:
+            given = act()
+        finally:
+            told, errors = asking.communicate()
+        if asking.returncode != 0:
+            raise Fault(f"{system.name}: a client fails: {errors:.300}")
+        return Figures(*map(float, told.split())), given
 
     def medians(self, systems, connections, depth, requests, sets, rounds=ROUNDS):
         """By system, in turn, the medians of some rounds. A system has its share of the requests. Etcd has one request on its way, and is left out of others."""
