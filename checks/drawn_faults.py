@@ -16,8 +16,6 @@ from switch import Terms
 HOSTS, LEASE = 3, 1_000
 # For how many seconds faults last.
 LASTS = (1, 1.5, 2, 3, 6)
-# Whether a process whose node is out of its group, or was killed, comes back as a new one.
-COMES_BACK = False
 # By how many millionths of a second a clock goes on in a second: at all, within the bound, and beyond it.
 RATE, RATES, BEYOND = 1_000_000, (957_000, 1_043_000), 400_000
 
@@ -57,7 +55,7 @@ class Steered:
 
 
 class Group(Hosts):
-    """A group whose hosts are namespaces, and its supervisor: a process that ends is started again."""
+    """A group whose hosts are namespaces, and its supervisor: a process that ends is started again, and its node joins anew."""
 
     def __init__(self, program, network, library, seed):
         super().__init__(program, LEASE, HOSTS, network)
@@ -101,9 +99,9 @@ class Group(Hosts):
                     self.start(place)
 
     def note_end(self, place, server):
-        """A signal may end a process, that its node is out, and at its start a full disk."""
+        """A signal may end a process, that its node is out, and at its start a disk that is full."""
         status = server.process.returncode
-        is_due = status == -signal.SIGKILL or COMES_BACK and status == OUT or status == LOG and self.steered[place].read("full")
+        is_due = status in (-signal.SIGKILL, OUT) or status == LOG and place == self.full_place and "can't be written" in server.told()
         if not is_due:
             self.wrong.append(f"the process of host {place} ends with status {status}: {server.told()!r:.300}")
 
@@ -306,16 +304,17 @@ def full_disk(scene):
 
 
 def kill(scene):
+    """The supervisor heals it, unless the host's disk is full meanwhile."""
     place, group = scene.place(), scene.group
-    return DrawnFault("kill", f"the process of host {place} is killed", 5, {place}, lambda: group.signal(place, signal.SIGKILL), lambda: group.wait_inside(place))
+    return DrawnFault("kill", f"the process of host {place} is killed", scene.lasts(), {place}, lambda: group.signal(place, signal.SIGKILL), lambda: None)
 
 
 NETWORK = {"loss": loss, **{kind: cuts(kind) for kind in CUTS}, "flap": flap}
 RELAYED = {"delay": delay, "disorder": disorder, "twice": twice, "narrow": narrow}
-PROCESS = {"bursts": bursts, "stop": stop}
+PROCESS = {"bursts": bursts, "stop": stop, "kill": kill}
 OUTSIDE = {"clocks": clocks, "slow-disk": slow_disk, "full-disk": full_disk}
 SORTS = (NETWORK, RELAYED, PROCESS, OUTSIDE)
-ASKED = {"kill": kill, "clock-beyond": clock_beyond}
+ASKED = {"clock-beyond": clock_beyond}
 KINDS = {kind: drawn for sort in SORTS for kind, drawn in sort.items()}
 
 

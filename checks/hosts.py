@@ -143,8 +143,7 @@ class Hosts:
         self.list = ",".join(self.addresses)
         self.servers = {}
         for place in range(count):
-            self.data(place).mkdir(parents=True)
-            (self.data(place) / "secret").write_bytes(SECRET + b"\n")
+            self.make_folder(place)
 
     def __enter__(self):
         return self
@@ -154,6 +153,10 @@ class Hosts:
             server.kill()
         shutil.rmtree(self.room, ignore_errors=True)
         self.network.leave()
+
+    def make_folder(self, place):
+        self.data(place).mkdir(parents=True)
+        (self.data(place) / "secret").write_bytes(SECRET + b"\n")
 
     def folder(self, place):
         """The folder in which the host's process is started."""
@@ -177,6 +180,16 @@ class Hosts:
         self.servers[place] = Server(self.program_at(place), words, CLIENTS, **{"cwd": self.folder(place), **options})
         return self.servers[place]
 
+    def start_joiner(self, *more, place=None, **options):
+        """Starts the process of one host more, which has no manager, by the line of OPERATIONS.md, or anew at the place of such a one. Gives its place."""
+        if place is None:
+            place = len(self.addresses)
+            self.addresses.append(self.network.address(place))
+            self.make_folder(place)
+        words = ["node", "--hosts", self.list, "--inside", self.addresses[place], *self.terms, *more]
+        self.servers[place] = Server(self.program, words, CLIENTS, **{"cwd": self.folder(place), **options})
+        return place
+
     def start_all(self):
         for place in range(self.count):
             self.start(place)
@@ -191,8 +204,11 @@ class Hosts:
         self.wait_for(lambda: can_connect(self.addresses[place], INSIDE), SOON, f"host {place} takes no connection", place)
 
     def wait_ready(self, place, seconds=SOON):
-        """Waits until it serves clients."""
-        self.wait_for(lambda: can_connect(self.addresses[place], CLIENTS), seconds, f"node {place} is not ready", place)
+        """Waits until it serves clients. Where it does not, what `status` tells is told."""
+        try:
+            self.wait_for(lambda: can_connect(self.addresses[place], CLIENTS), seconds, f"node {place} is not ready", place)
+        except Fault as fault:
+            raise Fault(f"{fault}; {self.how_it_stands()}") from None
 
     def wait_for(self, holds, seconds, what, place=None):
         def is_over():
@@ -205,7 +221,11 @@ class Hosts:
             raise Fault(f"{what} in {seconds} s")
 
     def client(self, place):
-        return HostClient(self.addresses[place])
+        """A client of the node of a host. Where it takes none, what `status` tells is told."""
+        try:
+            return HostClient(self.addresses[place])
+        except ConnectionRefusedError:
+            raise Fault(f"node {place} takes no client; {self.how_it_stands()}") from None
 
     # its commands
 
@@ -243,6 +263,11 @@ class Hosts:
         expect((status, error), (0, ""), "status")
         return told.splitlines()
 
+    def how_it_stands(self):
+        """What `status` tells, and which processes have ended, in words for a Fault."""
+        ended = {place: server.process.returncode for place, server in self.servers.items() if not server.is_up()}
+        return f"status tells {self.command('status')[1].splitlines()}; processes that have ended, with their statuses: {ended}"
+
     def is_open(self, place):
         """Whether the manager of this host tells that it is open."""
         with contextlib.suppress(OSError):
@@ -252,8 +277,16 @@ class Hosts:
     def told_by(self, place):
         """The lines that the manager of this very host tells."""
         with Inside(self.addresses[place]) as inside:
-            expect(inside.greet(place, self.addresses), 0, f"the answer of host {place} to a hello")
+            expect(inside.greet(place, self.addresses[: self.count]), 0, f"the answer of host {place} to a hello")
             return inside.status()
+
+    def node_lines(self):
+        """What `status` tells of nodes: the words of each line, by their numbers."""
+        return {int(line.split()[1]): line.split() for line in self.status() if line.startswith("node ")}
+
+    def wait_state(self, node, state, seconds=SOON):
+        """Waits until `status` tells this state of a node."""
+        self.wait_for(lambda: self.node_lines().get(node, [""] * 4)[3] == state, seconds, f"node {node} is not {state}")
 
     def foundings(self):
         """The foundings that managers tell to be open."""
@@ -264,17 +297,23 @@ class Hosts:
                 found |= set(re.findall(r"founding=([0-9a-f]{16}) stage=open", first))
         return found
 
-    def wait_agreed(self, founding, view):
-        """Waits until all managers are open with this founding, and tell this view of all shards and no other one."""
+    def wait_agreed(self, founding, view=None):
+        """Waits until all managers are open with this founding, and tell one view of all shards, which is this one if it is given."""
         first = f"group {GROUP.decode()} founding={founding} stage=open lease={self.lease} skew={SKEW}"
         told = {}
 
         def is_agreed():
             told.update((place, self.told_by(place)) for place in range(self.count))
-            return all(lines[0] == first and [line for line in lines if line.startswith("view ")] == [view] for lines in told.values())
+            agreed = [view] if view else views_told(told[0])[:1]
+            return all(lines[0] == first and views_told(lines) == agreed for lines in told.values())
 
         if until(SOON, is_agreed, 0.1) is None:
-            raise Fault(f"managers do not agree in {SOON} s on {first!r} and {view!r}: {told}")
+            raise Fault(f"managers do not agree in {SOON} s on {first!r} and {view or 'one view'!r}: {told}")
+
+
+def views_told(lines):
+    """The lines of views among these."""
+    return [line for line in lines if line.startswith("view ")]
 
 
 def records_told(lines, place):
@@ -287,6 +326,13 @@ def leases_left(lines):
     """The milliseconds that these lines tell to be left of the leases of nodes that are ready in all shards of the first view."""
     found = [re.match(r"node \d+ \S+ ready .* shards=8 epoch=1 lease=(\d+) ", line) for line in lines]
     return [int(one[1]) for one in found if one]
+
+
+def counts_told(lines, node):
+    """What these lines tell a node to hold and to have told, by name, or nothing."""
+    found = [line for line in lines if line.startswith(f"node {node} ")]
+    names = ("keys", "bytes", "gets", "sets", "busy", "aborted", "unknown")
+    return {name: int(count) for line in found for name, count in re.findall(r"(\w+)=(\d+)", line) if name in names}
 
 
 def is_up(lines, place):

@@ -97,6 +97,8 @@ def pause(process):
     process.send_signal(signal.SIGSTOP)
     until = time.monotonic() + SECONDS
     while states(process) != {"T"}:
+        if process.poll() is not None:
+            raise Fault(f"a process that is to be stopped has ended with status {process.returncode}")
         if time.monotonic() > until:
             raise Fault("a process does not stop")
         time.sleep(0.001)

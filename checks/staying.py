@@ -19,6 +19,8 @@ GIBIBYTE = 1 << 30
 ULIMIT_V = 4_000_000 << 10
 # MiB that an idle connection holds at most.
 HELD_EACH = 0.4
+# How often a full memory is freed and filled again, and the share of what was freed that is stored again at least.
+TURNS, SHARE_AGAIN = 3, 0.5
 # The share of a processor that a server may use which has nothing to do but to wait for what it lacks.
 IDLE_SHARE = 0.25
 
@@ -172,10 +174,29 @@ def memory_exhausted(room):
         server.limit(resource.RLIMIT_AS, server.status_of("VmSize") + room.nodes * 200 * MEBIBYTE)
         stored, refused = fill(server, good, value, room.nodes * 4_000, 20 if room.nodes == 1 else 4)
         expect_reads(server, [good, other], stored, value)
-        behind = free_some(server, good, stored, value)
+        behind = free_some(server, good, stored[::2], value)
         late = newcomer(server, room.nodes == 1)
         server.expect_up("with a full memory")
         return f"{len(stored)} sets of 100 KB, then {refused} told out of memory; {min(len(stored), 200)} of the keys were read as stored; behind deletes of half a set was stored at ask {behind}, and a new client was {late}"
+
+
+def memory_of_large_values(room):
+    """Sets of 1 MiB until there is no memory. Each request is answered; what was stored stands; what deletes free takes as many values again, over and over."""
+    value = MEBIBYTE * b"v"
+    with room.serve(1_000_000) as server, Client(server.port) as good, Client(server.port) as other:
+        try_good(good, 0)
+        other.set_till(b"stands", value)
+        server.limit(resource.RLIMIT_AS, server.status_of("VmSize") + room.nodes * 150 * MEBIBYTE)
+        stored, refused = fill(server, good, value, room.nodes * 1_000, 20 if room.nodes == 1 else 4)
+        expect_reads(server, [good, other], stored, value)
+        again = [stored[::2]]
+        for _turn in range(TURNS):
+            free_some(server, good, again[-1], value)
+            again.append(store_again(server, good, again[-1], value))
+        expect_reads(server, [good, other], [*stored[1::2], *again[-1], b"stands"], value)
+        server.expect_up("with a full memory of large values")
+        counts = ", ".join(str(len(keys)) for keys in again)
+        return f"{len(stored)} sets of 1 MiB, then {refused} told out of memory; of these were deleted and stored again, turn by turn: {counts}"
 
 
 def newcomer(server, is_due):
@@ -207,16 +228,16 @@ def fill(server, client, value, most, enough):
     stored, refused = [], 0
     for number in range(most):
         key = b"fill:%d" % number
-        told = answer(server, client, b"set %s 0 0 %d\r\n%s\r\n" % (key, len(value), value), f"the set of 100 KB number {number}")
+        told = answer(server, client, b"set %s 0 0 %d\r\n%s\r\n" % (key, len(value), value), f"set number {number} of {len(value)} bytes")
         if told == STORED:
             stored.append(key)
         elif told in (NO_MEMORY, BUSY, UNKNOWN):
             refused += 1
         else:
-            raise Fault(f"a set of 100 KB is told {told!r}")
+            raise Fault(f"a set of {len(value)} bytes is told {told!r}")
         if refused == enough:
             return stored, refused
-    raise Fault(f"{most} sets of 100 KB were stored in the memory that was left")
+    raise Fault(f"{most} sets of {len(value)} bytes were stored in the memory that was left")
 
 
 def expect_reads(server, clients, stored, value):
@@ -230,9 +251,9 @@ def expect_reads(server, clients, stored, value):
             raise Fault(f"{key!r} is {told!r:.60}, where what was stored is due")
 
 
-def free_some(server, client, stored, value):
-    """Deletes half of the keys. Gives at which ask a set is stored again."""
-    for key in stored[::2]:
+def free_some(server, client, keys, value):
+    """Deletes keys. Gives at which ask a set is stored again."""
+    for key in keys:
         for _ in range(50):
             told = answer(server, client, b"delete %s\r\n" % key, "a delete with a full memory")
             if told == b"DELETED\r\n":
@@ -242,7 +263,18 @@ def free_some(server, client, stored, value):
     for number in range(1, 51):
         if answer(server, client, b"set again 0 0 %d\r\n%s\r\n" % (len(value), value), "a set behind deletes") == STORED:
             return number
-    raise Fault("no set is stored behind deletes of half of the keys")
+    raise Fault(f"no set is stored behind deletes of {len(keys)} keys")
+
+
+def store_again(server, client, keys, value):
+    """Sets keys that were deleted, each once. Gives those that are stored, of which enough are due."""
+    told = {key: answer(server, client, b"set %s 0 0 %d\r\n%s\r\n" % (key, len(value), value), "a set behind deletes") for key in keys}
+    others = set(told.values()) - {STORED, NO_MEMORY, BUSY, UNKNOWN}
+    expect(others, set(), "what else a set behind deletes is told")
+    stored = [key for key in keys if told[key] == STORED]
+    if len(stored) < SHARE_AGAIN * len(keys):
+        raise Fault(f"behind deletes of {len(keys)} values of {len(value)} bytes {len(stored)} are stored again")
+    return stored
 
 
 # ---- who comes and goes
@@ -492,8 +524,8 @@ def a_taken_port(room):
 # Those that spend most of their time waiting go on beside the others.
 WAITING = [a_skew_near_the_lease]
 CASES = [
-    descriptors_exhausted, threads_refused, address_space, memory_exhausted, connections_come_and_go, clients_beyond_the_last, idle_behind_a_great_reply,
-    idle_behind_large_sets, a_lease_of_one_millisecond, a_lease_no_longer_than_the_skew,
+    descriptors_exhausted, threads_refused, address_space, memory_exhausted, memory_of_large_values, connections_come_and_go, clients_beyond_the_last,
+    idle_behind_a_great_reply, idle_behind_large_sets, a_lease_of_one_millisecond, a_lease_no_longer_than_the_skew,
 ]  # fmt: skip
 # Those that need no group.
 OF_ONE_NODE = [wrong_words, a_taken_port]
