@@ -1,5 +1,5 @@
 -- What the last board of one manager tells. A manager of which no board came tells nothing.
-use Rattle.std.specs.Prelude.{ℕ, Bool, true, false, ◌==◌, ◌&&◌, if◌then◌else◌, Option, None, Some}
+use Rattle.std.specs.Prelude.{ℕ, Bool, true, false, ◌==◌, ◌&&◌, ◌||◌, if◌then◌else◌, Option, None, Some}
 use Rattle.std.specs.List.{find, list_any}
 use Rattle.hk_base.specs.declared.stamp.NodeId.{NodeId}
 use Rattle.hk_fields.specs.declared.tickets.Ticket.{Ticket}
@@ -31,6 +31,12 @@ is_node node (parties.Node other) = node.0 == other.0
 is_node node (parties.Manager place) = false
 is_node node parties.Neither = false
 
+-- who has no number there
+abbrev pub is_neither : Party → Bool
+is_neither (parties.Node node) = false
+is_neither (parties.Manager place) = false
+is_neither parties.Neither = true
+
 -- who was left out
 abbrev pub is_left_out : Mark → Bool
 is_left_out marks.Bound = false
@@ -42,10 +48,11 @@ is_left_out marks.Out = true
 abbrev pub binds : NodeId → BoardLine → Bool
 binds node line = if is_left_out line.mark then false else is_node node line.party
 
--- the line tells that the process of this ticket, which had the number, is left out
+-- The line tells that the process of this ticket, which had the number, is left out: by the number; or without one, as where the manager never bound it to the
+-- process, which asks by it.
 abbrev pub leaves_out : NodeId → Ticket → BoardLine → Bool
 leaves_out node ticket line =
-    if is_left_out line.mark then is_node node line.party && same_ticket ticket line.ticket else false
+    if is_left_out line.mark then (is_node node line.party || is_neither line.party) && same_ticket ticket line.ticket else false
 
 -- who is to leave
 abbrev pub is_leave_mark : Mark → Bool

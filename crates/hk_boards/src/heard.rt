@@ -3,7 +3,7 @@
 ghost use Rattle.std.specs.Prelude.{◌≡◌};
 ghost use Rattle.std.specs.List.{find, list_any};
 ghost use Rattle.std.specs.Option.{option_copied};
-ghost use Rattle.hk_boards.specs.Heard.{is_open, is_of, is_node, is_left_out, is_leave_mark, is_member_mark, is_manager, is_manager_line, binds, leaves_out, wants_to_leave, line_of, manager_line, ticket_told, tells, tells_out, tells_to_leave, tells_ready, manager_told};
+ghost use Rattle.hk_boards.specs.Heard.{is_open, is_of, is_node, is_neither, is_left_out, is_leave_mark, is_member_mark, is_manager, is_manager_line, binds, leaves_out, wants_to_leave, line_of, manager_line, ticket_told, tells, tells_out, tells_to_leave, tells_ready, manager_told};
 ghost use Rattle.hk_boards.specs.Holders.{came_telling, is_told_at};
 ghost use Rattle.hk_boards.specs.Managers.{answered_lately, is_answered, founding_told, tells_open, tells_another, records_told, tells_records};
 
@@ -36,6 +36,16 @@ fn is_node(node: NodeId, party: Party) -> bool
         Party::Node(other) => node.0 == other.0,
         Party::Manager(_) => false,
         Party::Neither => false,
+    }
+}
+
+fn is_neither(party: Party) -> bool
+    ensures { result ≡ is_neither party }
+{
+    match party {
+        Party::Node(_) => false,
+        Party::Manager(_) => false,
+        Party::Neither => true,
     }
 }
 
@@ -96,7 +106,7 @@ fn leaves_out(node: NodeId, ticket: Ticket, line: &BoardLine) -> bool
     ensures { result ≡ leaves_out node ticket line.now }
 {
     if is_left_out(line.mark) {
-        is_node(node, line.party) && ticket == line.ticket
+        (is_node(node, line.party) || is_neither(line.party)) && ticket == line.ticket
     } else {
         false
     }

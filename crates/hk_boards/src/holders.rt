@@ -33,7 +33,8 @@ impl Boards {
         named(self.told_of(founding, node).as_slice())
     }
 
-    /// Whether the last boards of a majority tell that the process of this ticket, which had the number, is left out.
+    /// Whether the last boards of a majority tell that the process of this ticket, which had the number, is left out. A
+    /// manager that never bound the number to it, and to which it reports by that number, tells so in its line without one.
     pub fn is_out(&self, founding: u64, node: NodeId, ticket: Ticket) -> bool
         ensures { result ≡ is_out founding node ticket self.now }
     {

@@ -8,7 +8,9 @@
 //! who is ready, and for how many records the own manager once had.
 //!
 //! A board counts where its manager is open, with the founding that is asked for. A line binds a node's number to its
-//! ticket, whatever mark it has, but for that of one that was left out.
+//! ticket, whatever mark it has, but for that of one that was left out. Of that one a manager tells it by the number, or
+//! in the line without a number that it has for a process which reports by a number that is bound to no such process
+//! there: a process has one number for as long as it runs.
 //!
 //! What is proved. Each answer is that of its definition over the list of the last boards (`specs/Holders.antt`,
 //! `specs/Managers.antt`). A process is told as the holder of a number exactly where a majority's boards bind it

@@ -95,17 +95,17 @@ managers_fit_from o (p ∷ ps) few = All-append IsLineInRange (manager_at o p) (
 managers_fit : (o : Office) → Fit (flat_map (manager_at o) places)
 managers_fit o = managers_fit_from o places (omega arith, (omega arith, (omega arith, (omega arith, (omega arith, (omega arith, (omega arith, (omega arith, (omega arith, tt)))))))))
 
-neither_fit : (o : Office) (now : ℕ) (t : Ticket) → Fit (neither_line o now t ∷ [])
-neither_fit o now t = one_fits (neither_line o now t) (record { party = tt; inside = inside_short (last_of t o) })
+neither_fit : (o : Office) (now : ℕ) (x : Option NodeId) (t : Ticket) → Fit (neither_line o now x t ∷ [])
+neither_fit o now x t = one_fits (neither_line o now x t) (record { party = tt; inside = inside_short (last_of t o) })
 
 asker_fit : (x : Option NodeId) (o : Office) (now : ℕ) (views : List View) (nodes : List NodeId) (t : Ticket) → Fit (asker_lines_of x o now views nodes t)
-asker_fit None o now views nodes t = neither_fit o now t
+asker_fit None o now views nodes t = neither_fit o now None t
 asker_fit (Some n) o now views nodes t = at (names t (bound (actors.Node n) o.roll)) (is_member n nodes)
   where
-    at : (own known : Bool) → Fit (cond own (cond known [] (line_at o now views n)) (neither_line o now t ∷ []))
+    at : (own known : Bool) → Fit (cond own (cond known [] (line_at o now views n)) (neither_line o now (Some n) t ∷ []))
     at true true = none_fit
     at true false = line_fit o now views n
-    at false known = neither_fit o now t
+    at false known = neither_fit o now (Some n) t
 
 few_lines : (xs : List BoardLine) → length (take 255 xs) < 256
 few_lines xs = let e : length (take 255 xs) ≡ min 255 (length xs) = length-take 255 xs in let l = least (length xs) in omega (arith, e, l)

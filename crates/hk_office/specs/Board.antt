@@ -21,7 +21,7 @@ use Rattle.hk_office.specs.declared.office.Office.{Office}
 use Rattle.hk_office.specs.declared.board.Asker.{Asker}
 use Rattle.hk_office.specs.Stages.{number_of, stage_told}
 use Rattle.hk_office.specs.Numbers.{numbers}
-use Rattle.hk_office.specs.Marks.{mark_of}
+use Rattle.hk_office.specs.Marks.{mark_of, mark_unbound}
 
 -- who sent a report
 abbrev pub asker_of : Report → Asker
@@ -56,12 +56,12 @@ node_line o now views node ticket = record {
 abbrev pub manager_line : Office → ℕ → Ticket → BoardLine
 manager_line o place ticket = record { party = Manager place; ticket = ticket; mark = Bound; ready = false; inside = inside_of (last_of_manager place o.reports.came) }
 
--- of a process that has no number here
-abbrev pub neither_line : Office → ℕ → Ticket → BoardLine
-neither_line o now ticket = record {
+-- Of a process that has no number here. It may tell one, which was bound to it elsewhere, and learns here too when that is out.
+abbrev pub neither_line : Office → ℕ → Option NodeId → Ticket → BoardLine
+neither_line o now node ticket = record {
   party = Neither;
   ticket = ticket;
-  mark = Bound;
+  mark = mark_unbound o node;
   ready = tells_ready now o.terms.lease (last_of ticket o);
   inside = inside_of (last_of ticket o);
 }
@@ -84,10 +84,10 @@ manager_at o p = bound_manager o p (bound (actors.Manager p) o.roll)
 
 -- Who asks has a line, also where its node is no member any more, so that it learns that.
 abbrev pub asker_lines_of : Option NodeId → Office → ℕ → List View → List NodeId → Ticket → List BoardLine
-asker_lines_of None o now views nodes ticket = neither_line o now ticket ∷ []
+asker_lines_of None o now views nodes ticket = neither_line o now None ticket ∷ []
 asker_lines_of (Some n) o now views nodes ticket =
     if names ticket (bound (actors.Node n) o.roll) then (if is_member n nodes then [] else line_at o now views n)
-    else neither_line o now ticket ∷ []
+    else neither_line o now (Some n) ticket ∷ []
 
 abbrev pub asker_lines : Office → ℕ → List View → List NodeId → Asker → List BoardLine
 asker_lines o now views nodes a = asker_lines_of a.node o now views nodes a.ticket

@@ -25,6 +25,11 @@ is_to_leave o now node = list_any (λ l. (l.node.0 == node.0) && nat_lt now l.en
 abbrev pub is_in_view : List View → NodeId → Bool
 is_in_view views node = list_any (λ v. is_member node v.members) views
 
+-- How a process stands that tells a number which is not bound to it here. Whoever had a number that those views gave, and leave out, is out.
+abbrev pub mark_unbound : Office → Option NodeId → Mark
+mark_unbound o None = Bound
+mark_unbound o (Some node) = if is_out o node then Out else Bound
+
 abbrev pub mark_of : Office → ℕ → List View → NodeId → Mark
 mark_of o now views node =
     if is_out o node then Out else (

@@ -143,15 +143,15 @@ impl Office {
         })
     }
 
-    fn neither_line(&self, alloc: Global, now: u64, ticket: Ticket) -> Result<BoardLine, Memory>
-        ensures { IfOk result (λ line. line ≡ neither_line self.now now ticket) }
+    fn neither_line(&self, alloc: Global, now: u64, asker: Asker) -> Result<BoardLine, Memory>
+        ensures { IfOk result (λ line. line ≡ neither_line self.now now asker.node asker.ticket) }
     {
-        let came = self.reports.last(ticket);
+        let came = self.reports.last(asker.ticket);
         let inside = inside_of(alloc, came)?;
         Ok(BoardLine {
             party: Party::Neither,
-            ticket,
-            mark: Mark::Bound,
+            ticket: asker.ticket,
+            mark: self.mark_unbound(asker.node),
             ready: tells_ready(now, self.terms.lease, came),
             inside,
         })
@@ -253,7 +253,7 @@ impl Office {
                 return self.put_node(alloc, now, views, node, lines);
             }
         }
-        let line = self.neither_line(alloc, now, asker.ticket)?;
+        let line = self.neither_line(alloc, now, asker)?;
         lines.push(line)?;
         Ok(())
     }

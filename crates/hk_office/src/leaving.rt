@@ -3,7 +3,8 @@
 ghost use Rattle.std.specs.Prelude.{◌≡◌, ◌<◌, ◌≤◌, Some, IfOk, OnOk, OnErr, slice_set};
 ghost use Rattle.std.specs.List.{filter};
 ghost use Rattle.hk_base.specs.declared.time.TheConstants.{MAX_TIME};
-ghost use Rattle.hk_office.specs.Leaving.{leaver_of, stays_to_leave, with_leave, against_leave, left_by, left};
+ghost use Rattle.hk_office.specs.Leaving.{leaver_of, is_to_stay, without_leavers, stays_to_leave, others_to_leave, with_leave, without_leave, against_leave, left_by, left};
+ghost use Rattle.hk_office.specs.Seating.{heard_of};
 
 use crate::answer::{OfficeAnswer, OfficeStep, answered, refused};
 use crate::marks::is_in_view;
@@ -11,9 +12,10 @@ use crate::office::{Leave, Office};
 use crate::refusal::OfficeRefusal;
 use hk_base::{Memory, NodeId, Sequence, View};
 use hk_inside::Leaver;
+use hk_keeper::{Heard, NodeHeard};
 use std::alloc::Global;
 
-// Whether it still is to leave, and is none that wants to leave now.
+// Whether it still is to leave, and is another node.
 fn stays_to_leave(leave: &Leave, now: u64, node: NodeId) -> bool
     ensures { result ≡ stays_to_leave now node leave.now }
 {
@@ -41,6 +43,29 @@ impl Office {
         }
     }
 
+    fn is_to_stay(&self, now: u64, heard: &NodeHeard) -> bool
+        ensures { result ≡ is_to_stay self.now now heard.now }
+    {
+        !self.is_to_leave(now, heard.node)
+    }
+
+    fn keep_stayers(&self, now: u64, nodes: &mut Vec<NodeHeard>)
+        ensures { nodes.new.items ≡ filter (is_to_stay self.now now) nodes.old.items }
+    {
+        nodes.retain(|node| self.is_to_stay(now, node));
+    }
+
+    // What is heard without those that are to leave.
+    fn heard_of_stayers(&self, alloc: Global, now: u64, views: &[View]) -> Result<Heard, Memory>
+        ensures { IfOk result (λ heard. heard ≡ without_leavers self.now now (heard_of self.now now views.now)) }
+    {
+        let mut heard = self.heard(alloc, now, views)?;
+        let mut nodes = heard.nodes.as_slice().to_vec(alloc)?;
+        self.keep_stayers(now, &mut nodes);
+        heard.nodes = Sequence::from_vec(nodes);
+        Ok(heard)
+    }
+
     // What stands against it that a member leaves.
     fn against_leave(
         &self,
@@ -51,7 +76,7 @@ impl Office {
     ) -> Result<Option<OfficeRefusal>, Memory>
         ensures { IfOk result (λ refusal. refusal ≡ against_leave self.now now views.now node) }
     {
-        let heard = self.heard(alloc, now, views)?;
+        let heard = self.heard_of_stayers(alloc, now, views)?;
         if !heard.majority_up() {
             return Ok(Some(OfficeRefusal::NoMajority));
         }
@@ -61,6 +86,15 @@ impl Office {
         Ok(None)
     }
 
+    // Who else is to leave.
+    fn others_to_leave(&self, alloc: Global, now: u64, node: NodeId) -> Result<Vec<Leave>, Memory>
+        ensures { IfOk result (λ leaves. leaves.items ≡ others_to_leave self.now now node) }
+    {
+        let mut leaves = self.leaves.as_slice().to_vec(alloc)?;
+        keep_leaves(&mut leaves, now, node);
+        Ok(leaves)
+    }
+
     // The node is to leave, for the length of a lease.
     fn mark_to_leave(&mut self, alloc: Global, now: u64, node: NodeId) -> Result<(), Memory>
         requires { now ≤ MAX_TIME }
@@ -68,9 +102,18 @@ impl Office {
         ensures err { OnErr result (self.new ≡ self.old) }
     {
         let end = now + u64::from(self.terms.lease);
-        let mut leaves = self.leaves.as_slice().to_vec(alloc)?;
-        keep_leaves(&mut leaves, now, node);
+        let mut leaves = self.others_to_leave(alloc, now, node)?;
         leaves.push(Leave { node, end })?;
+        self.leaves = Sequence::from_vec(leaves);
+        Ok(())
+    }
+
+    // The node is not to leave, also where it was.
+    fn mark_to_stay(&mut self, alloc: Global, now: u64, node: NodeId) -> Result<(), Memory>
+        ensures ok { OnOk result (self.new ≡ without_leave self.old now node) }
+        ensures err { OnErr result (self.new ≡ self.old) }
+    {
+        let leaves = self.others_to_leave(alloc, now, node)?;
         self.leaves = Sequence::from_vec(leaves);
         Ok(())
     }
@@ -87,7 +130,10 @@ impl Office {
         ensures err { OnErr result (self.new ≡ self.old) }
     {
         match self.against_leave(alloc, now, views, node)? {
-            Some(refusal) => Ok(refused(alloc, refusal)),
+            Some(refusal) => {
+                self.mark_to_stay(alloc, now, node)?;
+                Ok(refused(alloc, refusal))
+            }
             None => {
                 self.mark_to_leave(alloc, now, node)?;
                 Ok(answered(alloc, OfficeAnswer::Yes))

@@ -1,7 +1,7 @@
 //! How nodes stand with the manager.
 
 ghost use Rattle.std.specs.Prelude.{◌≡◌};
-ghost use Rattle.hk_office.specs.Marks.{leaves_out, is_out, is_to_leave, is_in_view, mark_of};
+ghost use Rattle.hk_office.specs.Marks.{leaves_out, is_out, is_to_leave, is_in_view, mark_of, mark_unbound};
 
 use crate::office::Office;
 use hk_base::{NodeId, View};
@@ -30,13 +30,29 @@ impl Office {
         self.begun.iter().all(|view| leaves_out(node, view))
     }
 
-    fn is_to_leave(&self, now: u64, node: NodeId) -> bool
+    pub(crate) fn is_to_leave(&self, now: u64, node: NodeId) -> bool
         ensures { result ≡ is_to_leave self.now now node }
     {
         self.leaves
             .as_slice()
             .iter()
             .any(|leave| leave.node.0 == node.0 && now < leave.end)
+    }
+
+    // How a process stands that tells this number, which is not bound to it.
+    pub(crate) fn mark_unbound(&self, node: Option<NodeId>) -> Mark
+        ensures { result ≡ mark_unbound self.now node }
+    {
+        match node {
+            Some(node) => {
+                if self.is_out(node) {
+                    Mark::Out
+                } else {
+                    Mark::Bound
+                }
+            }
+            None => Mark::Bound,
+        }
     }
 
     pub(crate) fn mark_of(&self, now: u64, views: &[View], node: NodeId) -> Mark

@@ -112,6 +112,31 @@ const LEFT_OUT: &[Line] = &[Line {
     inside: b"nine",
 }];
 
+// To who asks by a number that is not bound to it there.
+const ASKER_OUT: &[Line] = &[Line {
+    party: Party::Neither,
+    ticket: A,
+    mark: Mark::Out,
+    ready: false,
+    inside: b"nine",
+}];
+
+const ASKER_NOT_OUT: &[Line] = &[Line {
+    party: Party::Neither,
+    ticket: A,
+    mark: Mark::Bound,
+    ready: false,
+    inside: b"nine",
+}];
+
+const OTHER_OUT: &[Line] = &[Line {
+    party: Party::Neither,
+    ticket: B,
+    mark: Mark::Out,
+    ready: false,
+    inside: b"nine",
+}];
+
 fn board_at(place: u8, came: u64, lines: &'static [Line]) -> Came {
     Came {
         place,
@@ -268,6 +293,25 @@ fn a_majority_tells_who_is_out(rt: HostRuntime) {
         &[board_at(1, 10, LEFT_OUT), board_at(2, 11, TELLS_A)],
     );
     assert!(rt; !boards.is_out(FOUNDING, NodeId(9), A));
+}
+
+// Whether node 9 is out, where one manager tells it by the number, and another one tells this.
+fn is_out_with(rt: &impl Abort, alloc: Global, lines: &'static [Line]) -> bool {
+    let boards = boards_of(
+        rt,
+        alloc,
+        &[board_at(0, 10, LEFT_OUT), board_at(2, 11, lines)],
+    );
+    boards.is_out(FOUNDING, NodeId(9), A)
+}
+
+#[test]
+fn managers_count_that_never_bound_the_number_of_who_is_out(rt: HostRuntime) {
+    let alloc = rt.alloc();
+    assert!(rt; is_out_with(&rt, alloc, ASKER_OUT));
+    assert!(rt; !is_out_with(&rt, alloc, ASKER_NOT_OUT));
+    assert!(rt; !is_out_with(&rt, alloc, OTHER_OUT));
+    assert!(rt; !is_out_with(&rt, alloc, &[]));
 }
 
 #[test]

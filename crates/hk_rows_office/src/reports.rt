@@ -10,19 +10,19 @@ use std::process::Abort;
 
 // What is told in a report.
 #[derive(Clone, Copy)]
-struct Told {
-    ticket: u8,
-    node: Option<u16>,
-    state: NodeState,
-    manager: Option<u8>,
-    records: u64,
+pub struct Told {
+    pub ticket: u8,
+    pub node: Option<u16>,
+    pub state: NodeState,
+    pub manager: Option<u8>,
+    pub records: u64,
     // At which address, as one byte.
-    inside: u8,
+    pub inside: u8,
     // The age of node 2's ask.
-    age: Option<u32>,
+    pub age: Option<u32>,
 }
 
-const READY: Told = Told {
+pub const READY: Told = Told {
     ticket: 7,
     node: Some(1),
     state: NodeState::Ready,
@@ -59,7 +59,7 @@ fn nodes_seen(rt: &impl Abort, alloc: Global, age: Option<u32>) -> NodesSeen {
     nodes
 }
 
-fn report(rt: &impl Abort, alloc: Global, told: Told) -> Report {
+pub fn report(rt: &impl Abort, alloc: Global, told: Told) -> Report {
     Report {
         ticket: Ticket([told.ticket; 16]),
         node: match told.node {
@@ -107,11 +107,17 @@ fn founders(rt: &impl Abort, alloc: Global) -> View {
     }
 }
 
-fn heard(rt: &impl Abort, alloc: Global, reports: &Reports, now: u64) -> Heard {
+// Of all eight shards.
+pub fn views(rt: &impl Abort, alloc: Global) -> Vec<View> {
     let mut views = Vec::new(alloc);
     for _ in 0..8 {
         views.push(founders(rt, alloc)).expect(rt, "memory");
     }
+    views
+}
+
+fn heard(rt: &impl Abort, alloc: Global, reports: &Reports, now: u64) -> Heard {
+    let views = views(rt, alloc);
     let bound = [NodeId(3), NodeId(0)];
     reports
         .heard(alloc, now, 0, 3, 1000, views.as_slice(), &bound)
