@@ -47,7 +47,7 @@ abbrev pub late_begun : {W E : Type 0} → Result (Begun W) E → Bool
 late_begun (Ok (opened.Told reply)) = tells_late reply
 late_begun result = false
 
--- One ask came too late for the lease: what was asked is refused, and did not begin.
+-- One ask came too late for the lease: it is told that the lease may be over.
 abbrev pub ComesLate : (ReaderState → ℕ → Type 0) → Option ℕ → List ℕ → Op → PostState → PostState → Type 0
 ComesLate was_read reading key op old new = (reply : DeskReply) × (tells_late reply ≡ true) × AsksLed {E = Memory} was_read reading key op old new (Ok reply)
 

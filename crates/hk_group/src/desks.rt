@@ -76,7 +76,7 @@ fn new_leases<R: Wait + Drop, C: Clock + Drop, P: Places>(
         terms: station.terms,
         cells: lease_cells(&station.rt, station.alloc, shards)?,
         bell: Arc::try_clone(shards.bell())?,
-        is_out: false,
+        out_until: 0,
     })
 }
 

@@ -62,8 +62,8 @@ pub(crate) struct Leases<C: Drop> {
     pub(crate) cells: Vec<LeaseCell>,
     /// Wakes the workers of the node.
     pub(crate) bell: Arc<Bell>,
-    /// The desk waited for a lease in vain, and has found none since.
-    pub(crate) is_out: bool,
+    /// Before this time of its clock the desk waits for no lease: it did so in vain.
+    pub(crate) out_until: u64,
     pub(crate) ghost eight: { length cells.items ≡ 8 },
 }
 
@@ -93,11 +93,24 @@ impl<C: Clock + Drop> Leases<C> {
 
     // Whether the desk waits no more.
     fn is_over(&self, until: u64) -> bool {
-        self.is_out || self.clock.now() >= until
+        let now = self.clock.now();
+        now < self.out_until || now >= until
     }
 
-    // Waits until enough is left of the lease of the shard, behind each step that is made there, and gives whether it serves. Whoever waited in vain waits no more until
-    // it does. Before it waits it rings for the letters of asks that were begun.
+    // Notes whether a lease was found that serves. Where none was, the desk waits for none for as long as it has waited.
+    fn note(&mut self, serves: bool) {
+        if serves {
+            self.out_until = 0;
+            return;
+        }
+        let now = self.clock.now();
+        if now >= self.out_until {
+            self.out_until = now.saturating_add(self.terms.wait());
+        }
+    }
+
+    // Waits until enough is left of the lease of the shard, behind each step that is made there, and gives whether it serves. Before it waits it rings for the letters of
+    // asks that were begun.
     fn wait_for<R: Wait, P: Places>(
         &mut self,
         rt: &R,
@@ -136,7 +149,7 @@ impl<C: Clock + Drop> Leases<C> {
     ) {
         if self.terms.is_asked() {
             let serves = self.wait_for(rt, post, shard_of(key), until);
-            self.is_out = !serves;
+            self.note(serves);
         }
     }
 

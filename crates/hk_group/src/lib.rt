@@ -32,7 +32,8 @@
 //!
 //! What no clause says: that the nodes of `serve` are the founders of the first view, which the code asks of
 //! `Shards::founders`; to whom a way leads; what a copier asks for, and how a node stands that is looked at; at which node a
-//! connection is served, that workers and managers run and how often they ring, and when journals begin anew.
+//! connection is served, that workers and managers run and how often they ring, when journals begin anew, and when and how
+//! often a call is asked again.
 #![tactic(auto)]
 
 mod completion;
