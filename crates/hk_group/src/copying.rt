@@ -98,16 +98,6 @@ impl<P: Places> Copier<P> {
         self.shards.epoch_at(rt, self.shard) > 0
     }
 
-    /// A number that is another one behind each step of a worker at the shard. It is noted before a look, for [`Copier::wait`].
-    pub fn seen(&self) -> u64 {
-        self.shards.steps_at(self.shard).seen()
-    }
-
-    /// Waits until there was a step since `seen`, for so many milliseconds at most, and gives whether there was.
-    pub fn wait<R: Wait>(&self, rt: &R, seen: u64, millis: u64) -> bool {
-        self.shards.steps_at(self.shard).wait(rt, seen, millis)
-    }
-
     // Its letters go by the outlets as they are now.
     fn follow<R: Wait>(&mut self, rt: &R) {
         if let Some(outlets) = self.routes.renewed(rt, self.alloc) {

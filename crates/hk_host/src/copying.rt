@@ -2,7 +2,7 @@
 
 use hk_base::{Memory, NodeId};
 use hk_group::Copier;
-use hk_house::House;
+use hk_house::{House, rest};
 use hk_locked::Places;
 use hk_outside::{Clock, Job};
 use std::sync::{Arc, Wait};
@@ -10,11 +10,15 @@ use std::sync::{Arc, Wait};
 // Behind so many beats in which no rows came another member is asked.
 const IDLE_BEATS: u64 = 4;
 
+// Rows are asked for once in so many milliseconds: copying is to leave the processors to the requests of clients, also where it could go faster.
+const PACE_MILLIS: u64 = 7;
+
 /// Copies the rows of a shard of this process's node from other members, and ends once it has all.
 #[derive(Drop)]
 pub(crate) struct CopyJob<R: Wait + Drop, C: Drop, P: Places> {
     pub(crate) house: Arc<House<R, C>>,
     pub(crate) copier: Copier<P>,
+    pub(crate) shard: u8,
 }
 
 // Whom is asked: the members that are ready, in turn.
@@ -68,22 +72,25 @@ impl<
     P: Places + Send + Sync + 'static,
 > Job for CopyJob<R, C, P> {
     fn run(self) {
-        let CopyJob { house, mut copier } = self;
+        let CopyJob {
+            house,
+            mut copier,
+            shard,
+        } = self;
         let rt = house.rt;
-        let beat = house.identity.beat();
+        // so the shards begin at different members
         let mut course = Course {
-            turn: 0,
+            turn: usize::from(shard),
             moved: house.clock.now(),
         };
         for _ in rt.forever() {
-            let seen = copier.seen();
             if copier.is_whole(&rt) || house.is_out() {
                 return;
             }
             if copier.has_view(&rt) {
                 ask(&*house, &mut copier, &mut course);
             }
-            copier.wait(&rt, seen, beat);
+            rest(&rt, PACE_MILLIS);
         }
     }
 }

@@ -125,6 +125,7 @@ fn copy_job<R: Wait + Copy + Drop, C: DeskClock + Drop, P: Places>(
     Ok(CopyJob {
         house: Arc::try_clone(house)?,
         copier: desks.copier(shard)?,
+        shard,
     })
 }
 
