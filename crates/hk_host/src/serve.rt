@@ -20,7 +20,7 @@ use hk_base::{Memory, NodeId, View};
 use hk_disk::LogFile;
 use hk_group::{Group, Member, first_view, found_joiner, found_without_lease};
 use hk_hosts::{Address, DoorsAt, Random};
-use hk_house::{House, Identity, Inbox, Standing, rest, tell_ready};
+use hk_house::{House, Identity, Inbox, Standing, rest, tell_no_manager, tell_ready};
 use hk_inside::NodeState;
 use hk_lanes::LaneDesks;
 use hk_locked::Places;
@@ -42,6 +42,8 @@ pub struct Serving<'a> {
     pub listen: &'a Address,
     /// How many workers its node has, 1 to 8.
     pub workers: u8,
+    /// The folder of this host's manager, as the operator wrote it.
+    pub data: &'a str,
 }
 
 // What the threads share, before anything was heard.
@@ -121,6 +123,20 @@ fn is_ready<R: Wait + Drop, C: Drop>(house: &House<R, C>) -> bool {
     let guard = house.standing.lock(&house.rt);
     let standing = &*guard;
     standing.state == NodeState::Ready
+}
+
+// Whether the manager of this host is none of its group: its folder was empty while the group lived.
+fn lacks_manager<R: Wait + Drop, C: Drop>(house: &House<R, C>) -> bool {
+    let guard = house.standing.lock(&house.rt);
+    house.identity.place.is_some() && guard.manager.is_none()
+}
+
+// Tells that the node is ready, and where its host has no manager, that too.
+fn tell_standing<R: Wait + Eprint + Drop, C: Drop>(house: &House<R, C>, node: NodeId, data: &str) {
+    if lacks_manager(house) {
+        tell_no_manager(&house.rt, data);
+    }
+    tell_ready(&house.rt, node.0);
 }
 
 // Waits until all shards are ready.
@@ -240,7 +256,7 @@ fn serve_ready<
     entry: &NodeDoor<R, C, P, X>,
     node: NodeId,
     desks: LaneDesks<R, C, P, X>,
-    listen: &Address,
+    serving: Serving<'_>,
     doors: &mut K,
     spawner: &mut S,
 ) -> Result<Status, ServeFault>
@@ -255,8 +271,8 @@ fn serve_ready<
     };
     entry.open(own);
     wait_until_ready(house)?;
-    tell_ready(&house.rt, node.0);
-    serve_clients(house, &desks, listen, doors, spawner)
+    tell_standing(house, node, serving.data);
+    serve_clients(house, &desks, serving.listen, doors, spawner)
 }
 
 // Starts the node that this member is, and serves its clients.
@@ -274,7 +290,7 @@ fn serve_member<
     sending: &mut Sending,
     part: Part,
     member: Member<R, C, P>,
-    listen: &Address,
+    serving: Serving<'_>,
     dialers: &E,
     doors: &mut K,
     spawner: &mut S,
@@ -284,13 +300,21 @@ fn serve_member<
     ensures no_door_fault { result ≡ Ok Status.DoorFault → ⊥ }
     ensures spawn_fault { result ≡ Ok Status.SpawnFault → Rose (S.faults spawner.old) (S.faults spawner.new) }
 {
-    match start_node(house, part, dialers, sending, spawner, member, listen) {
+    match start_node(
+        house,
+        part,
+        dialers,
+        sending,
+        spawner,
+        member,
+        serving.listen,
+    ) {
         Ok(desks) => serve_ready(
             &**house,
             entry,
             part.number(),
             desks,
-            listen,
+            serving,
             doors,
             spawner,
         ),
@@ -312,7 +336,7 @@ fn serve_made<
     sending: &mut Sending,
     part: Part,
     made: Result<Member<R, C, P>, Memory>,
-    listen: &Address,
+    serving: Serving<'_>,
     dialers: &E,
     doors: &mut K,
     spawner: &mut S,
@@ -324,13 +348,13 @@ fn serve_made<
 {
     match made {
         Ok(member) => serve_member(
-            house, entry, sending, part, member, listen, dialers, doors, spawner,
+            house, entry, sending, part, member, serving, dialers, doors, spawner,
         ),
         Err(_) => Ok(Status::Memory),
     }
 }
 
-// Makes the node of these shards, and serves its clients. What the process has of its own is let go of at one place.
+// Makes the node of these shards, and serves its clients.
 fn serve_founded<
     P: Places + Send + Sync + 'static,
     R: Wait + Eprint + Copy + Send + Sync + Drop + 'static,
@@ -340,12 +364,13 @@ fn serve_founded<
     S: Spawner,
 >(
     house: &Arc<House<R, C>>,
-    started: Started<R, C, P, Passage<R, C, E::Dialer>>,
+    entry: &NodeDoor<R, C, P, Passage<R, C, E::Dialer>>,
+    sending: &mut Sending,
     part: Part,
     group: &Group,
     clock: Arc<C>,
     founded: Founded,
-    listen: &Address,
+    serving: Serving<'_>,
     dialers: &E,
     doors: &mut K,
     spawner: &mut S,
@@ -356,31 +381,26 @@ fn serve_founded<
     ensures no_door_fault { result ≡ Ok Status.DoorFault → ⊥ }
     ensures spawn_fault { result ≡ Ok Status.SpawnFault → Rose (S.faults spawner.old) (S.faults spawner.new) }
 {
-    let Started {
-        entry,
-        mut sending,
-        tickets: _tickets,
-    } = started;
     let made = new_member::<R, C, P>(&**house, clock, founded, group);
     serve_made(
-        house,
-        &*entry,
-        &mut sending,
-        part,
-        made,
-        listen,
-        dialers,
-        doors,
-        spawner,
+        house, entry, sending, part, made, serving, dialers, doors, spawner,
     )
 }
 
-// What a process has of its own once it is started, and what its node is founded with.
+// What a node is founded with, beside its cells.
+#[derive(Drop)]
+struct Seed<C: Drop> {
+    view: View,
+    tickets: Arc<Tickets>,
+    clock: Arc<C>,
+}
+
+// What a process has of its own once it is started.
 #[derive(Drop)]
 struct Started<R: Wait + Drop, C: Drop, P: Places, X: Drop> {
     entry: Arc<NodeDoor<R, C, P, X>>,
     sending: Sending,
-    tickets: Arc<Tickets>,
+    seed: Seed<C>,
 }
 
 // The door to a node that is not there yet.
@@ -392,6 +412,20 @@ fn new_entry<R: Wait + Copy + Drop, C: Drop, P: Places, X: Drop>(
 
 fn new_tickets(alloc: Global) -> Result<Arc<Tickets>, Memory> {
     Ok(Arc::new(alloc, Tickets::new())?)
+}
+
+// The seed of the node, made before there are cells: what may fail while these are in hand lets go of them.
+fn new_seed<R: Wait + Drop, C: Drop>(house: &House<R, C>) -> Result<Seed<C>, Memory>
+    ensures { IfOk result (λ seed. seed.view ≡ first_view (length house.now.identity.hosts)) }
+{
+    let view = first_view(house.alloc, house.identity.managers())?;
+    let tickets = new_tickets(house.alloc)?;
+    let clock = Arc::try_clone(&house.clock)?;
+    Ok(Seed {
+        view,
+        tickets,
+        clock,
+    })
 }
 
 // Starts the process.
@@ -412,11 +446,12 @@ fn start_process<
     spawner: &mut S,
 ) -> Result<Started<R, C, P, Passage<R, C, E::Dialer>>, StartFault>
     requires { IfSome manager (λ m. m.place < length (arc_value house.now).identity.hosts) }
-    ensures { Starts (S.faults spawner.old) (S.faults spawner.new) result }
+    ensures starts { Starts (S.faults spawner.old) (S.faults spawner.new) result }
+    ensures seed { IfOk result (λ started. started.seed.view ≡ first_view (length (arc_value house.now).identity.hosts)) }
 {
     let mut sending = Sending::new(house.alloc)?;
     let entry = new_entry::<R, C, P, Passage<R, C, E::Dialer>>(&**house)?;
-    let tickets = new_tickets(house.alloc)?;
+    let seed = new_seed(&**house)?;
     start_host(
         house,
         &entry,
@@ -429,7 +464,7 @@ fn start_process<
     Ok(Started {
         entry,
         sending,
-        tickets,
+        seed,
     })
 }
 
@@ -494,30 +529,33 @@ fn serve_part<
     spawner: &mut S,
 ) -> Result<Status, ServeFault>
     requires places { AreForAny P.places (names_of_cells (arc_value house.now).identity.skew cells) }
+    requires view { started.seed.view ≡ first_view (length (arc_value house.now).identity.hosts) }
     ensures ends { IfOk result EndsServe }
     ensures closed { result ≡ Ok Status.Done → K.closed doors.new ≡ true }
     ensures no_door_fault { result ≡ Ok Status.DoorFault → ⊥ }
     ensures spawn_fault { result ≡ Ok Status.SpawnFault → Rose (S.faults spawner.old) (S.faults spawner.new) }
 {
     let group = founding_group(&house.identity, serving.workers);
-    let Ok(view) = first_view(house.alloc, group.nodes) else {
-        return Ok(Status::Memory);
-    };
-    let Ok(tickets) = Arc::try_clone(&started.tickets) else {
-        return Ok(Status::Memory);
-    };
-    let Ok(clock) = Arc::try_clone(&house.clock) else {
-        return Ok(Status::Memory);
-    };
+    let Started {
+        entry,
+        mut sending,
+        seed,
+    } = started;
+    let Seed {
+        view,
+        tickets,
+        clock,
+    } = seed;
     match found(&**house, cells, &view, &group, part, tickets) {
         Ok(founded) => serve_founded(
             house,
-            started,
+            &*entry,
+            &mut sending,
             part,
             &group,
             clock,
             founded,
-            serving.listen,
+            serving,
             dialers,
             doors,
             spawner,

@@ -186,6 +186,14 @@ fn logged_manager<R: Eprint>(
     })
 }
 
+// The folder in which a log is.
+fn folder_of(path: &str) -> &str {
+    match path.strip_suffix("/log") {
+        Some(folder) => folder,
+        None => path,
+    }
+}
+
 // Whether the place of the manager is one of the group.
 fn has_place(identity: &Identity, manager: &Option<HostManager<DiskFile>>) -> bool
     ensures { result ≡ true → IfSome manager.now (λ m. m.place < length identity.now.hosts) }
@@ -269,6 +277,7 @@ pub(crate) fn run_node<
         Serving {
             listen: &listen,
             workers,
+            data: folder_of(&path),
         },
         &mut HostDoors::new(rt, alloc),
         &mut LooseSpawner::new(rt),

@@ -46,6 +46,8 @@ pub use house::House;
 pub use identity::Identity;
 pub use inbox::{Coming, Inbox, Slot};
 pub use making::{IdentityFault, digest_of};
-pub use notices::{Told, tell_leaving, tell_log_ended, tell_open, tell_ready, tell_refused};
+pub use notices::{
+    Told, tell_leaving, tell_log_ended, tell_no_manager, tell_open, tell_ready, tell_refused,
+};
 pub use resting::rest;
 pub use standing::{LostTail, ShardsSeen, Standing, copy_of};

@@ -108,3 +108,10 @@ pub fn tell_leaving<R: Eprint>(rt: &R, node: u16) {
 pub fn tell_ready<R: Eprint>(rt: &R, node: u16) {
     let _ = eprintln!(rt; "hermes: node {node} is ready");
 }
+
+/// The group is open, and this host's manager none of its own: the folder that it began with was empty.
+pub fn tell_no_manager<R: Eprint>(rt: &R, folder: &str) {
+    let _ = eprintln!(rt;
+        "hermes: the group lives and {folder} is empty: this host has no manager"
+    );
+}
