@@ -1,4 +1,4 @@
-//! The one call that the program makes.
+//! What the program calls.
 //!
 //! `hermes` takes the words of the command and all of the outside that a command can need, does what the words say and
 //! answers a status. What the product promises to the person at the terminal stands in its contract; which words are which command,

@@ -12,8 +12,6 @@
 //! equals (`IsByEvent`), which makes the keys' orders the joint order (`placed_are_joint`). `joint_order` and
 //! `live_joint_order` give its entries, and that it is legal (`exact`, `legal`). A [`NotedRun`] notes its batches, one
 //! event after the other; a [`Batching`] that finds no memory may have lost some.
-//!
-//! Nothing runs `joint_order`: a body that always answers Memory would pass.
 #![tactic(auto)]
 
 mod batch;

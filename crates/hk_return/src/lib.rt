@@ -44,8 +44,8 @@
 //! soon keeps the next one from beginning (`a_view_may_come_again`): the law never needs this event, `Note`, and it
 //! does not help a manager that skips the lost view.
 //!
-//! What no clause says: that a program's loop makes these steps, and that worlds with returns are both machines at
-//! once. No program does so yet.
+//! What no clause says: that worlds with returns are both machines at once. That a program's turns are batches of these
+//! steps says `hk_durable`, and `hk_managing` has the loop that makes them.
 #![tactic(auto)]
 
 mod law;

@@ -1,9 +1,11 @@
-//! The moments at which the changes of a run are complete.
+//! The moments at which the changes of a run are complete, and the joint order that they make.
 
 ghost use Rattle.hk_world.specs.Sound.{IsEvent};
 
-use hk_base::{Content, Data, Key, MAX_VERSION, NodeId, Op, Stamp};
+use hk_base::{CallNo, Content, Data, Key, MAX_VERSION, NodeId, Op, Stamp};
 use hk_event::{Event, Header};
+use hk_history::Entry;
+use hk_joint::joint_order;
 use hk_safety::Run;
 use std::alloc::Global;
 use std::process::Abort;
@@ -96,4 +98,29 @@ fn a_later_stamp_that_is_complete_first_is_the_moment_of_both(rt: HostRuntime) {
     assert_eq!(rt; moment(&rt, alloc, &run, b"k", 2, 1), Some(3));
     take(&rt, alloc, &mut run, 1);
     assert_eq!(rt; moment(&rt, alloc, &run, b"k", 2, 0), Some(3));
+}
+
+// A call that left a state of the tag of version 2 at node 0.
+fn entry(call: u64) -> Entry {
+    let stamp = Stamp {
+        version: 2,
+        node: 0,
+    };
+    Entry {
+        call: CallNo(call),
+        tag: Some(stamp.tag()),
+    }
+}
+
+// Node 0 writes two keys, and the second write is complete first: the joint order has it first.
+#[test]
+fn a_joint_order_has_calls_by_the_events_at_which_they_stand(rt: HostRuntime) {
+    let alloc = rt.alloc();
+    let mut run = begun(&rt, alloc);
+    make(&rt, alloc, &mut run, set(&rt, alloc, 0, b"a", b"x"));
+    make(&rt, alloc, &mut run, set(&rt, alloc, 0, b"b", b"y"));
+    take(&rt, alloc, &mut run, 2);
+    take(&rt, alloc, &mut run, 1);
+    let order = joint_order(alloc, &run).expect(&rt, "memory");
+    assert_eq!(rt; order.as_slice(), [entry(2), entry(1)].as_slice());
 }
