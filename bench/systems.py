@@ -71,15 +71,24 @@ class System:
         ours = [line for line in lines if any(f"pid={pid}," in line for pid in self.pids())]
         return sum(int(sent) for line in ours for sent in re.findall(r"\bsegs_out:(\d+)", line))
 
-    def wait_for_set(self, seconds=SOON):
+    def wait_for_set(self, seconds=SOON, place=0):
         """Waits until a set is answered as later ones are."""
-        if until(seconds, lambda: is_set(self), 0.01) is None:
+        if until(seconds, lambda: is_set(self, place), 0.01) is None:
             raise Fault(f"{self.name} answers no set in {seconds} s")
         return self
 
     def kill(self):
         for server in self.servers:
             server.kill()
+
+    def kill_at(self, place):
+        self.servers[place].kill()
+
+    def start_again(self, place, seconds=SOON):
+        """Starts a process that was killed, and waits until a set is answered there."""
+        killed = self.servers[place]
+        self.servers[place] = Server(killed.process.args[:1], killed.process.args[1:], killed.port)
+        self.wait_for_set(seconds, place)
 
     def __enter__(self):
         return self
@@ -93,16 +102,33 @@ def address_of(address):
     return host or HOST, int(port)
 
 
-def is_set(system):
-    """Whether a set of a key of no load is answered, at redis by two replicas."""
+def told_by_etcd(address, path, **fields):
+    """What a member of etcd answers to a request of its JSON gateway, if it does what is asked."""
+    conn = http.client.HTTPConnection(*address_of(address), timeout=2)
+    conn.request("POST", path, json.dumps(fields))
+    answer = conn.getresponse()
+    told = answer.read()
+    return json.loads(told) if answer.status == 200 else None
+
+
+def leader_of(etcd):
+    """The place of the member that leads, if one says so."""
+    for place, address in enumerate(etcd.addresses):
+        with contextlib.suppress(OSError, http.client.HTTPException):
+            told = told_by_etcd(address, "/v3/maintenance/status")
+            if told and told["header"]["member_id"] == told["leader"]:
+                return place
+    return None
+
+
+def is_set(system, place=0):
+    """Whether a set of a key of no load is answered at a place, at redis by two replicas."""
     with contextlib.suppress(OSError, http.client.HTTPException):
         if system.kind == "etcd":
-            conn = http.client.HTTPConnection(*address_of(system.addresses[0]), timeout=2)
-            conn.request("POST", "/v3/kv/put", json.dumps({"key": b64encode(b"first").decode(), "value": b64encode(VALUE).decode()}))
-            return conn.getresponse().status == 200
+            return told_by_etcd(system.addresses[place], "/v3/kv/put", key=b64encode(b"first").decode(), value=b64encode(VALUE).decode()) is not None
         is_redis = system.kind == "redis"
         asked = (b"SET first %s\r\nWAIT 2 1000\r\n" if is_redis else b"set first 0 0 100\r\n%s\r\n") % VALUE
-        with socket.create_connection(address_of(system.addresses[0]), timeout=10) as conn, conn.makefile("rb") as read:
+        with socket.create_connection(address_of(system.addresses[place]), timeout=10) as conn, conn.makefile("rb") as read:
             conn.sendall(asked)
             told = [read.readline() for _line in range(2 if is_redis else 1)]
         return told == ([b"+OK\r\n", b":2\r\n"] if is_redis else [b"STORED\r\n"])
@@ -133,6 +159,13 @@ class HostsSystem(System):
     def found(self):
         self.hosts.found()
         return self
+
+    def kill_at(self, place):
+        self.hosts.kill(place)
+
+    def start_again(self, place, seconds=SOON):
+        self.hosts.start(place)
+        self.hosts.wait_ready(place, seconds)
 
     def __exit__(self, *cause):
         self.hosts.__exit__(*cause)
