@@ -1,23 +1,21 @@
 """Faults of a group over hosts that are drawn: what begins each of them, and what heals it; and the group that they befall, each host a namespace (switch.py),
 each process with a clock and a disk that are steered (outside.rs)."""
-import mmap
-import os
 import random
 import signal
-import struct
 import threading
 from concurrent.futures import ThreadPoolExecutor
 from dataclasses import dataclass
 
 import switch
 from hosts import LOG, OUT, Hosts
+from preloaded import RATE, Steered
 from switch import Terms
 
 HOSTS, LEASE = 3, 1_000
 # For how many seconds faults last.
 LASTS = (1, 1.5, 2, 3, 6)
-# By how many millionths of a second a clock goes on in a second: at all, within the bound, and beyond it.
-RATE, RATES, BEYOND = 1_000_000, (957_000, 1_043_000), 400_000
+# By how many millionths of a second a clock goes on in a second, within the bound and beyond it.
+RATES, BEYOND = (957_000, 1_043_000), 400_000
 
 
 # ---- a group on the switch
@@ -35,23 +33,6 @@ class Namespaces:
 
     def leave(self):
         """They stay, for another group."""
-
-
-class Steered:
-    """The clock and the disk of a process (outside.rs): a file that the process looks at."""
-
-    FIELDS = ("rate", "jump", "sync", "full")
-
-    def __init__(self, path):
-        path.write_bytes(struct.pack("4q", RATE, 0, 0, 0))
-        with open(path, "r+b") as file:
-            self.map = mmap.mmap(file.fileno(), 32)
-
-    def read(self, name):
-        return struct.unpack_from("q", self.map, 8 * self.FIELDS.index(name))[0]
-
-    def set(self, name, value):
-        struct.pack_into("q", self.map, 8 * self.FIELDS.index(name), value)
 
 
 class Group(Hosts):
@@ -77,8 +58,8 @@ class Group(Hosts):
         return [*self.hosts[place].inside(), *self.program]
 
     def start(self, place, *more, **options):
-        steered = {"LD_PRELOAD": self.library, "OUTSIDE": str(self.room / f"outside-{place}")} if self.library else {}
-        return super().start(place, *more, env={**os.environ, **steered}, **options)
+        steered = {"env": self.steered[place].environment(self.library)} if self.library else {}
+        return super().start(place, *more, **steered, **options)
 
     def begin_all(self):
         """Starts and founds it, on disks that are drawn to be slow meanwhile, and from then on starts again what ends."""

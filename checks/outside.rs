@@ -1,10 +1,14 @@
-// Steers the clock and the disk of a process while it runs, in a program that is started with this library before it. `OUTSIDE` names a file of four numbers
-// of 64 bits, in the machine's order, which whoever started the process may change at any time:
+// Steers the clock, the disk and the threads of a process while it runs, in a program that is started with this library before it. `OUTSIDE` names a file of
+// seven numbers of 64 bits, in the machine's order, which whoever started the process may change at any time:
 //   rate   by how many millionths of a second the process's clock goes on in a second; its waits that have an end last as long by that clock
 //   jump   by how many milliseconds that clock was set forward in all
 //   sync   how many milliseconds each sync of a file takes longer
 //   full   1 where the disk is full: a write to a file takes half of its bytes, and one of a single byte none
-// Without the file, or with 0 for the rate, clock and disk are the machine's.
+//   hold   for how many milliseconds a thread stands still behind a reading of the clock, now and then
+//   every  how many milliseconds a thread goes on before that, and in between
+//   held   how often that was so: the process counts it
+// Without the file, or with 0 for the rate, clock, disk and threads are the machine's.
+use std::cell::Cell;
 use std::ffi::{c_char, c_int, c_void};
 use std::sync::Mutex;
 use std::sync::atomic::{AtomicI64, AtomicPtr, AtomicUsize, Ordering};
@@ -21,8 +25,9 @@ unsafe extern "C" {
 
 const ENOSPC: c_int = 28;
 const STANDARD_ERROR: c_int = 2;
-const READ_ONLY: c_int = 0;
+const READ_AND_WRITE: c_int = 2;
 const PROT_READ: c_int = 1;
+const PROT_WRITE: c_int = 2;
 const MAP_SHARED: c_int = 1;
 const CLOCK_MONOTONIC: c_int = 1;
 const SYS_FUTEX: i64 = 202;
@@ -58,10 +63,21 @@ struct Steered {
     jump: AtomicI64,
     sync: AtomicI64,
     full: AtomicI64,
+    hold: AtomicI64,
+    every: AtomicI64,
+    held: AtomicI64,
 }
 
 static STEERED: AtomicPtr<Steered> = AtomicPtr::new(std::ptr::null_mut());
-static UNSTEERED: Steered = Steered { rate: AtomicI64::new(0), jump: AtomicI64::new(0), sync: AtomicI64::new(0), full: AtomicI64::new(0) };
+static UNSTEERED: Steered = Steered {
+    rate: AtomicI64::new(0),
+    jump: AtomicI64::new(0),
+    sync: AtomicI64::new(0),
+    full: AtomicI64::new(0),
+    hold: AtomicI64::new(0),
+    every: AtomicI64::new(0),
+    held: AtomicI64::new(0),
+};
 
 fn steered() -> &'static Steered {
     unsafe { STEERED.load(Ordering::Acquire).as_ref() }.unwrap_or(&UNSTEERED)
@@ -125,7 +141,9 @@ pub unsafe extern "C" fn clock_gettime(clock: c_int, time: *mut Time) -> c_int {
     unsafe {
         let told = std::mem::transmute::<_, Clock>(next(&CLOCK, c"clock_gettime"))(clock, time);
         if told == 0 && clock == CLOCK_MONOTONIC {
-            *time = Time::of(shown((*time).whole()));
+            let machine = (*time).whole();
+            *time = Time::of(shown(machine));
+            hold_behind(machine);
         }
         told
     }
@@ -145,11 +163,37 @@ pub unsafe extern "C" fn syscall(number: i64, word: usize, operation: usize, cou
     }
 }
 
+fn rest(milliseconds: i64) {
+    unsafe { nanosleep(&Time::of(milliseconds * MILLISECOND), std::ptr::null_mut()) };
+}
+
+thread_local! {
+    /// When this thread may be held next, by the machine's clock; 0 before it read one.
+    static NEXT_HOLD: Cell<i64> = const { Cell::new(0) };
+}
+
+/// Holds the thread that has read its clock, where it went on for long enough. The threads of a process are held at different times.
+fn hold_behind(machine: i64) {
+    let (hold, every) = (steered().hold.load(Ordering::Relaxed), steered().every.load(Ordering::Relaxed).max(1));
+    if hold <= 0 {
+        return NEXT_HOLD.set(0);
+    }
+    match NEXT_HOLD.get() {
+        0 => NEXT_HOLD.set(machine + machine / 1_000 % every * MILLISECOND),
+        due if due <= machine => {
+            steered().held.fetch_add(1, Ordering::Relaxed);
+            rest(hold);
+            NEXT_HOLD.set(machine + (hold + every) * MILLISECOND);
+        }
+        _ => {}
+    }
+}
+
 /// The disk is slow, where it is.
 fn wait_for_disk() {
     let asked = steered().sync.load(Ordering::Relaxed);
     if asked > 0 {
-        unsafe { nanosleep(&Time::of(asked * MILLISECOND), std::ptr::null_mut()) };
+        rest(asked);
     }
 }
 
@@ -185,8 +229,8 @@ extern "C" fn begin() {
         if path.is_null() {
             return;
         }
-        let file = open(path, READ_ONLY);
-        let map = mmap(std::ptr::null_mut(), size_of::<Steered>(), PROT_READ, MAP_SHARED, file, 0);
+        let file = open(path, READ_AND_WRITE);
+        let map = mmap(std::ptr::null_mut(), size_of::<Steered>(), PROT_READ | PROT_WRITE, MAP_SHARED, file, 0);
         if file >= 0 && map as isize != -1 {
             STEERED.store(map.cast(), Ordering::Release);
         }

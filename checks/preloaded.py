@@ -1,12 +1,17 @@
-"""Programs that run while one call of the C library fails, or ends them: what `checks/faults.rs` and `checks/kills.rs` make of the environment, and what the first one tells."""
+"""Programs that run while one call of the C library fails, or ends them: what `checks/faults.rs` and `checks/kills.rs` make of the environment, and what the first one tells;
+and those whose clock, disk and threads are steered (`checks/outside.rs`)."""
+import mmap
 import os
 import shutil
+import struct
 import subprocess
 import sys
 from pathlib import Path
 
 KINDS = ["ALLOCATE", "READ", "WRITE", "THREAD"]
 WRITES_SHORT, READS_SHORT = 1, 2
+# By how many millionths of a second a clock goes on in a second.
+RATE = 1_000_000
 
 
 def build(room, name="faults"):
@@ -31,3 +36,24 @@ def calls(told, status):
     if words[:1] != ["calls"]:
         sys.exit(f"the library told no calls: the program ended with status {status}, and told {told[-400:]!r}")
     return dict(zip(KINDS, map(int, words[1:])))
+
+
+class Steered:
+    """The clock, the disk and the threads of a process (`checks/outside.rs`): a file that the process looks at."""
+
+    FIELDS = ("rate", "jump", "sync", "full", "hold", "every", "held")
+
+    def __init__(self, path):
+        self.path = path
+        path.write_bytes(struct.pack("7q", RATE, *[0] * 6))
+        with open(path, "r+b") as file:
+            self.map = mmap.mmap(file.fileno(), 0)
+
+    def environment(self, library):
+        return {**os.environ, "LD_PRELOAD": library, "OUTSIDE": str(self.path)}
+
+    def read(self, name):
+        return struct.unpack_from("q", self.map, 8 * self.FIELDS.index(name))[0]
+
+    def set(self, name, value):
+        struct.pack_into("q", self.map, 8 * self.FIELDS.index(name), value)

@@ -10,11 +10,12 @@ from multiprocessing import get_context, parent_process
 
 from hosts import CLIENTS as PORT
 from linearizable import Call, GaveUp, decide, decide_counter, decide_register
+from servers import Fault
 
 # A call as a client notes it; `after` is None where it was never answered.
 Noted = namedtuple("Noted", "place key client number before after op told")
 
-BUSY, ABORTED, UNKNOWN = "SERVER_ERROR busy", "SERVER_ERROR aborted", "SERVER_ERROR outcome unknown"
+STORED, BUSY, ABORTED, UNKNOWN = "STORED", "SERVER_ERROR busy", "SERVER_ERROR aborted", "SERVER_ERROR outcome unknown"
 NOT_A_NUMBER = "CLIENT_ERROR not a number"
 # What is told where the connection broke, or nothing came in time.
 BROKEN = "broken"
@@ -203,6 +204,21 @@ class Clients:
         for process, _pipe in self.processes:
             process.join()
         return noted
+
+
+def set_up(address, number):
+    """What counters and keys at rest hold to begin with. Gives the calls of the latter."""
+    client = Client(0, address, number, None, 0, None)
+    client.conn.open()
+    for counter in range(COUNTERS):
+        client.call(f"c{counter}", "set", (0, b"0"), None)
+    client.noted.clear()
+    for key in range(AT_REST):
+        client.call(f"q{key}", "set", (0, b"at rest %d" % key), None)
+    client.conn.close()
+    if [one.told for one in client.noted] != [STORED] * AT_REST:
+        raise Fault(f"a new group stores nothing: {client.noted}")
+    return client.noted
 
 
 # ---- what they noted
