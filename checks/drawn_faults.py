@@ -1,21 +1,26 @@
 """Faults of a group over hosts that are drawn: what begins each of them, and what heals it; and the group that they befall, each host a namespace (switch.py),
 each process with a clock and a disk that are steered (outside.rs)."""
+import contextlib
 import random
 import signal
 import threading
+import time
 from concurrent.futures import ThreadPoolExecutor
 from dataclasses import dataclass
 
 import switch
-from hosts import LOG, OUT, Hosts
+from hosts import CLIENTS, LOG, OUT, Hosts, Inside, can_connect, views_told
 from preloaded import RATE, Steered
+from servers import Fault, expect, until
 from switch import Terms
 
 HOSTS, LEASE = 3, 1_000
 # For how many seconds faults last.
-LASTS = (1, 1.5, 2, 3, 6)
+LASTS, ROLLS = (1, 1.5, 2, 3, 6), (3, 6, 12)
 # By how many millionths of a second a clock goes on in a second, within the bound and beyond it.
 RATES, BEYOND = (957_000, 1_043_000), 400_000
+# Seconds: between two looks at the views that a host tells, and how long its answer may take; how long a host may take to be back that left.
+LOOKS, LOOK, BACK = 0.1, 1, 60
 
 
 # ---- a group on the switch
@@ -35,6 +40,57 @@ class Namespaces:
         """They stay, for another group."""
 
 
+class Views:
+    """The views that hosts tell, looked at over and over: of a shard there is one view with a number, whoever tells it, and whenever."""
+
+    def __init__(self, group):
+        self.group, self.told, self.turn, self.is_over = group, {}, threading.Lock(), threading.Event()
+        self.threads = [threading.Thread(target=self.watch, args=(place,), daemon=True) for place in range(HOSTS)]
+
+    def begin(self):
+        for thread in self.threads:
+            thread.start()
+
+    def end(self):
+        self.is_over.set()
+        for thread in self.threads:
+            if thread.ident:
+                thread.join()
+
+    def watch(self, place):
+        while not self.is_over.wait(LOOKS):
+            with contextlib.suppress(OSError, Fault):
+                self.look(place)
+
+    def look(self, place):
+        with Inside(self.group.addresses[place], LOOK) as inside:
+            expect(inside.greet(place, self.group.addresses), 0, f"the answer of host {place} to a hello")
+            lines = views_told(inside.status())
+        for line in lines:
+            self.take(place, line)
+
+    def take(self, place, line):
+        _, shards, epoch, view = line.split(" ", 3)
+        with self.turn:
+            for shard in shards_of(shards.partition("=")[2]):
+                first, other = self.told.setdefault((shard, epoch), (view, place))
+                if first != view:
+                    note_once(self.group.wrong, f"two views with one number: of shard {shard} host {other} told {epoch} {first}, and host {place} tells {view}")
+
+
+def shards_of(ranges):
+    """The shards that stand in a line of a view, as `0-2,5`."""
+    for one in ranges.split(","):
+        first, _, last = one.partition("-")
+        yield from range(int(first), int(last or first) + 1)
+
+
+def note_once(wrong, what):
+    """Keeps what is wrong, unless something of the kind was: of two views with one number there would be many."""
+    if not any(one.startswith(what.split(":")[0]) for one in wrong):
+        wrong.append(what)
+
+
 class Group(Hosts):
     """A group whose hosts are namespaces, and its supervisor: a process that ends is started again, and its node joins anew."""
 
@@ -45,11 +101,12 @@ class Group(Hosts):
         # the disk that may be full: of one host alone, whose manager may be gone behind it
         self.draw = random.Random(f"{seed} group")
         self.full_place = self.draw.randrange(HOSTS)
-        self.wrong, self.is_ending = [], threading.Event()
-        self.supervisor = threading.Thread(target=self.supervise, daemon=True)
+        self.wrong, self.left, self.is_ending = [], set(), threading.Event()
+        self.supervisor, self.views = threading.Thread(target=self.supervise, daemon=True), Views(self)
 
     def __exit__(self, *cause):
         self.is_ending.set()
+        self.views.end()
         if self.supervisor.is_alive():
             self.supervisor.join()
         super().__exit__(*cause)
@@ -70,6 +127,7 @@ class Group(Hosts):
         for steered in self.steered:
             steered.set("sync", 0)
         self.supervisor.start()
+        self.views.begin()
         return self
 
     def supervise(self):
@@ -80,9 +138,10 @@ class Group(Hosts):
                     self.start(place)
 
     def note_end(self, place, server):
-        """A signal may end a process, that its node is out, and at its start a disk that is full."""
+        """A signal may end a process, that its node is out or has left, and at its start a disk that is full."""
         status = server.process.returncode
-        is_due = status in (-signal.SIGKILL, OUT) or status == LOG and place == self.full_place and "can't be written" in server.told()
+        is_full = status == LOG and place == self.full_place and "can't be written" in server.told()
+        is_due = status in (-signal.SIGKILL, OUT) or status == 0 and server in self.left or is_full
         if not is_due:
             self.wrong.append(f"the process of host {place} ends with status {status}: {server.told()!r:.300}")
 
@@ -91,6 +150,20 @@ class Group(Hosts):
 
     def signal(self, place, number):
         self.servers[place].process.send_signal(number)
+
+    def restart(self, place):
+        """A planned restart, as OPERATIONS.md has it: the node leaves, its process ends and is started again, and joins."""
+        server, told = self.servers[place], []
+        self.left.add(server)
+
+        def leaves():
+            told[:] = self.command("leave", "--at", place)
+            return told[0] == 0
+
+        if until(BACK, leaves, 0.2) is None:
+            raise Fault(f"host {place} does not leave in {BACK} s: {told}")
+        if until(BACK, lambda: self.servers[place] is not server and can_connect(self.addresses[place], CLIENTS), 0.05) is None:
+            raise Fault(f"host {place} is not ready {BACK} s behind its leave: {told}; {self.how_it_stands()}")
 
 
 # ---- faults
@@ -256,20 +329,30 @@ def clocks(scene):
     return DrawnFault("clocks", text, scene.lasts(), set(range(HOSTS)), begin, lambda: set_rates(group, [RATE] * HOSTS))
 
 
-def clock_beyond(scene):
-    group = scene.group
-    pairs, hit, text = cut(scene, "cut-off")
-    rates = [BEYOND if place in hit else RATE for place in range(HOSTS)]
+def cut_by_clock(kind, rate, of_others, lasts):
+    """A host is cut off while its clock goes slower than those of the others."""
 
-    def begin():
-        set_rates(group, rates)
-        scene.switch.drop("cut", pairs)
+    def drawn(scene):
+        group = scene.group
+        pairs, hit, text = cut(scene, "cut-off")
+        rates = [rate if place in hit else of_others for place in range(HOSTS)]
 
-    def heal():
-        scene.switch.pass_on("cut")
-        set_rates(group, [RATE] * HOSTS)
+        def begin():
+            set_rates(group, rates)
+            scene.switch.drop("cut", pairs)
 
-    return DrawnFault("clock-beyond", f"{text}, and its clock goes at {BEYOND / 10_000:.0f} %", 4 * LEASE / 1000, hit, begin, heal)
+        def heal():
+            scene.switch.pass_on("cut")
+            set_rates(group, [RATE] * HOSTS)
+
+        text = f"{text}, and its clock goes at {rate / 10_000:.1f} %, the others' at {of_others / 10_000:.1f} %"
+        return DrawnFault(kind, text, scene.draw.choice(lasts), hit, begin, heal)
+
+    return drawn
+
+
+clock_cut = cut_by_clock("clock-cut", *RATES, (2, 3, 6))
+clock_beyond = cut_by_clock("clock-beyond", BEYOND, RATE, (4 * LEASE / 1000,))
 
 
 def slow_disk(scene):
@@ -290,13 +373,60 @@ def kill(scene):
     return DrawnFault("kill", f"the process of host {place} is killed", scene.lasts(), {place}, lambda: group.signal(place, signal.SIGKILL), lambda: None)
 
 
+def kill_most(scene):
+    """The same of two hosts of three: with a majority of the managers gone the third one waits until they are back."""
+    places, group = scene.draw.sample(range(HOSTS), 2), scene.group
+
+    def begin():
+        for place in places:
+            group.signal(place, signal.SIGKILL)
+
+    text = f"the processes of hosts {places[0]} and {places[1]} are killed"
+    return DrawnFault("kill-most", text, scene.lasts(), set(places), begin, lambda: None)
+
+
+class Rolling:
+    """Hosts that are restarted in turn, until it is ended: then the one is waited for that is under way."""
+
+    def __init__(self, group, places):
+        self.group, self.places, self.is_over = group, places, threading.Event()
+        self.thread = threading.Thread(target=self.run, daemon=True)
+
+    def run(self):
+        for place in self.places:
+            if self.is_over.is_set():
+                return
+            try:
+                self.group.restart(place)
+            except (Fault, OSError) as fault:
+                self.group.wrong.append(f"rolling restart: {fault}")
+                return
+
+    def begin(self):
+        self.thread.start()
+
+    def end(self):
+        self.is_over.set()
+        self.thread.join()
+
+
+def rolling(scene):
+    places = scene.draw.sample(range(HOSTS), HOSTS)
+    turns = Rolling(scene.group, places)
+    text = f"hosts {', '.join(map(str, places))} leave and come back in turn"
+    return DrawnFault("rolling", text, scene.draw.choice(ROLLS), set(range(HOSTS)), turns.begin, turns.end)
+
+
 NETWORK = {"loss": loss, **{kind: cuts(kind) for kind in CUTS}, "flap": flap}
 RELAYED = {"delay": delay, "disorder": disorder, "twice": twice, "narrow": narrow}
-PROCESS = {"bursts": bursts, "stop": stop, "kill": kill}
+PROCESS = {"bursts": bursts, "stop": stop, "kill": kill, "kill-most": kill_most}
 OUTSIDE = {"clocks": clocks, "slow-disk": slow_disk, "full-disk": full_disk}
 SORTS = (NETWORK, RELAYED, PROCESS, OUTSIDE)
+# Those that are none of two: they are of two sorts themselves, or an operator's, who restarts nothing while something else is wrong.
+ALONE = {"clock-cut": clock_cut, "rolling": rolling}
+STEERED = {*OUTSIDE, "clock-cut", "clock-beyond"}
 ASKED = {"clock-beyond": clock_beyond}
-KINDS = {kind: drawn for sort in SORTS for kind, drawn in sort.items()}
+KINDS = {kind: drawn for sort in (*SORTS, ALONE) for kind, drawn in sort.items()}
 
 
 def two(kinds):

@@ -1,6 +1,7 @@
 """Clients at all hosts of a group, for as long as they are let, each with one call on its way, and of each call when it was sent, when it was answered, and
-what it was told. Keys by what is done to them: registers `r` (get, set), counters `c` (incr, get), locks `l` (add, gets, cas), mixed keys `m` (all), and keys
-at rest `q`, which are read alone. The keys of locks and mixed ones are others after a while, so that the history of each is short."""
+what it was told. Keys by what is done to them: registers `r` (get, set), counters `c` (incr, get), locks `l` (add, gets, cas), mixed keys `m` (all), keys
+at rest `q`, which are read alone, and a key `w` of each host, which is watched there and set at the others alone: so no update of that host's own holds it up, and
+one that the others complete without the host is seen where it is still read there. The keys of locks and mixed ones are others after a while, so that the history of each is short."""
 import random
 import socket
 import threading
@@ -21,12 +22,14 @@ NOT_A_NUMBER = "CLIENT_ERROR not a number"
 BROKEN = "broken"
 UPDATES = ("set", "add", "replace", "cas", "incr", "decr", "delete")
 REGISTERS, COUNTERS, LOCKS, MIXED, AT_REST = 4, 2, 1, 2, 4
-ROLES = ("register", "register", "register", "counter", "counter", "lock", "mixed", "rest")
+ROLES = ("register", "register", "register", "counter", "counter", "lock", "mixed", "rest", "watcher", "watcher", "writer")
 # Seconds: for so long the keys of locks, and mixed ones, are the same.
 LOCK_KEYS, MIXED_KEYS = 3.0, 1.0
 # So long a client waits between two calls, at most; half of the time until such a time begins anew, as others do, so that all their calls are on their way at
 # once. So long it waits for an answer, and until it connects again.
 PAUSE, ANSWER, AGAIN = 0.03, 20.0, 0.1
+# Of the clients that watch.
+WATCHES = 0.01
 FREE = (0, b"free")
 # How processes begin that are no programs. They are no copies of the check: what its other threads have open at that moment, as a pipe, would stay open in them.
 PROCESSES = get_context("forkserver")
@@ -86,16 +89,16 @@ def bytes_of(key, op):
 
 
 class Client:
-    """One call after the other at one host, as long as it is let."""
+    """One call after the other at one host of so many, as long as it is let."""
 
-    def __init__(self, place, address, number, role, seed, is_over, pause=PAUSE):
-        self.place, self.number, self.role, self.is_over, self.pause = place, number, role, is_over, pause
+    def __init__(self, place, address, number, role, seed, is_over, pause=PAUSE, hosts=1):
+        self.place, self.number, self.role, self.is_over, self.pause, self.hosts = place, number, role, is_over, pause, hosts
         self.draw = random.Random(f"{seed} {number}")
         self.conn = Conn(address)
         self.noted, self.count, self.tags = [], 0, {}
 
     def run(self):
-        calls = {"register": self.at_register, "counter": self.at_counter, "lock": self.at_lock, "mixed": self.at_mixed, "rest": self.at_rest}[self.role]
+        calls = getattr(self, f"at_{self.role}")
         while not self.is_over.is_set() and parent_process().is_alive():
             try:
                 self.conn.open()
@@ -143,6 +146,13 @@ class Client:
     def at_rest(self):
         self.call(f"q{self.draw.randrange(AT_REST)}", "get")
 
+    def at_watcher(self):
+        self.call(f"w{self.place}", "get")
+
+    def at_writer(self):
+        others = [place for place in range(self.hosts) if place != self.place]
+        self.call(f"w{self.draw.choice(others)}", "set", (0, self.data()), None)
+
     def at_lock(self):
         """Takes the lock by `add`, or by `cas` where it is free, and gives it back by `cas`. A token is its holder's for one turn; what became of a call that was
         not told is seen by a read."""
@@ -188,7 +198,7 @@ class Clients:
     def __init__(self, addresses, seed):
         self.is_over, self.processes = PROCESSES.Event(), []
         for place, address in enumerate(addresses):
-            clients = [Client(place, address, place * len(ROLES) + at, role, seed, self.is_over) for at, role in enumerate(ROLES)]
+            clients = [self.client(place, address, at, role, seed, len(addresses)) for at, role in enumerate(ROLES)]
             ours, theirs = PROCESSES.Pipe()
             process = PROCESSES.Process(target=run_host, args=(theirs, clients, self.is_over), daemon=True)
             process.start()
@@ -196,6 +206,10 @@ class Clients:
             self.processes.append((process, ours))
         for _process, pipe in self.processes:
             pipe.recv()
+
+    def client(self, place, address, at, role, seed, hosts):
+        pause = WATCHES if role == "watcher" else PAUSE
+        return Client(place, address, place * len(ROLES) + at, role, seed, self.is_over, pause, hosts)
 
     def end(self):
         """All that they noted, once each has been told what became of its last call."""
@@ -248,7 +262,7 @@ def histories(noted):
     return keys
 
 
-DECIDES = {"r": decide_register, "q": decide_register, "c": decide_counter, "l": decide, "m": decide}
+DECIDES = {"r": decide_register, "q": decide_register, "w": decide_register, "c": decide_counter, "l": decide, "m": decide}
 
 
 def judged(given):
