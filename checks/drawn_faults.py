@@ -351,7 +351,7 @@ def cut_by_clock(kind, rate, of_others, lasts):
     return drawn
 
 
-clock_cut = cut_by_clock("clock-cut", *RATES, (2, 3, 6))
+clock_cut = cut_by_clock("clock-cut", *RATES, (2, 3))
 clock_beyond = cut_by_clock("clock-beyond", BEYOND, RATE, (4 * LEASE / 1000,))
 
 

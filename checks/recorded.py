@@ -1,7 +1,7 @@
 """Clients at all hosts of a group, for as long as they are let, each with one call on its way, and of each call when it was sent, when it was answered, and
 what it was told. Keys by what is done to them: registers `r` (get, set), counters `c` (incr, get), locks `l` (add, gets, cas), mixed keys `m` (all), keys
-at rest `q`, which are read alone, and a key `w` of each host, which is watched there and set at the others alone: so no update of that host's own holds it up, and
-one that the others complete without the host is seen where it is still read there. The keys of locks and mixed ones are others after a while, so that the history of each is short."""
+at rest `q`, which are read alone, and keys `w` of each host, which are watched there and set at the others alone: so no update of that host's own holds them up, and
+one that the others complete without the host is seen where they are still read there. The keys of locks and mixed ones are others after a while, so that the history of each is short."""
 import random
 import socket
 import threading
@@ -21,15 +21,16 @@ NOT_A_NUMBER = "CLIENT_ERROR not a number"
 # What is told where the connection broke, or nothing came in time.
 BROKEN = "broken"
 UPDATES = ("set", "add", "replace", "cas", "incr", "decr", "delete")
-REGISTERS, COUNTERS, LOCKS, MIXED, AT_REST = 4, 2, 1, 2, 4
+REGISTERS, COUNTERS, LOCKS, MIXED, AT_REST, WATCHED = 4, 2, 1, 2, 4, 2
 ROLES = ("register", "register", "register", "counter", "counter", "lock", "mixed", "rest", "watcher", "watcher", "writer")
 # Seconds: for so long the keys of locks, and mixed ones, are the same.
 LOCK_KEYS, MIXED_KEYS = 3.0, 1.0
 # So long a client waits between two calls, at most; half of the time until such a time begins anew, as others do, so that all their calls are on their way at
 # once. So long it waits for an answer, and until it connects again.
 PAUSE, ANSWER, AGAIN = 0.03, 20.0, 0.1
-# Of the clients that watch.
-WATCHES = 0.01
+# Of the clients that watch; and how long at most one that writes what is watched rests behind a call, twice as long as that took: so most of the time nothing is
+# on its way to such a key.
+WATCHES, WRITES = 0.01, 0.2
 FREE = (0, b"free")
 # How processes begin that are no programs. They are no copies of the check: what its other threads have open at that moment, as a pipe, would stay open in them.
 PROCESSES = get_context("forkserver")
@@ -147,11 +148,13 @@ class Client:
         self.call(f"q{self.draw.randrange(AT_REST)}", "get")
 
     def at_watcher(self):
-        self.call(f"w{self.place}", "get")
+        self.call(f"w{self.place}-{self.number % WATCHED}", "get")
 
     def at_writer(self):
-        others = [place for place in range(self.hosts) if place != self.place]
-        self.call(f"w{self.draw.choice(others)}", "set", (0, self.data()), None)
+        place = self.draw.choice([place for place in range(self.hosts) if place != self.place])
+        begun = time.monotonic()
+        self.call(f"w{place}-{self.draw.randrange(WATCHED)}", "set", (0, self.data()), None)
+        time.sleep(min(2 * (time.monotonic() - begun), WRITES))
 
     def at_lock(self):
         """Takes the lock by `add`, or by `cas` where it is free, and gives it back by `cas`. A token is its holder's for one turn; what became of a call that was
