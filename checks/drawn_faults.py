@@ -16,7 +16,9 @@ from switch import Terms
 
 HOSTS, LEASE = 3, 1_000
 # For how many seconds faults last.
-LASTS, ROLLS = (1, 1.5, 2, 3, 6), (3, 6, 12)
+LASTS, ROLLS, HOLDS = (1, 1.5, 2, 3, 6), (3, 6, 12), (3, 6)
+# For so many leases a thread that is held now and then goes on in between.
+GOES_ON = 3
 # By how many millionths of a second a clock goes on in a second, within the bound and beyond it.
 RATES, BEYOND = (957_000, 1_043_000), 400_000
 # Seconds: between two looks at the views that a host tells, and how long its answer may take; how long a host may take to be back that left.
@@ -367,6 +369,19 @@ def full_disk(scene):
     return DrawnFault("full-disk", text, scene.lasts(), {place}, lambda: steered.set("full", 1), lambda: steered.set("full", 0))
 
 
+def held(scene):
+    """Each thread of a process is held for some leases, right behind a reading of its clock, and goes on for some in between."""
+    place, leases = scene.place(), scene.draw.choice((1, 2, 3))
+    steered = scene.group.steered[place]
+
+    def begin():
+        steered.set("every", GOES_ON * LEASE)
+        steered.set("hold", leases * LEASE)
+
+    text = f"each thread of host {place} stands still for {leases} leases now and then"
+    return DrawnFault("held", text, scene.draw.choice(HOLDS), {place}, begin, lambda: steered.set("hold", 0))
+
+
 def kill(scene):
     """The supervisor heals it, unless the host's disk is full meanwhile."""
     place, group = scene.place(), scene.group
@@ -420,7 +435,7 @@ def rolling(scene):
 NETWORK = {"loss": loss, **{kind: cuts(kind) for kind in CUTS}, "flap": flap}
 RELAYED = {"delay": delay, "disorder": disorder, "twice": twice, "narrow": narrow}
 PROCESS = {"bursts": bursts, "stop": stop, "kill": kill, "kill-most": kill_most}
-OUTSIDE = {"clocks": clocks, "slow-disk": slow_disk, "full-disk": full_disk}
+OUTSIDE = {"clocks": clocks, "slow-disk": slow_disk, "full-disk": full_disk, "held": held}
 SORTS = (NETWORK, RELAYED, PROCESS, OUTSIDE)
 # Those that are none of two: they are of two sorts themselves, or an operator's, who restarts nothing while something else is wrong.
 ALONE = {"clock-cut": clock_cut, "rolling": rolling}
