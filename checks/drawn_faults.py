@@ -14,7 +14,7 @@ from preloaded import RATE, Steered
 from servers import Fault, expect, until
 from switch import Terms
 
-HOSTS, LEASE = 3, 1_000
+HOSTS = 3
 # For how many seconds faults last.
 LASTS, ROLLS, HOLDS = (1, 1.5, 2, 3, 6), (3, 6, 12), (3, 6)
 # For so many leases a thread that is held now and then goes on in between.
@@ -96,8 +96,8 @@ def note_once(wrong, what):
 class Group(Hosts):
     """A group whose hosts are namespaces, and its supervisor: a process that ends is started again, and its node joins anew."""
 
-    def __init__(self, program, network, library, seed):
-        super().__init__(program, LEASE, HOSTS, network)
+    def __init__(self, program, network, library, seed, lease):
+        super().__init__(program, lease, HOSTS, network)
         self.library, self.hosts = library, self.network.hosts
         self.steered = [Steered(self.room / f"outside-{place}") for place in range(HOSTS)]
         # the disk that may be full: of one host alone, whose manager may be gone behind it
@@ -200,6 +200,10 @@ class Scene:
 
     def lasts(self):
         return self.draw.choice(LASTS)
+
+    def leases(self, count):
+        """Seconds, that are so many leases."""
+        return count * self.group.lease / 1000
 
 
 class Repeated:
@@ -311,7 +315,7 @@ def bursts(scene):
 def stop(scene):
     place, group = scene.place(), scene.group
     text = f"the process of host {place} is stopped"
-    return DrawnFault("stop", text, 3 * LEASE / 1000, {place}, lambda: group.signal(place, signal.SIGSTOP), lambda: group.signal(place, signal.SIGCONT))
+    return DrawnFault("stop", text, scene.leases(3), {place}, lambda: group.signal(place, signal.SIGSTOP), lambda: group.signal(place, signal.SIGCONT))
 
 
 def set_rates(group, rates):
@@ -331,8 +335,8 @@ def clocks(scene):
     return DrawnFault("clocks", text, scene.lasts(), set(range(HOSTS)), begin, lambda: set_rates(group, [RATE] * HOSTS))
 
 
-def cut_by_clock(kind, rate, of_others, lasts):
-    """A host is cut off while its clock goes slower than those of the others."""
+def cut_by_clock(kind, rate, of_others, leases):
+    """A host is cut off for so many leases while its clock goes slower than those of the others."""
 
     def drawn(scene):
         group = scene.group
@@ -348,13 +352,13 @@ def cut_by_clock(kind, rate, of_others, lasts):
             set_rates(group, [RATE] * HOSTS)
 
         text = f"{text}, and its clock goes at {rate / 10_000:.1f} %, the others' at {of_others / 10_000:.1f} %"
-        return DrawnFault(kind, text, scene.draw.choice(lasts), hit, begin, heal)
+        return DrawnFault(kind, text, scene.leases(scene.draw.choice(leases)), hit, begin, heal)
 
     return drawn
 
 
 clock_cut = cut_by_clock("clock-cut", *RATES, (2, 3))
-clock_beyond = cut_by_clock("clock-beyond", BEYOND, RATE, (4 * LEASE / 1000,))
+clock_beyond = cut_by_clock("clock-beyond", BEYOND, RATE, (4,))
 
 
 def slow_disk(scene):
