@@ -4,7 +4,6 @@ import contextlib
 import random
 import signal
 import threading
-import time
 from concurrent.futures import ThreadPoolExecutor
 from dataclasses import dataclass
 
@@ -379,8 +378,8 @@ def held(scene):
     steered = scene.group.steered[place]
 
     def begin():
-        steered.set("every", GOES_ON * LEASE)
-        steered.set("hold", leases * LEASE)
+        steered.set("every", GOES_ON * scene.group.lease)
+        steered.set("hold", leases * scene.group.lease)
 
     text = f"each thread of host {place} stands still for {leases} leases now and then"
     return DrawnFault("held", text, scene.draw.choice(HOLDS), {place}, begin, lambda: steered.set("hold", 0))
