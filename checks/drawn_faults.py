@@ -205,12 +205,26 @@ class Scene:
         return count * self.group.lease / 1000
 
 
-class Repeated:
+class Background:
+    """What goes on in a thread of its own, until it is ended."""
+
+    def __init__(self):
+        self.is_over, self.thread = threading.Event(), threading.Thread(target=self.run, daemon=True)
+
+    def begin(self):
+        self.thread.start()
+
+    def end(self):
+        self.is_over.set()
+        self.thread.join()
+
+
+class Repeated(Background):
     """Something that is turned on and off by a drawn list of seconds, until it is ended."""
 
     def __init__(self, on, off, seconds):
-        self.on, self.off, self.seconds, self.is_over = on, off, seconds, threading.Event()
-        self.thread = threading.Thread(target=self.run, daemon=True)
+        super().__init__()
+        self.on, self.off, self.seconds = on, off, seconds
 
     def run(self):
         for turned_on, turned_off in self.seconds:
@@ -220,12 +234,8 @@ class Repeated:
             if self.is_over.wait(turned_off):
                 return
 
-    def begin(self):
-        self.thread.start()
-
     def end(self):
-        self.is_over.set()
-        self.thread.join()
+        super().end()
         self.off()
 
 
@@ -403,12 +413,12 @@ def kill_most(scene):
     return DrawnFault("kill-most", text, scene.lasts(), set(places), begin, lambda: None)
 
 
-class Rolling:
+class Rolling(Background):
     """Hosts that are restarted in turn, until it is ended: then the one is waited for that is under way."""
 
     def __init__(self, group, places):
-        self.group, self.places, self.is_over = group, places, threading.Event()
-        self.thread = threading.Thread(target=self.run, daemon=True)
+        super().__init__()
+        self.group, self.places = group, places
 
     def run(self):
         for place in self.places:
@@ -419,13 +429,6 @@ class Rolling:
             except (Fault, OSError) as fault:
                 self.group.wrong.append(f"rolling restart: {fault}")
                 return
-
-    def begin(self):
-        self.thread.start()
-
-    def end(self):
-        self.is_over.set()
-        self.thread.join()
 
 
 def rolling(scene):
