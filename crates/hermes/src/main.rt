@@ -9,7 +9,7 @@ mod notices;
 use crate::notices::{tell_beginning, tell_end, tell_host_mistake, tell_mistake};
 use hk_accept::LooseSpawner;
 use hk_cli::{hermes, read_command};
-use hk_host_words::{named_command, read_host_command};
+use hk_host_words::{CommandName, Verbosity, named_command, read_host_command, take_verbosity};
 use hk_hosting::perform;
 use hk_outside::{ReaderSource, SteadyClock, TcpDoors, WriterSink};
 use std::process::ExitCode;
@@ -34,13 +34,22 @@ fn words(rt: &HostRuntime) -> io::Result<Vec<String>> {
     Ok(words)
 }
 
+// How much a command of this name tells. The word for that is taken out of the words.
+fn verbosity_of(name: CommandName, words: &mut Vec<String>) -> Verbosity {
+    match name {
+        CommandName::Node => take_verbosity(words),
+        CommandName::Init | CommandName::Status | CommandName::Leave => Verbosity::Usual,
+    }
+}
+
 fn main(rt: HostRuntime) -> io::Result<ExitCode> {
     let alloc = rt.alloc();
-    let words = words(&rt)?;
-    if named_command(words.as_slice()).is_some() {
+    let mut words = words(&rt)?;
+    if let Some(name) = named_command(words.as_slice()) {
+        let verbosity = verbosity_of(name, &mut words);
         let mut sink = WriterSink::new(io::writer(&rt));
         let number = match read_host_command(alloc, words.as_slice()) {
-            Ok(command) => perform(rt, alloc, command, &mut sink),
+            Ok(command) => perform(rt, alloc, command, verbosity, &mut sink),
             Err(fault) => tell_host_mistake(&rt, fault).number(),
         };
         return Ok(ExitCode::from(number));

@@ -6,12 +6,11 @@ use Rattle.std.proofs.lemmas.Bool.{false≢true, eqb-true, eq-eqb, ltb-true, ltb
 use Rattle.hk_base.specs.declared.stamp.NodeId.{NodeId}
 use Rattle.hk_fields.specs.declared.tickets.Ticket.{Ticket}
 use Rattle.hk_inside.specs.declared.board.BoardLine.{BoardLine}
-use Rattle.hk_roll.specs.Boards.{is_by_most, flat}
 use Rattle.hk_boards.specs.declared.heard.HeardBoard.{HeardBoard}
-use Rattle.hk_boards.specs.Heard.{ticket_of, ticket_told, tells, line_of}
-use Rattle.hk_boards.specs.Holders.{ByPlaces, tickets_told, holder, came_telling, last_told, is_told_at, newest_at, address_in, address_by, address_of}
+use Rattle.hk_boards.specs.Heard.{tells_address, reaches, line_of}
+use Rattle.hk_boards.specs.Holders.{ByPlaces, holder, came_telling, last_told, is_told_at, newest_at, address_in, address_by, address_of}
 use Rattle.hk_boards.specs.Laws.{TellsAddress, HoldersAreReached}
-use Rattle.hk_boards.proofs.Tickets.{both_hold, named_is, is_named}
+use Rattle.hk_boards.proofs.Tickets.{both_hold}
 
 -- ---- the greatest of some numbers
 
@@ -128,51 +127,24 @@ one_is_found test (x ∷ xs) p b at is = by (test x) refl p at (λ q. one_is_fou
     by false was zero at more = let same : x ≡ b = cc in absurd (false≢true (sym was ∙ ap test same ∙ is))
     by false was (suc q) at more = later was (more q at is)
 
--- ---- a holder
-
-pub record IsTold (founding : ℕ) (node : NodeId) (ticket : Ticket) (boards : ByPlaces) : Type 0 where
-  pub place : ℕ
-  pub board : Option HeardBoard
-  pub stands : slice_get boards place ≡ Some board
-  pub told : ticket_told founding node board ≡ Some ticket
-
-found_told : (founding : ℕ) (node : NodeId) (ticket : Ticket) (test : Option Ticket → Bool) (boards : ByPlaces) → find test (tickets_told founding node boards) ≡ Some (Some ticket) → IsTold founding node ticket boards
-found_told founding node ticket test [] e = absurd cc
-found_told founding node ticket test (x ∷ xs) e = by (test (ticket_told founding node x)) e (found_told founding node ticket test xs)
-  where
-    later : IsTold founding node ticket xs → IsTold founding node ticket (x ∷ xs)
-    later t = record { place = suc t.place; board = t.board; stands = t.stands; told = t.told }
-
-    by : (v : Bool) → cond v (Some (ticket_told founding node x)) (find test (tickets_told founding node xs)) ≡ Some (Some ticket) →
-        (find test (tickets_told founding node xs) ≡ Some (Some ticket) → IsTold founding node ticket xs) → IsTold founding node ticket (x ∷ xs)
-    by true e more = let is : ticket_told founding node x ≡ Some ticket = cc in record { place = 0; board = x; stands = refl; told = is }
-    by false e more = later (more e)
-
-holder_told : (founding : ℕ) (node : NodeId) (ticket : Ticket) (boards : ByPlaces) → holder founding node boards ≡ Some ticket → IsTold founding node ticket boards
-holder_told founding node ticket boards e = by (find (is_by_most (tickets_told founding node boards)) (tickets_told founding node boards)) refl e
-  where
-    by : (x : Option (Option Ticket)) → find (is_by_most (tickets_told founding node boards)) (tickets_told founding node boards) ≡ x → flat x ≡ Some ticket → IsTold founding node ticket boards
-    by None is e = absurd cc
-    by (Some y) is e = found_told founding node ticket (is_by_most (tickets_told founding node boards)) boards (is ∙ ap Some e)
-
 -- ---- its address
 
 module _ (founding : ℕ) (node : NodeId) (ticket : Ticket) (boards : ByPlaces) where
-  comes : (h : HeardBoard) → tells founding node ticket (Some h) ≡ true → came_telling founding node ticket (Some h) ≡ Some h.came
+  comes : (h : HeardBoard) → reaches founding node ticket (Some h) ≡ true → came_telling founding node ticket (Some h) ≡ Some h.came
   comes h e = ap (λ (v : Bool). cond v (Some h.came) None) e
 
   came_is : (b : Option HeardBoard) (m : ℕ) → came_telling founding node ticket b ≡ Some m → is_told_at founding node ticket m b ≡ true
   came_is None m e = absurd cc
-  came_is (Some h) m e = by (tells founding node ticket (Some h)) e
+  came_is (Some h) m e = by (reaches founding node ticket (Some h)) e
     where
       by : (v : Bool) → cond v (Some h.came) None ≡ Some m → (v && (h.came == m)) ≡ true
       by true e = let same : h.came ≡ m = cc in eq-eqb h.came m same
       by false e = absurd cc
 
-  address_stands : (h : HeardBoard) → tells founding node ticket (Some h) ≡ true → (text : List ℕ) × (address_in founding node (Some h) ≡ Some text)
-  address_stands h e = by (line_of founding node h) (named_is ticket (ticket_told founding node (Some h)) e)
+  address_stands : (h : HeardBoard) → reaches founding node ticket (Some h) ≡ true → (text : List ℕ) × (address_in founding node (Some h) ≡ Some text)
+  address_stands h e = by (line_of founding node h) e
     where
-      by : (x : Option BoardLine) → ticket_of x ≡ Some ticket → (text : List ℕ) × (option_map (λ (line : BoardLine). line.inside) x ≡ Some text)
+      by : (x : Option BoardLine) → tells_address ticket x ≡ true → (text : List ℕ) × (option_map (λ (line : BoardLine). line.inside) x ≡ Some text)
       by None e = absurd cc
       by (Some line) e = (line.inside, refl)
 
@@ -183,9 +155,9 @@ module _ (founding : ℕ) (node : NodeId) (ticket : Ticket) (boards : ByPlaces) 
     found_reached : (m : ℕ) → last_told founding node ticket boards ≡ Some m → IsFound (is_told_at founding node ticket m) boards → Reached
     found_reached m last f = by f.board f.found f.stands f.passes
       where
-        whole : (h : HeardBoard) → find (is_told_at founding node ticket m) boards ≡ Some (Some h) → slice_get boards f.place ≡ Some (Some h) → tells founding node ticket (Some h) ≡ true → h.came ≡ m →
+        whole : (h : HeardBoard) → find (is_told_at founding node ticket m) boards ≡ Some (Some h) → slice_get boards f.place ≡ Some (Some h) → reaches founding node ticket (Some h) ≡ true → h.came ≡ m →
             (text : List ℕ) × (address_in founding node (Some h) ≡ Some text) → Reached
-        whole h found stands binds came (text, is) = (
+        whole h found stands tells_it came (text, is) = (
           text,
           ap (λ (x : Option Ticket). address_by x founding node boards) held ∙
               ap (λ (x : Option ℕ). address_in founding node (newest_at x founding node ticket boards)) last ∙
@@ -194,9 +166,9 @@ module _ (founding : ℕ) (node : NodeId) (ticket : Ticket) (boards : ByPlaces) 
             place = f.place;
             board = h;
             came = stands;
-            binds = binds;
-            newest = λ other later there tells_it. subst (λ (n : ℕ). later.came ≤ n) (sym came)
-                (above_all (came_telling founding node ticket) boards m other (Some later) later.came last there (comes later tells_it));
+            tells_it = tells_it;
+            newest = λ other later there tells_too. subst (λ (n : ℕ). later.came ≤ n) (sym came)
+                (above_all (came_telling founding node ticket) boards m other (Some later) later.came last there (comes later tells_too));
             address = is;
           },
         )
@@ -204,7 +176,7 @@ module _ (founding : ℕ) (node : NodeId) (ticket : Ticket) (boards : ByPlaces) 
         by : (b : Option HeardBoard) → find (is_told_at founding node ticket m) boards ≡ Some b → slice_get boards f.place ≡ Some b → is_told_at founding node ticket m b ≡ true → Reached
         by None found stands passes = absurd cc
         by (Some h) found stands passes =
-            let parts = both_hold (tells founding node ticket (Some h)) (h.came == m) passes in
+            let parts = both_hold (reaches founding node ticket (Some h)) (h.came == m) passes in
             whole h found stands parts.0 (eqb-true h.came m parts.1) (address_stands h parts.0)
 
     last_reached : (m : ℕ) × (last_told founding node ticket boards ≡ Some m) → Reached
@@ -212,13 +184,7 @@ module _ (founding : ℕ) (node : NodeId) (ticket : Ticket) (boards : ByPlaces) 
         let it = greatest_stands (came_telling founding node ticket) boards m last in
         found_reached m last (one_is_found (is_told_at founding node ticket m) boards it.place it.board it.stands (came_is it.board m it.number))
 
-    told_reached : IsTold founding node ticket boards → Reached
-    told_reached t = by t.board t.stands t.told
-      where
-        by : (b : Option HeardBoard) → slice_get boards t.place ≡ Some b → ticket_told founding node b ≡ Some ticket → Reached
-        by None stands told = absurd cc
-        by (Some h) stands told =
-            last_reached (one_is_greatest (came_telling founding node ticket) boards t.place (Some h) h.came stands (comes h (is_named ticket (ticket_told founding node (Some h)) told)))
-
 pub are_reached : HoldersAreReached
-are_reached founding node ticket boards held = told_reached founding node ticket boards held (holder_told founding node ticket boards held)
+are_reached founding node ticket boards held place board stands tells_it =
+    last_reached founding node ticket boards held
+    (one_is_greatest (came_telling founding node ticket) boards place (Some board) board.came stands (comes founding node ticket boards board tells_it))

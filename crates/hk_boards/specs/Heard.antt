@@ -1,5 +1,5 @@
 -- What the last board of one manager tells. A manager of which no board came tells nothing.
-use Rattle.std.specs.Prelude.{ℕ, Bool, true, false, ◌==◌, ◌&&◌, ◌||◌, if◌then◌else◌, Option, None, Some}
+use Rattle.std.specs.Prelude.{ℕ, Bool, true, false, ◌==◌, ◌&&◌, ◌||◌, nat_lt, if◌then◌else◌, length, Option, None, Some}
 use Rattle.std.specs.List.{find, list_any}
 use Rattle.hk_base.specs.declared.stamp.NodeId.{NodeId}
 use Rattle.hk_fields.specs.declared.tickets.Ticket.{Ticket}
@@ -84,6 +84,17 @@ ticket_told founding node (Some heard) = ticket_of (line_of founding node heard)
 -- the manager binds the number to just this ticket
 abbrev pub tells : ℕ → NodeId → Ticket → Option HeardBoard → Bool
 tells founding node ticket heard = names ticket (ticket_told founding node heard)
+
+-- the line binds the number to this ticket, and tells where its process is reached
+abbrev pub tells_address : Ticket → Option BoardLine → Bool
+tells_address ticket None = false
+tells_address ticket (Some line) = same_ticket ticket line.ticket && nat_lt 0 (length line.inside)
+
+-- The manager binds the number to just this ticket, and was told where its process is reached. One that began only now
+-- binds what its log tells, and was told nothing yet.
+abbrev pub reaches : ℕ → NodeId → Ticket → Option HeardBoard → Bool
+reaches founding node ticket None = false
+reaches founding node ticket (Some heard) = tells_address ticket (line_of founding node heard)
 
 -- the manager has left out the process of this ticket, which had the number
 abbrev pub tells_out : ℕ → NodeId → Ticket → Option HeardBoard → Bool

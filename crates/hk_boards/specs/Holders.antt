@@ -8,7 +8,7 @@ use Rattle.hk_base.specs.View.{is_member, member_numbers}
 use Rattle.hk_fields.specs.declared.tickets.Ticket.{Ticket}
 use Rattle.hk_roll.specs.Boards.{named}
 use Rattle.hk_boards.specs.declared.heard.HeardBoard.{HeardBoard}
-use Rattle.hk_boards.specs.Heard.{line_of, ticket_told, tells, tells_out, tells_to_leave, tells_ready}
+use Rattle.hk_boards.specs.Heard.{line_of, ticket_told, reaches, tells_out, tells_to_leave, tells_ready}
 
 -- the last board of each manager, if one came, by their places
 abbrev pub ByPlaces : Type 0
@@ -32,11 +32,11 @@ is_to_leave founding node ticket boards = nat_lt (length boards / 2) (count_by (
 
 -- ---- where a holder is reached
 
--- when the board came, if it binds the number to this ticket
+-- when the board came, if it tells where the process of this ticket is reached, to which it binds the number
 abbrev pub came_telling : ℕ → NodeId → Ticket → Option HeardBoard → Option ℕ
 came_telling founding node ticket None = None
 came_telling founding node ticket (Some heard) =
-    if tells founding node ticket (Some heard) then Some heard.came else None
+    if reaches founding node ticket (Some heard) then Some heard.came else None
 
 -- when the newest of those boards came
 abbrev pub last_told : ℕ → NodeId → Ticket → ByPlaces → Option ℕ
@@ -44,7 +44,7 @@ last_told founding node ticket boards = reduce max (filter_map (came_telling fou
 
 abbrev pub is_told_at : ℕ → NodeId → Ticket → ℕ → Option HeardBoard → Bool
 is_told_at founding node ticket moment None = false
-is_told_at founding node ticket moment (Some heard) = tells founding node ticket (Some heard) && (heard.came == moment)
+is_told_at founding node ticket moment (Some heard) = reaches founding node ticket (Some heard) && (heard.came == moment)
 
 -- the newest of those boards; of several that came at one moment, that of the least place
 abbrev pub newest_at : Option ℕ → ℕ → NodeId → Ticket → ByPlaces → Option HeardBoard
@@ -64,7 +64,7 @@ abbrev pub address_by : Option Ticket → ℕ → NodeId → ByPlaces → Option
 address_by None founding node boards = None
 address_by (Some ticket) founding node boards = address_in founding node (newest founding node ticket boards)
 
--- The holder of a number is reached where the newest board tells it that binds the number to the holder.
+-- The holder of a number is reached where the newest board tells it that binds the number to the holder and tells an address.
 abbrev pub address_of : ℕ → NodeId → ByPlaces → Option (List ℕ)
 address_of founding node boards = address_by (holder founding node boards) founding node boards
 

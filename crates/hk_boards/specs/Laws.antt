@@ -6,7 +6,7 @@ use Rattle.hk_fields.specs.declared.tickets.Ticket.{Ticket}
 use Rattle.hk_roll.specs.declared.binding.Founder.{Founder}
 use Rattle.hk_roll.specs.Group.{Group, Event, start, last, IsRun, WereTold}
 use Rattle.hk_boards.specs.declared.heard.HeardBoard.{HeardBoard}
-use Rattle.hk_boards.specs.Heard.{tells}
+use Rattle.hk_boards.specs.Heard.{tells, reaches}
 use Rattle.hk_boards.specs.Holders.{ByPlaces, tickets_told, holder, address_in, address_of}
 
 -- A process is told as the holder exactly where the boards of more than half of all managers bind the number to it.
@@ -27,18 +27,19 @@ OneHolderIsHeard = (hosts : List Founder) (events : List Event) → IsRun (lengt
     (node : NodeId) (t u : Ticket) → holder founding node one ≡ Some t → holder founding node other ≡ Some u → t ≡ u
 
 -- The board of some manager, which came, binds the number to this ticket and tells the address; and none that came
--- later binds it to the ticket.
+-- later tells one and binds it to the ticket.
 pub record TellsAddress (founding : ℕ) (node : NodeId) (ticket : Ticket) (boards : ByPlaces) (text : List ℕ) : Type 0 where
   pub place : ℕ
   pub board : HeardBoard
   pub came : slice_get boards place ≡ Some (Some board)
-  pub binds : tells founding node ticket (Some board) ≡ true
+  pub tells_it : reaches founding node ticket (Some board) ≡ true
   pub newest : (other : ℕ) (later : HeardBoard) → slice_get boards other ≡ Some (Some later) →
-      tells founding node ticket (Some later) ≡ true → later.came ≤ board.came
+      reaches founding node ticket (Some later) ≡ true → later.came ≤ board.came
   pub address : address_in founding node (Some board) ≡ Some text
 
--- Each holder is reached somewhere: where the newest board tells it that binds the number to the holder.
+-- Each holder of which some board tells an address is reached: where the newest of these boards tells it.
 abbrev pub HoldersAreReached : Type 0
 HoldersAreReached = (founding : ℕ) (node : NodeId) (ticket : Ticket) (boards : ByPlaces) →
     holder founding node boards ≡ Some ticket →
+    (place : ℕ) (board : HeardBoard) → slice_get boards place ≡ Some (Some board) → reaches founding node ticket (Some board) ≡ true →
     (at : List ℕ) × (address_of founding node boards ≡ Some at) × TellsAddress founding node ticket boards at

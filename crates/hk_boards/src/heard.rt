@@ -3,7 +3,7 @@
 ghost use Rattle.std.specs.Prelude.{◌≡◌};
 ghost use Rattle.std.specs.List.{find, list_any};
 ghost use Rattle.std.specs.Option.{option_copied};
-ghost use Rattle.hk_boards.specs.Heard.{is_open, is_of, is_node, is_neither, is_left_out, is_leave_mark, is_member_mark, is_manager, is_manager_line, binds, leaves_out, wants_to_leave, line_of, manager_line, ticket_told, tells, tells_out, tells_to_leave, tells_ready, manager_told};
+ghost use Rattle.hk_boards.specs.Heard.{is_open, is_of, is_node, is_neither, is_left_out, is_leave_mark, is_member_mark, is_manager, is_manager_line, binds, leaves_out, wants_to_leave, line_of, manager_line, ticket_told, tells_address, reaches, tells_out, tells_to_leave, tells_ready, manager_told};
 ghost use Rattle.hk_boards.specs.Holders.{came_telling, is_told_at};
 ghost use Rattle.hk_boards.specs.Managers.{answered_lately, is_answered, founding_told, tells_open, tells_another, records_told, tells_records};
 
@@ -204,11 +204,22 @@ pub(crate) fn ticket_told(heard: &Option<HeardBoard>, founding: u64, node: NodeI
     }
 }
 
-fn tells(heard: &Option<HeardBoard>, founding: u64, node: NodeId, ticket: Ticket) -> bool
-    ensures { result ≡ tells founding node ticket heard.now }
+// Whether the line binds the number to this ticket, and tells where its process is reached.
+fn tells_address(line: Option<&BoardLine>, ticket: Ticket) -> bool
+    ensures { result ≡ tells_address ticket (option_copied line.entry) }
 {
-    match ticket_told(heard, founding, node) {
-        Some(other) => ticket == other,
+    match line {
+        Some(line) => ticket == line.ticket && !line.inside.as_slice().is_empty(),
+        None => false,
+    }
+}
+
+// Whether the manager does, of a number.
+fn reaches(heard: &Option<HeardBoard>, founding: u64, node: NodeId, ticket: Ticket) -> bool
+    ensures { result ≡ reaches founding node ticket heard.now }
+{
+    match heard {
+        Some(heard) => tells_address(heard.line_of(founding, node), ticket),
         None => false,
     }
 }
@@ -253,7 +264,7 @@ pub(crate) fn tells_to_leave(
     }
 }
 
-// When the board came, if it binds the number to this ticket.
+// When the board came, if it tells where the process of this ticket is reached, to which it binds the number.
 pub(crate) fn came_telling(
     heard: &Option<HeardBoard>,
     founding: u64,
@@ -262,7 +273,7 @@ pub(crate) fn came_telling(
 ) -> Option<u64>
     ensures { result ≡ came_telling founding node ticket heard.now }
 {
-    let is_telling = tells(heard, founding, node, ticket);
+    let is_telling = reaches(heard, founding, node, ticket);
     match heard {
         Some(heard) => { if is_telling { Some(heard.came) } else { None } }
         None => None,

@@ -89,7 +89,7 @@ impl Boards {
             .find(|heard| is_told_at(heard, founding, node, ticket, moment))
     }
 
-    // The newest board that binds the number to this ticket.
+    // The newest board that binds the number to this ticket and tells its process's address.
     fn newest(&self, founding: u64, node: NodeId, ticket: Ticket) -> Option<&HeardBoard>
         ensures { option_copied result ≡ newest founding node ticket self.now }
     {
@@ -101,7 +101,7 @@ impl Boards {
     }
 
     /// The address at which other processes reach the holder of the number, as the newest board tells it that binds the
-    /// number to the holder.
+    /// number to the holder and tells one: a manager that began only now was told none yet.
     pub fn address_of(&self, founding: u64, node: NodeId) -> Option<&[u8]>
         ensures { option_map (λ address. address.now) result ≡ address_of founding node self.now }
     {

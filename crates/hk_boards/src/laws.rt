@@ -21,7 +21,7 @@ pub fn processes_agree_on_holders()
     a_number_has_one_holder()
 }
 
-/// Each holder is reached somewhere: where the newest board tells it that binds the number to the holder.
+/// Each holder of which some board tells an address is reached: where the newest of these boards tells it.
 pub fn holders_are_reached()
     ensures { HoldersAreReached }
 {}

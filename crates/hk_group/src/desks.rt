@@ -190,10 +190,14 @@ impl<R: Wait + Copy + Drop, C: DeskClock + Drop, P: Places> GroupDesks<R, C, P> 
         let station = &self.station;
         let shards = &self.nodes[number as usize % count];
         let (routes, outlets) = Follower::begin(&station.rt, station.alloc, &self.routes)?;
+        let clock = Arc::try_clone(&station.clock)?;
+        let keeper = self.keeper(shards, routes)?;
+        // The post comes last. Were it let go here, that would take room for a node's shards on the stack, and what the
+        // stack of a connection's thread once took it keeps.
         let post = new_post(station, shards, number, outlets)?;
         Ok(GroupDesk {
-            clock: Arc::try_clone(&station.clock)?,
-            keeper: self.keeper(shards, routes)?,
+            clock,
+            keeper,
             post,
         })
     }

@@ -62,6 +62,7 @@ impl<R: Wait + Drop, P: Places> Reader<R, P> {
         let (outlet, inlet, gate) = way_in(alloc)?;
         let mut inlets = Sequence::new(alloc);
         inlets.push(inlet)?;
+        let load = Arc::try_clone(load)?;
         let post = Post::new(
             &rt,
             alloc,
@@ -77,7 +78,7 @@ impl<R: Wait + Drop, P: Places> Reader<R, P> {
             alloc,
             post,
             routes,
-            load: Arc::try_clone(load)?,
+            load,
             gate,
             trimming: Trimming::new(),
         };

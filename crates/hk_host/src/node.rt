@@ -147,6 +147,7 @@ fn start_copying<
 // The job that looks how the node stands.
 fn watch_job<R: Wait + Copy + Drop, C: DeskClock + Drop, P: Places, E: Dialers>(
     house: &Arc<House<R, C>>,
+    node: NodeId,
     dialers: &E,
     desks: &GroupDesks<R, C, P>,
     tallies: &Arc<Tallies>,
@@ -157,6 +158,7 @@ fn watch_job<R: Wait + Copy + Drop, C: DeskClock + Drop, P: Places, E: Dialers>(
     };
     Ok(WatchJob {
         house: Arc::try_clone(house)?,
+        node,
         watch: desks.watch()?,
         tallies: Arc::try_clone(tallies)?,
         dialer: dialers.dialer(),
@@ -173,6 +175,7 @@ fn start_watching<
     S: Spawner,
 >(
     house: &Arc<House<R, C>>,
+    node: NodeId,
     dialers: &E,
     spawner: &mut S,
     desks: &GroupDesks<R, C, P>,
@@ -181,7 +184,7 @@ fn start_watching<
 ) -> Result<(), StartFault>
     ensures { Starts (S.faults spawner.old) (S.faults spawner.new) result }
 {
-    spawner.start_made(watch_job(house, dialers, desks, tallies, clients))?;
+    spawner.start_made(watch_job(house, node, dialers, desks, tallies, clients))?;
     Ok(())
 }
 
@@ -262,6 +265,6 @@ pub(crate) fn start_node<
     stand(&**house, node);
     start_part(house, part, spawner, &desks)?;
     let tallies = Tallies::new(house.alloc)?;
-    start_watching(house, dialers, spawner, &desks, &tallies, listen)?;
+    start_watching(house, node, dialers, spawner, &desks, &tallies, listen)?;
     Ok(LaneDesks::new(house.rt, house.alloc, desks, lanes, tallies))
 }

@@ -20,11 +20,11 @@ use hk_base::{Memory, NodeId, View};
 use hk_disk::LogFile;
 use hk_group::{Group, Member, first_view, found_joiner, found_without_lease};
 use hk_hosts::{Address, DoorsAt, Random};
-use hk_house::{House, Identity, Inbox, Standing, rest, tell_no_manager, tell_ready};
+use hk_house::{House, Identity, Inbox, Notice, Standing, Telling, rest};
 use hk_inside::NodeState;
 use hk_lanes::LaneDesks;
 use hk_locked::Places;
-use hk_outside::{Spawner, Status};
+use hk_outside::{Clock, Spawner, Status};
 use hk_passage::Passage;
 use hk_peer::PromptCarrier;
 use hk_process::Sending;
@@ -44,6 +44,8 @@ pub struct Serving<'a> {
     pub workers: u8,
     /// The folder of this host's manager, as the operator wrote it.
     pub data: &'a str,
+    /// What the operator is told.
+    pub telling: Telling,
 }
 
 // What the threads share, before anything was heard.
@@ -52,6 +54,7 @@ fn new_house<R: Wait + Drop, C: Drop>(
     alloc: Global,
     clock: Arc<C>,
     identity: Identity,
+    telling: Telling,
 ) -> Result<Arc<House<R, C>>, Memory>
     ensures { IfOk result (λ house. (arc_value house).identity ≡ identity) }
 {
@@ -62,6 +65,7 @@ fn new_house<R: Wait + Drop, C: Drop>(
         alloc,
         clock,
         identity,
+        telling,
         standing: Mutex::new(standing),
         manager: Mutex::new(None),
         inbox,
@@ -132,11 +136,15 @@ fn lacks_manager<R: Wait + Drop, C: Drop>(house: &House<R, C>) -> bool {
 }
 
 // Tells that the node is ready, and where its host has no manager, that too.
-fn tell_standing<R: Wait + Eprint + Drop, C: Drop>(house: &House<R, C>, node: NodeId, data: &str) {
+fn tell_standing<R: Wait + Eprint + Drop, C: Clock + Drop>(
+    house: &House<R, C>,
+    node: NodeId,
+    data: &str,
+) {
     if lacks_manager(house) {
-        tell_no_manager(&house.rt, data);
+        house.tell(&Notice::NoManager { folder: data });
     }
-    tell_ready(&house.rt, node.0);
+    house.tell(&Notice::Ready { node });
 }
 
 // Waits until all shards are ready.
@@ -641,7 +649,7 @@ pub fn serve_host<
     ensures door_fault { result ≡ Ok Status.DoorFault → Rose (K.faults doors.old) (K.faults doors.new) }
     ensures spawn_fault { result ≡ Ok Status.SpawnFault → Rose (S.faults spawner.old) (S.faults spawner.new) }
 {
-    let Ok(house) = new_house(rt, alloc, clock, identity) else {
+    let Ok(house) = new_house(rt, alloc, clock, identity, serving.telling) else {
         return Ok(Status::Memory);
     };
     if !can_open(doors, serving.listen) {

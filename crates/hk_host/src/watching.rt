@@ -1,8 +1,9 @@
 //! The job that looks how the node of this process stands.
 
+use hk_base::NodeId;
 use hk_group::NodeWatch;
 use hk_hosts::{Address, DialAt};
-use hk_house::{House, rest, tell_leaving};
+use hk_house::{House, Notice, Presence, rest};
 use hk_inside::{Counts, NodeState};
 use hk_lanes::Tallies;
 use hk_locked::Places;
@@ -13,11 +14,14 @@ use std::sync::{Arc, Wait};
 // Its own port is dialled within so many milliseconds.
 const KNOCK_MILLIS: u64 = 100;
 
-/// Looks at each beat how the node's shards stand, what they hold and what its desks told, for the reports to the managers, whether the node is to leave, and whether it
-/// was left out. Where it is or was, it knocks at its own port, so that whoever takes connections there learns of it.
+/// Looks at each beat how the node's shards stand, what they hold and what its desks told, for the reports to the
+/// managers, whether its leases run, whether the node is to
+/// leave, and whether it was left out. Where it is or was, it knocks at its own port, so that whoever takes
+/// connections there learns of it.
 #[derive(Drop)]
 pub(crate) struct WatchJob<R: Wait + Drop, C: Drop, P: Places, D: DialAt + Drop> {
     pub(crate) house: Arc<House<R, C>>,
+    pub(crate) node: NodeId,
     pub(crate) watch: NodeWatch<P>,
     pub(crate) tallies: Arc<Tallies>,
     pub(crate) dialer: D,
@@ -38,19 +42,20 @@ fn state_of(before: NodeState, ready: u8, least_epoch: u64) -> NodeState {
     }
 }
 
-// Others learn how the node stands.
+// Others learn how the node stands. It gives how that is.
 fn stand<R: Wait + Drop, C: Drop>(
     house: &House<R, C>,
     ready: u8,
     least_epoch: u64,
     counts: Counts,
-) {
+) -> NodeState {
     let mut guard = house.standing.lock(&house.rt);
     let standing = &mut *guard;
     standing.state = state_of(standing.state, ready, least_epoch);
     standing.shards.ready = ready;
     standing.shards.least_epoch = least_epoch;
     standing.counts = counts;
+    standing.state
 }
 
 // What the node holds, and what its desks told.
@@ -68,40 +73,78 @@ fn counts<R: Wait, P: Places>(rt: &R, watch: &NodeWatch<P>, tallies: &Tallies) -
     }
 }
 
-// Looks once.
+// Looks once, and gives how the node stands.
 fn look<R: Wait + Drop, C: Drop, P: Places>(
     house: &House<R, C>,
     watch: &NodeWatch<P>,
     tallies: &Tallies,
-) {
+) -> NodeState {
     let ready = watch.count_whole(&house.rt);
     let least_epoch = watch.least_epoch(&house.rt);
     let counts = counts(&house.rt, watch, tallies);
-    stand(house, ready, least_epoch, counts);
+    stand(house, ready, least_epoch, counts)
 }
 
-// The number of the node.
-fn number_of<R: Wait + Drop, C: Drop>(house: &House<R, C>) -> Option<u16> {
-    let guard = house.standing.lock(&house.rt);
-    match guard.node {
-        Some(node) => Some(node.0),
-        None => None,
-    }
+// What the operator knows of the node.
+#[derive(Clone, Copy)]
+struct Known {
+    node: NodeId,
+    state: NodeState,
+    lease: Presence,
+    leaves: bool,
 }
 
-// Looks whether the node leaves, and tells it where it begins to.
-fn look_leaving<R: Wait + Eprint + Drop, C: Clock + Drop>(
-    house: &House<R, C>,
-    before: bool,
-) -> bool {
-    house.look_leaving(house.clock.now());
-    let leaves = house.is_leaving();
-    if leaves && !before {
-        if let Some(number) = number_of(house) {
-            tell_leaving(&house.rt, number);
+impl Known {
+    // Tells of a joiner how far it has come. That it is ready tells who serves its clients.
+    fn tell_state<R: Wait + Eprint + Drop, C: Clock + Drop>(
+        &mut self,
+        house: &House<R, C>,
+        state: NodeState,
+    ) {
+        if self.state == state {
+            return;
+        }
+        self.state = state;
+        let node = self.node;
+        match state {
+            NodeState::Seated => house.tell(&Notice::Seated { node }),
+            NodeState::Copying => house.tell(&Notice::Copying { node }),
+            NodeState::Waiting | NodeState::Ready | NodeState::Leaving => {}
         }
     }
-    leaves
+
+    // Tells where its leases are over for a beat, and where they are back. One that leaves wants none.
+    fn tell_lease<R: Wait + Eprint + Drop, C: Clock + Drop>(&mut self, house: &House<R, C>) {
+        if self.leaves {
+            return;
+        }
+        let node = self.node;
+        let now = house.clock.now();
+        if has_lease(house, now) {
+            if self.lease.shows(now) {
+                house.tell(&Notice::LeaseBack { node });
+            }
+        } else if self.lease.misses(house.identity.beat(), now) {
+            house.tell(&Notice::LeaseOver { node });
+        }
+    }
+
+    // Looks whether the node leaves, and tells it where it begins to.
+    fn look_leaving<R: Wait + Eprint + Drop, C: Clock + Drop>(&mut self, house: &House<R, C>) {
+        house.look_leaving(house.clock.now());
+        let leaves = house.is_leaving();
+        if leaves && !self.leaves {
+            house.tell(&Notice::Leaving { node: self.node });
+        }
+        self.leaves = leaves;
+    }
+}
+
+// Whether the leases of all shards run at this reading.
+fn has_lease<R: Wait + Drop, C: Drop>(house: &House<R, C>, now: u64) -> bool {
+    let guard = house.standing.lock(&house.rt);
+    let end = guard.shards.lease_end;
+    now.saturating_add(u64::from(house.identity.skew)) <= end
 }
 
 impl<
@@ -113,17 +156,25 @@ impl<
     fn run(self) {
         let WatchJob {
             house,
+            node,
             watch,
             tallies,
             mut dialer,
             clients,
         } = self;
         let beat = house.identity.beat();
-        let mut leaves = false;
+        let mut known = Known {
+            node,
+            state: NodeState::Waiting,
+            lease: Presence::Unseen,
+            leaves: false,
+        };
         for _ in house.rt.forever() {
-            look(&*house, &watch, &*tallies);
-            leaves = look_leaving(&*house, leaves);
-            if house.look_out() || leaves {
+            let state = look(&*house, &watch, &*tallies);
+            known.tell_state(&*house, state);
+            known.look_leaving(&*house);
+            known.tell_lease(&*house);
+            if house.look_out() || known.leaves {
                 let _ = dialer.dial(&clients, KNOCK_MILLIS);
             }
             rest(&house.rt, beat);

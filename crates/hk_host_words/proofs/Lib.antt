@@ -6,3 +6,4 @@ mod Checking
 mod HostLists
 mod Single
 mod Commanding
+mod TakenOut

@@ -2,3 +2,4 @@ pub mod Options
 pub mod Words
 pub mod Reading
 pub mod Secrets
+pub mod Verbosities

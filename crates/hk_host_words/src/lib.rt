@@ -10,9 +10,14 @@
 //! there: where another is given besides, it must be the same. A group's secret is the first line of its file, up to the
 //! first line feed; a carriage return is a byte of it like any other.
 //!
+//! A process tells less by `-q`, more by `-v`: [`take_verbosity`] takes that word out, which stands where an option
+//! may, and gives
+//! the words without it, which are read as any.
+//!
 //! Its caller owes it nothing: any words are read, and of any file.
 //!
-//! What no clause says: which [`HostMistake`] is told, and its text.
+//! What no clause says: which [`HostMistake`] is told, and its text; and which of several words `-q` and `-v` is taken
+//! out.
 #![tactic(auto)]
 
 mod command;
@@ -23,6 +28,7 @@ mod node;
 mod secret;
 mod settings;
 mod values;
+mod verbosity;
 mod words;
 
 ghost use Rattle.hk_host_words.specs.Words.{WordsTellHostCommands};
@@ -31,6 +37,7 @@ pub use command::{named_command, read_host_command};
 pub use fault::{HostMistake, WordsFault};
 pub use names::{CommandName, OptionName};
 pub use secret::{MAX_SECRET_LEN, MIN_SECRET_LEN, SecretFault, read_secret};
+pub use verbosity::{Verbosity, take_verbosity};
 pub use words::{CLIENT_PORT, GroupWords, HostCommand, INSIDE_PORT, NodeWords};
 
 /// No words are two commands.

@@ -16,15 +16,15 @@ pub(crate) struct Typed<'a> {
     pub(crate) value: &'a str,
 }
 
-// A word behind its two dashes.
-fn undashed(word: &str) -> Option<&str>
+/// A word behind its two dashes.
+pub(crate) fn undashed(word: &str) -> Option<&str>
     ensures { IsUndashed result word.now }
 {
     word.strip_prefix("--")
 }
 
-// What stands in a text up to the first `=`, and behind that, if there is one.
-fn parts(text: &str) -> (&str, Option<&str>)
+/// What stands in a text up to the first `=`, and behind that, if there is one.
+pub(crate) fn parts(text: &str) -> (&str, Option<&str>)
     ensures { AreParts result.0.now (option_copied result.1) text.now }
 {
     match text.split_once('=') {

@@ -6,7 +6,7 @@ use crate::asker::HostAsker;
 use crate::end::HostEnd;
 use crate::files::secret_of;
 use crate::node::run_node;
-use hk_host_words::{GroupWords, HostCommand, NodeWords};
+use hk_host_words::{GroupWords, HostCommand, NodeWords, Verbosity};
 use hk_hosts::{Address, Random, SystemRandom};
 use hk_init::{CommandFault, init, leave, put_fault, status};
 use hk_inside::Leaver;
@@ -78,9 +78,9 @@ fn node<
         + Sync
         + Drop
         + 'static,
->(rt: R, alloc: Global, words: NodeWords) -> Result<Status, HostEnd> {
+>(rt: R, alloc: Global, words: NodeWords, verbosity: Verbosity) -> Result<Status, HostEnd> {
     let path = secret_path(alloc, &words.group)?;
-    run_node(rt, alloc, words, &path)
+    run_node(rt, alloc, words, verbosity, &path)
 }
 
 // The number that an end has, which is told where it was not told before.
@@ -184,7 +184,8 @@ fn number_told<R: Eprint>(rt: &R, told: Result<u8, HostEnd>) -> u8 {
     }
 }
 
-/// Does what a command of a group over hosts says, and gives the number that the process ends with.
+/// Does what a command of a group over hosts says, and gives the number that the process ends with. A process of the
+/// group tells its operator as much as is wanted.
 pub fn perform<
     R: Threads
         + Wait
@@ -199,9 +200,9 @@ pub fn perform<
         + Drop
         + 'static,
     K: Sink,
->(rt: R, alloc: Global, command: HostCommand, sink: &mut K) -> u8 {
+>(rt: R, alloc: Global, command: HostCommand, verbosity: Verbosity, sink: &mut K) -> u8 {
     match command {
-        HostCommand::Node(words) => number_of(&rt, node(rt, alloc, words)),
+        HostCommand::Node(words) => number_of(&rt, node(rt, alloc, words, verbosity)),
         HostCommand::Init(group) => number_told(&rt, found(rt, alloc, group, sink)),
         HostCommand::Status(group) => number_told(&rt, tell_status(rt, alloc, group, sink)),
         HostCommand::Leave { group, who } => {

@@ -11,9 +11,9 @@ use hk_disk::DiskFile;
 use hk_fields::Ticket;
 use hk_group::first_view;
 use hk_host::{Dialers, HostManager, Inside, ServeFault, Serving, serve_host};
-use hk_host_words::NodeWords;
+use hk_host_words::{NodeWords, Verbosity};
 use hk_hosts::{Address, DoorsAt, HostDialer, HostDoors, Random, SystemRandom};
-use hk_house::{Identity, copy_of};
+use hk_house::{Identity, Telling, copy_of};
 use hk_inside::HostTickets;
 use hk_managing::{ManagerStart, begin_manager};
 use hk_outside::{Clock, Status, SteadyClock};
@@ -25,6 +25,7 @@ use std::net::{Net, TcpListener, TcpStream};
 use std::random::RandomSource;
 use std::sync::{Arc, Wait};
 use std::thread::Threads;
+use std::time::{SystemTime, UNIX_EPOCH};
 
 // The greatest number of hosts.
 const MOST_HOSTS: usize = 9;
@@ -229,6 +230,20 @@ fn told_end<R: Eprint>(
     Ok(status)
 }
 
+// The milliseconds from the beginning of 1970 to the reading 0 of a clock. They are 0 where the machine does not tell
+// the date.
+fn began<R: std::rt::Clock, C: Clock>(rt: &R, clock: &C) -> u64 {
+    let Ok(now) = SystemTime::now(rt) else {
+        return 0;
+    };
+    let Ok(passed) = now.duration_since(UNIX_EPOCH) else {
+        return 0;
+    };
+    u64::try_from(passed.as_millis())
+        .unwrap_or(0)
+        .saturating_sub(clock.now())
+}
+
 /// Runs a process of a group, for as long as it can.
 pub(crate) fn run_node<
     R: Threads
@@ -243,11 +258,21 @@ pub(crate) fn run_node<
         + Sync
         + Drop
         + 'static,
->(rt: R, alloc: Global, words: NodeWords, secret_path: &str) -> Result<Status, HostEnd> {
+>(
+    rt: R,
+    alloc: Global,
+    words: NodeWords,
+    verbosity: Verbosity,
+    secret_path: &str,
+) -> Result<Status, HostEnd> {
     let secret = secret_of(&rt, alloc, secret_path)?;
     // The clock begins once the log is held: behind all that a process before this one has granted.
     let held = held_log(&rt, alloc, &words)?;
     let clock = Arc::new(alloc, SteadyClock::new(rt)).or(Err(Memory))?;
+    let telling = Telling {
+        verbosity,
+        began: began(&rt, &*clock),
+    };
     let mut random = SystemRandom::new(rt);
     let tickets = HostTickets {
         manager: draw(&mut random)?,
@@ -278,6 +303,7 @@ pub(crate) fn run_node<
             listen: &listen,
             workers,
             data: folder_of(&path),
+            telling,
         },
         &mut HostDoors::new(rt, alloc),
         &mut LooseSpawner::new(rt),

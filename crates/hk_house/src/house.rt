@@ -7,6 +7,7 @@ ghost use Rattle.hk_house.specs.Standings.{IsOwnTicket, IsLookedUp, IsReachedThe
 use crate::identity::Identity;
 use crate::inbox::Inbox;
 use crate::standing::Standing;
+use crate::telling::Telling;
 use hk_base::{Actor, Memory};
 use hk_fields::Ticket;
 use hk_greet::LookUp;
@@ -25,6 +26,8 @@ pub struct House<R: Wait + Drop, C: Drop> {
     pub clock: Arc<C>,
     /// What the process is.
     pub identity: Identity,
+    /// What it tells its operator.
+    pub telling: Telling,
     /// What it has come to know.
     pub standing: Mutex<Standing>,
     /// Where letters to its manager go in, once this is open. It is split for each connection that brings some.

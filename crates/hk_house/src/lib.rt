@@ -13,6 +13,8 @@
 //! end where a majority left its node out, or is open with another founding ([`House::look_out`]). Where the boards of a majority tell that its node is to leave
 //! it leaves first: it serves no clients and asks for no lease ([`House::is_leaving`]).
 //!
+//! What its operator is told is a [`Notice`], which has a level, and goes to standard error by [`House::tell`] alone.
+//!
 //! What is proved. An identity is exactly what words, a secret and a ticket tell, or it is told that no process may be so
 //! (`specs/Identities.antt`). Its type keeps that the group has a name, that it has 1 to 9 hosts, that this host is one of
 //! them if it has a manager, and that its addresses stand in a message: so each hello of it is in range, and is exactly
@@ -21,13 +23,16 @@
 //! of their answers and boards, which number it holds, and when it is to end, is that of `specs/Seeking.antt`, exactly; when its node leaves, and when it stays after
 //! all, that of `specs/Leaving.antt`. Behind the lock it is that of some standing, as another
 //! thread may change it at any moment. At most 1,024 wait in an inbox, in their order. A refusal is to be told
-//! exactly where for a lease nothing but refusals came, and none was told within a minute (`specs/Notices.antt`).
+//! exactly where for a lease nothing but refusals came, and none was told within a minute; who was there is gone
+//! exactly where nothing came
+//! for long enough; and lines of which levels are wanted is exact too (`specs/Notices.antt`).
 //!
 //! Its caller owes, with each board that it has a standing hear, the place of the manager that sent it.
 //!
 //! No clause says which standing stood behind the lock at a moment, that what was put into an inbox is taken, that who
 //! waits at a [`Slot`] is woken, or that the answer there is the one to its inquiry: each inquiry has a slot of its own,
-//! to which nothing else leads. Nor does one say that a line for the operator was written, or that a process which was left
+//! to which nothing else leads. Nor does one say that a line for the operator was written, or what it has, or that a
+//! process which was left
 //! out ends: [`House::look_out`] tells that to whoever asks.
 #![tactic(auto)]
 
@@ -36,18 +41,20 @@ mod identity;
 mod inbox;
 mod leaving;
 mod making;
+mod moment;
 mod notices;
 mod resting;
 mod seeking;
 mod standing;
+mod telling;
 mod terms;
 
 pub use house::House;
 pub use identity::Identity;
 pub use inbox::{Coming, Inbox, Slot};
 pub use making::{IdentityFault, digest_of};
-pub use notices::{
-    Told, tell_leaving, tell_log_ended, tell_no_manager, tell_open, tell_ready, tell_refused,
-};
+pub use moment::Moment;
+pub use notices::{Presence, Told};
 pub use resting::rest;
 pub use standing::{LostTail, ShardsSeen, Standing, copy_of};
+pub use telling::{Level, Notice, Telling};

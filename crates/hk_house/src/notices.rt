@@ -1,11 +1,7 @@
-//! Lines for the operator, on standard error. A line that can't be written is lost.
+//! When a refusal is told, and who is gone or back.
 
 ghost use Rattle.std.specs.Prelude.{◌≡◌, None};
-ghost use Rattle.hk_house.specs.Notices.{since, is_minute_past, is_due, refused_by, taken_by};
-
-use hk_base::Actor;
-use hk_hello::HelloRefusal;
-use std::io::Eprint;
+ghost use Rattle.hk_house.specs.Notices.{since, is_minute_past, is_due, refused_by, taken_by, is_gone, is_over, missed_by};
 
 // A refusal is told again after so many milliseconds.
 const MINUTE: u64 = 60_000;
@@ -81,37 +77,56 @@ impl Told {
     }
 }
 
-/// Tells that the hellos are refused that are sent to an actor.
-pub fn tell_refused<R: Eprint>(rt: &R, to: Actor, refusal: HelloRefusal) {
-    let _ = match to {
-        Actor::Node(node) => eprintln!(rt; "hermes: node {} refused: {refusal}", node.0),
-        Actor::Manager(place) => eprintln!(rt; "hermes: manager {place} refused: {refusal}"),
-    };
+/// Whether something is there that shows at times, as a manager by its answers. Readings are in milliseconds on the
+/// clock of the process.
+#[derive(Clone, Copy, Debug, PartialEq, Eq)]
+pub enum Presence {
+    /// It never showed.
+    Unseen,
+    /// It showed at this reading, the last one.
+    There { at: u64 },
+    /// It has not shown for long.
+    Gone,
 }
 
-/// The log can't be written: the manager is stopped for good.
-pub fn tell_log_ended<R: Eprint>(rt: &R) {
-    let _ = eprintln!(rt; "hermes: the log can't be written; this host has no manager from now on");
-}
+impl Presence {
+    fn is_gone(&self) -> bool
+        ensures { result ≡ is_gone self.now }
+    {
+        matches!(self, Presence::Gone)
+    }
 
-/// The group is open.
-pub fn tell_open<R: Eprint>(rt: &R, founding: u64) {
-    let _ = eprintln!(rt; "hermes: the group of founding {founding:016x} is open");
-}
+    // Whether it was there, and has not shown for so many milliseconds.
+    fn is_over(&self, within: u64, now: u64) -> bool
+        ensures { result ≡ is_over within now self.now }
+    {
+        match self {
+            Presence::Unseen => false,
+            Presence::There { at } => now.saturating_sub(*at) >= within,
+            Presence::Gone => false,
+        }
+    }
 
-/// The node leaves the group, and serves no clients any more.
-pub fn tell_leaving<R: Eprint>(rt: &R, node: u16) {
-    let _ = eprintln!(rt; "hermes: node {node} leaves");
-}
+    /// It shows at this reading. Whether it was gone, and is back.
+    pub fn shows(&mut self, now: u64) -> bool
+        ensures back { result ≡ is_gone self.old }
+        ensures new { self.new ≡ Presence.There now }
+    {
+        let was_gone = self.is_gone();
+        *self = Presence::There { at: now };
+        was_gone
+    }
 
-/// The node serves clients.
-pub fn tell_ready<R: Eprint>(rt: &R, node: u16) {
-    let _ = eprintln!(rt; "hermes: node {node} is ready");
-}
-
-/// The group is open, and this host's manager none of its own: the folder that it began with was empty.
-pub fn tell_no_manager<R: Eprint>(rt: &R, folder: &str) {
-    let _ = eprintln!(rt;
-        "hermes: the group lives and {folder} is empty: this host has no manager"
-    );
+    /// It does not show at this reading. Whether it is gone from now on: it was there, and has not shown for so many
+    /// milliseconds.
+    pub fn misses(&mut self, within: u64, now: u64) -> bool
+        ensures gone { result ≡ is_over within now self.old }
+        ensures new { self.new ≡ missed_by within now self.old }
+    {
+        let is_over = self.is_over(within, now);
+        if is_over {
+            *self = Presence::Gone;
+        }
+        is_over
+    }
 }

@@ -1,5 +1,5 @@
 -- What the commands do, and how each of them ends.
-use Rattle.std.specs.Prelude.{◌≡◌, ◌<◌, ◌⊎◌, ℕ, ◌-◌, ◌/◌, Bool, true, false, not, ◌&&◌, nat_eq, nat_lt, if◌then◌else◌, List, [], ◌∷◌, ◌++◌, length, take, is_err, Option, Result, Ok, Err}
+use Rattle.std.specs.Prelude.{◌≡◌, ◌<◌, ◌⊎◌, ℕ, ◌-◌, ◌/◌, Bool, true, false, not, ◌&&◌, nat_eq, nat_lt, if◌then◌else◌, codes, List, [], ◌∷◌, ◌++◌, length, take, is_err, Option, Result, Ok, Err}
 use Rattle.std.specs.List.{list_any, list_all, ends_with, sum_by}
 use Rattle.std.specs.Io.KnownBytes.{Appends}
 use Rattle.hk_fields.specs.declared.hosts.HostTickets.{HostTickets}
@@ -12,6 +12,7 @@ use Rattle.hk_init.specs.declared.fault.NoAnswer.TheVariants as asks
 use Rattle.hk_init.specs.declared.fault.CommandFault.{CommandFault}
 use Rattle.hk_init.specs.declared.fault.CommandFault.TheVariants.{Memory, WriteFault}
 use Rattle.hk_init.specs.Faults.{not_asked}
+use Rattle.hk_init.specs.HostNodes.{word_at, is_text}
 use Rattle.hk_init.specs.Deeds.{Outcome, Deed, Reading, exchanges}
 use Rattle.hk_init.specs.Phases.{Looks, Agrees, Founds, Opens}
 use Rattle.hk_init.specs.Lines.{founded_line, open_words}
@@ -111,14 +112,18 @@ tells_lost text = ends_with nat_eq text lost_line
 abbrev pub without_lost : List ℕ → List ℕ
 without_lost text = take (length text - 5) text
 
--- how many hosts answer, of one
+-- Its manager knows of no group, as where its disk was lost: `group NAME founding=- ..`. It tells nothing of what became of one.
+abbrev pub knows_none : List ℕ → Bool
+knows_none text = is_text (word_at text 2) (codes "founding=-")
+
+-- how many hosts answer whose managers know of the group, of one
 abbrev pub count_of : Result (List ℕ) NoAnswer → ℕ
-count_of (Ok text) = 1
+count_of (Ok text) = if knows_none text then 0 else 1
 count_of (Err fault) = 0
 
--- the host answers, and does not tell it
+-- such a host answers, and does not tell it
 abbrev pub denies_lost : Result (List ℕ) NoAnswer → Bool
-denies_lost (Ok text) = not (tells_lost text)
+denies_lost (Ok text) = not (knows_none text) && not (tells_lost text)
 denies_lost (Err fault) = false
 
 abbrev pub is_confirmed : ℕ → ℕ → Bool → Bool
@@ -130,7 +135,7 @@ answer_count outcome = count_of (status_of outcome)
 abbrev pub is_denied : Outcome → Bool
 is_denied outcome = denies_lost (status_of outcome)
 
--- All hosts were asked. It is confirmed where a majority answers, and all that do tell it.
+-- All hosts were asked. It is confirmed where a majority answers that knows of the group, and all of these tell it.
 abbrev pub Confirms : ℕ → List Deed → Bool → Type 0
 Confirms count deeds confirmed = (outcomes : List Outcome) × (deeds ≡ exchanges inquiry.Status outcomes) × (length outcomes ≡ count) ×
     (confirmed ≡ is_confirmed count (sum_by answer_count outcomes) (list_any is_denied outcomes))

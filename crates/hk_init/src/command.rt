@@ -7,7 +7,7 @@ ghost use Rattle.hk_inside.specs.declared.inquiry.Inquiry.TheVariants.{Status as
 ghost use Rattle.hk_init.specs.Deeds.{Did, Asked};
 ghost use Rattle.hk_init.specs.Phases.{Founds, Opens};
 ghost use Rattle.hk_init.specs.Leaving.{NodeLeaves, TellsLeft, LeavesBy};
-ghost use Rattle.hk_init.specs.Init.{Then, IsAgreed, IsFounding, Writes, Inits, status_in, status_of, FirstAnswers, tells_lost, without_lost, count_of, denies_lost, is_confirmed, Confirms, ShowsLost, Shows, TellsOf, TellsStatus};
+ghost use Rattle.hk_init.specs.Init.{Then, IsAgreed, IsFounding, Writes, Inits, status_in, status_of, FirstAnswers, tells_lost, without_lost, knows_none, count_of, denies_lost, is_confirmed, Confirms, ShowsLost, Shows, TellsOf, TellsStatus};
 
 use crate::asking::AskHost;
 use crate::fault::{CommandFault, NoAnswer};
@@ -15,7 +15,7 @@ use crate::founds::found_all;
 use crate::leaves::leave_all;
 use crate::lines::{founded_line, left_line, open_words};
 use crate::looks::{agreed, look_at_all};
-use crate::lookup::named;
+use crate::lookup::{named, word_at};
 use crate::opens::await_all;
 use hk_base::{NodeId, Sequence};
 use hk_inside::{Inquiry, Leaver, ManagerState, Response};
@@ -174,23 +174,33 @@ fn without_lost(text: Sequence<u8>) -> Sequence<u8>
     Sequence::from_vec(text)
 }
 
-// How many hosts answer, of one.
+// Whether the manager of the host that tells this knows of no group, as where its disk was lost.
+fn knows_none(text: &[u8]) -> bool
+    ensures { result ≡ knows_none text.now }
+{
+    match word_at(text, 2) {
+        Some(word) => word == b"founding=-".as_slice(),
+        None => false,
+    }
+}
+
+// How many hosts answer whose managers know of the group, of one.
 fn count_of(told: &Result<Sequence<u8>, NoAnswer>) -> usize
     ensures exact { result ≡ count_of told.now }
     ensures few { result ≤ 1 }
 {
     match told {
-        Ok(_) => 1,
+        Ok(text) => usize::from(!knows_none(text.as_slice())),
         Err(_) => 0,
     }
 }
 
-// Whether a host answers, and does not tell that all is lost.
+// Whether such a host answers, and does not tell that all is lost.
 fn denies_lost(told: &Result<Sequence<u8>, NoAnswer>) -> bool
     ensures { result ≡ denies_lost told.now }
 {
     match told {
-        Ok(text) => !tells_lost(text.as_slice()),
+        Ok(text) => !knows_none(text.as_slice()) && !tells_lost(text.as_slice()),
         Err(_) => false,
     }
 }
@@ -207,7 +217,7 @@ fn is_confirmed(count: usize, answered: usize, denied: bool) -> bool
     !denied && count / 2 < answered
 }
 
-// Asks all hosts, and tells whether a majority of them answers, and all of these tell that all is lost.
+// Asks all hosts, and tells whether a majority of them answers that knows of the group, and all of these tell that all is lost.
 fn confirm_lost<A: AskHost>(asker: &mut A, count: usize) -> bool
     ensures { Did (A.deeds asker.old) (A.deeds asker.new) (λ deeds. Confirms count deeds result) }
 {
@@ -251,7 +261,8 @@ fn group_status<A: AskHost>(asker: &mut A, count: usize) -> Result<Sequence<u8>,
 }
 
 /// Writes how a group of so many hosts stands, as the first of them tells that answers. That all is lost is written only where
-/// a majority of them answers, and all of these tell it.
+/// a majority of them answers that knows of the group, and all of these tell it: a host whose disk was lost counts as one that
+/// does not answer.
 pub fn status<A: AskHost, K: Sink>(
     asker: &mut A,
     count: usize,

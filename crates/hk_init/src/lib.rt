@@ -4,7 +4,7 @@
 //! to each with the tickets that they told, within 5 s of the first LOOK. Then it asks them for STATUS, round by round,
 //! until in one round all tell that they are open. To LOOK again would reserve them, and so keep them from opening.
 //! [`status`] writes what the first host tells that answers; that all is lost it writes only where a majority of the hosts
-//! answers, and all of these tell it. [`leave`] asks all hosts to have a node leave, round by round, until none of them has it
+//! answers that know of the group, and all of these tell it. [`leave`] asks all hosts to have a node leave, round by round, until none of them has it
 //! leave any more, since they know no such member. The node of a host it looks up before, by STATUS, once. All run over an [`AskHost`], which asks the manager of the
 //! host of a place, reads a clock and rests.
 //!

@@ -15,7 +15,7 @@ use hk_inside::{Inquiry, Leaver, Response};
 use itoa::Buffer;
 
 // The word at this place of a line, counted from 0.
-fn word_at(line: &[u8], place: usize) -> Option<&[u8]>
+pub(crate) fn word_at(line: &[u8], place: usize) -> Option<&[u8]>
     ensures { option_copied result ≡ word_at line.now place }
 {
     line.split(|byte| *byte == b' ').nth(place)

@@ -113,11 +113,12 @@ impl<R: Wait + Copy + Drop, C: DeskClock + Drop, P: Places, X: PromptCarrier + D
 
     // What takes the letters that one connection more brings, and the outlet that leads to it.
     fn reader(&self) -> Result<(Outlet, LaneReader<R, P, X>), Memory> {
+        let lanes = Arc::try_clone(&self.lanes)?;
         let (outlet, reader) = self.desks.reader()?;
         let reader = LaneReader {
             rt: self.rt,
             reader,
-            lanes: Arc::try_clone(&self.lanes)?,
+            lanes,
         };
         Ok((outlet, reader))
     }
@@ -131,11 +132,13 @@ impl<R: Wait + Copy + Drop, C: DeskClock + Drop, P: Places, X: PromptCarrier + D
 
     // The desk of the connection of this number.
     fn desk(&self, number: u32) -> Result<LaneDesk<C, R, P, X>, Memory> {
+        let lanes = Arc::try_clone(&self.lanes)?;
+        let counters = self.tallies.of(number)?;
         Ok(LaneDesk {
             rt: self.rt,
             desk: self.desks.desk(number)?,
-            lanes: Arc::try_clone(&self.lanes)?,
-            counters: self.tallies.of(number)?,
+            lanes,
+            counters,
         })
     }
 }

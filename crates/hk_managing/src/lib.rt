@@ -19,7 +19,9 @@
 //! Letters come to the cores by a [`Relay`]: of each ask for a lease it notes who asks, and of which view. At each beat,
 //! once a majority of the managers has answered for long enough, the office is asked what it wishes, by what was noted and
 //! reported so far; the cores propose that, or let a view begin, in the same turn, behind the letters that came. Which views
-//! were let begin the office learns behind the turn. How long ago nodes asked goes into the next reports.
+//! were let begin the office learns behind the turn. How long ago nodes asked goes into the next reports. A manager that stood
+//! still itself, while its disk synced or for want of a processor, does not take for gone whom it only has not heard yet: for a
+//! quarter of a lease behind that it wishes nothing ([`Looks`]).
 //!
 //! Where the log can't be written, or memory is wanting for what the office did, nothing of this manager is told any more:
 //! it is stopped for good ([`Cores::Ended`]), and its process goes on with its node. An inquiry for which memory is wanting
@@ -36,7 +38,8 @@
 //! the front (`IsTurn` behind `all_noted`), and its letters go behind the record. A relay puts what it took, in that order,
 //! but a last parcel for which its link had no room, and notes just the asks among that (`NotesAll`); where memory was
 //! wanting for the last one's ask, those before it (`NotesFront`). What is intended is made of wishes as `intents_of` has it,
-//! and which views are told as begun is that of `begun_below`, by the managers as they stand behind the turn. What others of
+//! and which views are told as begun is that of `begun_below`, by the managers as they stand behind the turn. When one that
+//! stood still rests is that of `looked`. What others of
 //! the process learn of the manager is that of `stands`.
 //!
 //! What no clause says: which faults of a file are told when; what is left at a slot, and that it is the answer to what
@@ -45,17 +48,21 @@
 //! was made by which a view is told as begun, for which memory may have been wanting; and how many records the log has.
 #![tactic(auto)]
 
+mod answers;
 mod begin;
 mod cores;
 mod gathered;
+mod looks;
 mod managing;
 mod notes;
 mod relay;
 mod stand;
 
+pub use answers::{Answers, FIRST_BEATS, FIRST_WISH};
 pub use begin::{BeginFault, Begun, ManagerStart, begin_by, begin_manager};
 pub use cores::{Cores, NOTHING, Unlogged};
 pub use gathered::{Gathered, Replies, Seen};
+pub use looks::Looks;
 pub use managing::{Behind, ManagerJob};
 pub use notes::{are_notes, is_note};
 pub use relay::Relay;

@@ -6,9 +6,11 @@ ghost use Rattle.hk_log.specs.declared.entry.Entry.{Entry};
 ghost use Rattle.hk_managing.specs.Turns.{StayTold};
 ghost use Rattle.hk_managing.specs.Intending.{intent_of, intent_in, intents_of};
 
+use crate::answers::Answers;
 use crate::begin::{Begun, ManagerStart};
 use crate::cores::{Cores, NOTHING, Unlogged};
 use crate::gathered::{Gathered, Replies, Seen};
+use crate::looks::Looks;
 use crate::relay::Relay;
 use crate::stand::stand;
 use hk_base::{Actor, Body, MAX_TIME, Memory, NodeId, View};
@@ -16,7 +18,7 @@ use hk_boards::{Boards, TicketsTold};
 use hk_disk::LogFile;
 use hk_durable::{Intent, LateClock};
 use hk_fields::Ticket;
-use hk_house::{Coming, House, LostTail, Slot, tell_log_ended, tell_open};
+use hk_house::{Coming, House, LostTail, Notice, Slot};
 use hk_inside::Inquiry;
 use hk_keeper::Wish;
 use hk_lease::wait;
@@ -31,11 +33,7 @@ use std::sync::{Arc, Wait};
 // So much that waits is taken in one turn.
 const MOST_TAKEN: usize = 64;
 
-// Once a majority of the managers answers, a manager wishes nothing for so many milliseconds and beats. Whoever could not reach its host before has tried again by then: else
-// it would take those who live for gone, of whom it has only not heard yet.
-const FIRST_WISH: u64 = 1_000;
-
-const FIRST_BEATS: u64 = 4;
+const NO_WISHES: [Wish; 8] = [Wish::Nothing; 8];
 
 /// The manager of a host: what it knows, and its cores.
 #[derive(Drop)]
@@ -47,10 +45,10 @@ pub struct ManagerJob<R: Wait + Drop, C: Drop, F: LogFile + Drop> {
     relay: Relay,
     // The outlets of the cores, as they change.
     routes: Follower,
-    // The reading at which it looked last at what it heard.
-    looked: u64,
-    // The reading since which a majority of the managers answers, if it does.
-    answered_since: Option<u64>,
+    // When it looked last at what it heard, and whether it may wish by that.
+    looks: Looks,
+    // Whether a majority of the managers answers.
+    answers: Answers,
     // By shards the epoch of the last view that it let begin, 0 where it let none.
     begun: [u64; 8],
     // How many records its log has.
@@ -61,6 +59,8 @@ pub struct ManagerJob<R: Wait + Drop, C: Drop, F: LogFile + Drop> {
     open_since: Option<u64>,
     // The reading from which on the manager acts, once it does.
     acts_since: Option<u64>,
+    // The members of the views that its operator was told of last, none at first.
+    told: Vec<NodeId>,
 }
 
 /// A clock that is shared, read behind what was taken. It notes when a node asked last for a lease.
@@ -187,6 +187,18 @@ fn intents_of(views: &[View], wishes: &[Wish; 8], begun: &[u64; 8]) -> [Intent; 
     ]
 }
 
+// The members of views, where the last ones that this manager let begin are these, and all have the same.
+fn members_begun<'a>(views: &'a [View], begun: &[u64; 8]) -> Option<&'a [NodeId]> {
+    let (first, _) = views.split_first()?;
+    let members = first.members.as_slice();
+    for (view, epoch) in views.iter().zip(begun.iter()) {
+        if view.epoch != *epoch || view.members.as_slice() != members {
+            return None;
+        }
+    }
+    Some(members)
+}
+
 impl<R: Wait + Eprint + Drop, C: Clock + Drop, F: LogFile + Drop> ManagerJob<R, C, F> {
     /// The job of the manager that begins so, whose letters come by the inlet and go by the routes. `clock` is the clock of the house.
     pub fn new(
@@ -212,13 +224,14 @@ impl<R: Wait + Eprint + Drop, C: Clock + Drop, F: LogFile + Drop> ManagerJob<R, 
             cores,
             relay,
             routes,
-            looked: 0,
-            answered_since: None,
+            looks: Looks::none(),
+            answers: Answers::none(),
             begun: [0; 8],
             records,
             behind: Behind::new(clock),
             open_since: None,
             acts_since: None,
+            told: Vec::new(alloc),
         };
         job.publish();
         Ok(job)
@@ -445,28 +458,19 @@ impl<R: Wait + Eprint + Drop, C: Clock + Drop, F: LogFile + Drop> ManagerJob<R, 
 
     // Whether it is time to look at what it heard: once each beat, and only where it acts.
     fn is_to_look(&self, now: u64) -> bool {
-        self.acts_since.is_some() && now.saturating_sub(self.looked) >= self.house.identity.beat()
+        self.acts_since.is_some()
+            && now.saturating_sub(self.looks.last) >= self.house.identity.beat()
     }
 
-    // Notes since when a majority of the managers answers, each within half a lease.
+    // Notes whether a majority of the managers answers, each within half a lease.
     fn note_answers(&mut self, now: u64)
+        requires { now ≤ MAX_TIME }
         ensures { self.new.office ≡ self.old.office }
     {
-        let within = u64::from(self.house.identity.lease) / 2;
-        if !self.is_answered(now.saturating_sub(within)) {
-            self.answered_since = None;
-        } else if self.answered_since.is_none() {
-            self.answered_since = Some(now);
-        }
-    }
-
-    // Whether a majority has answered for long enough that it knows who lives.
-    fn may_wish(&self, now: u64) -> bool {
-        let Some(since) = self.answered_since else {
-            return false;
-        };
-        let beats = self.house.identity.beat().saturating_mul(FIRST_BEATS);
-        now.saturating_sub(since) >= beats.saturating_add(FIRST_WISH)
+        let lease = self.house.identity.lease;
+        let beat = self.house.identity.beat();
+        let answered = self.is_answered(now.saturating_sub(u64::from(lease / 2)));
+        self.answers.hear(lease, beat, now, answered);
     }
 
     // How long ago nodes asked this manager for leases, for its reports to others.
@@ -479,6 +483,23 @@ impl<R: Wait + Eprint + Drop, C: Clock + Drop, F: LogFile + Drop> ManagerJob<R, 
         standing.asks = seen;
     }
 
+    // The operator is told of the members, once views with them began in all shards.
+    fn tell_members(&mut self, views: &[View])
+        ensures { self.new.office ≡ self.old.office }
+    {
+        let Some(members) = members_begun(views, &self.begun) else {
+            return;
+        };
+        if self.told.as_slice() == members {
+            return;
+        }
+        let Ok(told) = members.to_vec(self.house.alloc) else {
+            return;
+        };
+        self.told = told;
+        self.house.tell(&Notice::Begins { members });
+    }
+
     // What the cores are to do of themselves in this turn.
     fn intents(&mut self) -> [Intent; 8]
         ensures { (notes : List Entry) → StayTold self.old.office notes self.new.office notes }
@@ -487,7 +508,7 @@ impl<R: Wait + Eprint + Drop, C: Clock + Drop, F: LogFile + Drop> ManagerJob<R, 
         if !self.is_to_look(now) {
             return NOTHING;
         }
-        self.looked = now;
+        self.looks.look(now, self.house.identity.lease);
         let Ok(views) = self.cores.views(self.house.alloc) else {
             return NOTHING;
         };
@@ -495,9 +516,10 @@ impl<R: Wait + Eprint + Drop, C: Clock + Drop, F: LogFile + Drop> ManagerJob<R, 
             return NOTHING;
         }
         self.tell_asks(now, &views);
+        self.tell_members(&views);
         self.note_answers(now);
-        if !self.may_wish(now) {
-            return NOTHING;
+        if self.looks.rests(now) || !self.answers.may_wish(now) {
+            return intents_of(&views, &NO_WISHES, &self.begun);
         }
         match self.office.intents(self.house.alloc, now, &views) {
             Ok(wishes) => intents_of(&views, &wishes, &self.begun),
@@ -530,7 +552,9 @@ impl<R: Wait + Eprint + Drop, C: Clock + Drop, F: LogFile + Drop> ManagerJob<R, 
         let replies = self.make_sure(gathered, &intents)?;
         self.note_begun(&intents);
         if !was_open && self.office.takes_letters() {
-            tell_open(&self.house.rt, self.office.founding());
+            self.house.tell(&Notice::Open {
+                founding: self.office.founding(),
+            });
         }
         self.publish();
         self.act();
@@ -557,7 +581,7 @@ impl<
                 Ok(false) => manager.house.inbox.bell.wait(&rt, heard),
                 Err(_) => {
                     manager.withdraw();
-                    tell_log_ended(&rt);
+                    manager.house.tell(&Notice::LogEnded);
                     return;
                 }
             }

@@ -15,7 +15,7 @@ use hk_fields::Ticket;
 use hk_greet::{Buffered, KnockFault, knock};
 use hk_hello::{Hello, Party, Purpose};
 use hk_hosts::{Address, Patient};
-use hk_house::{House, Told, tell_refused};
+use hk_house::{House, Notice, Told};
 use hk_outside::Clock;
 use std::io::Eprint;
 use std::sync::Wait;
@@ -143,7 +143,10 @@ impl Approach {
         };
         let now = house.clock.now();
         if self.told.refused(house.identity.lease, now) {
-            tell_refused(&house.rt, self.to, *refusal);
+            house.tell(&Notice::Refused {
+                to: self.to,
+                refusal: *refusal,
+            });
         }
     }
 

@@ -10,13 +10,15 @@ use crate::asking::AskManager;
 use hk_base::{Memory, NodeId, Sequence};
 use hk_boards::HeardBoard;
 use hk_fields::Ticket;
-use hk_house::{Coming, House, Identity, ShardsSeen, Standing, rest};
+use hk_house::{Coming, House, Identity, Notice, Presence, ShardsSeen, Standing, rest};
 use hk_inside::{Board, Inquiry, NodeSeen, NodesSeen, Report, Response, ShardsTold};
 use hk_outside::{Clock, Job};
 use std::alloc::Global;
+use std::io::Eprint;
 use std::sync::{Arc, Wait};
 
-/// Reports to the manager of a host at each beat, and keeps the board that it answers with.
+/// Reports to the manager of a host at each beat, and keeps the board that it answers with. The operator is told where
+/// it answers none for a lease, and where it is back then.
 #[derive(Drop)]
 pub struct ReportJob<R: Wait + Drop, C: Drop, A: Drop> {
     pub house: Arc<House<R, C>>,
@@ -165,18 +167,37 @@ fn hear<R: Wait + Drop, C: Clock + Drop>(house: &House<R, C>, place: u8, asked: 
     }
 }
 
-// Reports once.
+// Reports once, and gives whether the manager told its board.
 fn report_to<R: Wait + Drop, C: Clock + Drop, A: AskManager>(
     house: &House<R, C>,
     place: u8,
     asker: &mut A,
-) {
+) -> bool {
     let asked = house.clock.now();
     let Ok(report) = report(house) else {
-        return;
+        return false;
     };
-    if let Some(Response::Board(board)) = asker.ask(&Inquiry::Report(report)) {
-        hear(house, place, asked, board);
+    let Some(Response::Board(board)) = asker.ask(&Inquiry::Report(report)) else {
+        return false;
+    };
+    hear(house, place, asked, board);
+    true
+}
+
+// Notes whether the manager of a place answered, and tells the operator where it is gone, or back.
+fn watch<R: Wait + Eprint + Drop, C: Clock + Drop>(
+    house: &House<R, C>,
+    place: u8,
+    presence: &mut Presence,
+    has_answered: bool,
+) {
+    let now = house.clock.now();
+    if has_answered {
+        if presence.shows(now) {
+            house.tell(&Notice::Back { place });
+        }
+    } else if presence.misses(u64::from(house.identity.lease), now) {
+        house.tell(&Notice::Gone { place });
     }
 }
 
@@ -246,7 +267,7 @@ fn seek<R: Wait + Drop, C: Clock + Drop, A: AskManager>(
 }
 
 impl<
-    R: Wait + Send + Sync + Drop + 'static,
+    R: Wait + Eprint + Send + Sync + Drop + 'static,
     C: Clock + Send + Sync + Drop + 'static,
     A: AskManager + Send + Drop + 'static,
 > Job for ReportJob<R, C, A> {
@@ -257,8 +278,10 @@ impl<
             mut asker,
         } = self;
         let beat = house.identity.beat();
+        let mut presence = Presence::Unseen;
         for _ in house.rt.forever() {
-            report_to(&*house, place, &mut asker);
+            let has_answered = report_to(&*house, place, &mut asker);
+            watch(&*house, place, &mut presence, has_answered);
             seek(&*house, place, &mut asker);
             rest(&house.rt, beat);
         }

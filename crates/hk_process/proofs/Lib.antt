@@ -1,3 +1,4 @@
 mod First
+mod Sent
 mod Groups
 mod Taking

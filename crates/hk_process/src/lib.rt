@@ -19,12 +19,17 @@
 //!
 //! The caller gives the runtime value, a clock, doors, a spawner, and a process within the limits of `specs/Process.antt`.
 //!
-//! What is proved. `serve_process` is Done only where its spawner took a job for each worker and each loop that sends,
-//! and then the stated number of connections came at least, or all that were left, and for each it took a job or counts
-//! one fault more (`done`, `HasTakenBeside`); the doors are closed then (`closed`). DoorFault and SpawnFault come only
-//! where that object's count rose. What a loop that sends has on a connection that it keeps are whole frames, so no
-//! front of one is followed by another, and it dials its port alone, where it has none (`whole`, `port`); that is
-//! weaker than what `forward` of `hk_peer` says. What its dialers count shows in no status.
+//! What is proved. `serve_process` is Done only where its spawner took a job for each worker and each loop that
+//! sends, and then the stated number of connections came at least, or all that were left, and for each it took a
+//! job or counts one fault more (`done`, `HasTakenBeside`); the doors are closed then (`closed`). DoorFault and
+//! SpawnFault come only where that object's count rose. What becomes of parcels that a loop gives its route is what
+//! `forward` of `hk_peer` says of one: their frames were written whole, or nothing was for want of memory, or
+//! writing or dialling failed, and then that object's count rose. A connection on which writing failed is dropped,
+//! and any other is kept (`forwarded`). So one that is kept has whole frames, and no front of one is followed by
+//! another (`whole`); the route dials its port alone, where it has none (`port`).
+//!
+//! What no clause says: that a loop gives its route what was put for its node. What its dialers count shows in no
+//! status.
 #![tactic(auto)]
 
 mod accept;

@@ -96,6 +96,9 @@ const MOVED: &[Line] = &[
     },
 ];
 
+// Of a manager that began only now: it binds what its log tells, and was told no address yet.
+const BEGAN: &[Line] = &[member(3, A, b"")];
+
 const TELLS_B: &[Line] = &[Line {
     party: Party::Node(NodeId(3)),
     ticket: B,
@@ -218,6 +221,24 @@ fn a_majority_tells_the_holder(rt: HostRuntime) {
     assert_eq!(rt; boards.address_of(FOUNDING, NodeId(9)), None);
     assert_eq!(rt; boards.holder(8, NodeId(3)), None);
     assert_eq!(rt; numbers_of(&rt, alloc, &boards).as_slice(), [3].as_slice());
+}
+
+#[test]
+fn who_tells_no_address_is_passed_over(rt: HostRuntime) {
+    let alloc = rt.alloc();
+    let newest = board_at(1, 12, BEGAN);
+    let boards = boards_of(
+        &rt,
+        alloc,
+        &[board_at(0, 10, TELLS_A), newest, board_at(2, 11, MOVED)],
+    );
+    assert_eq!(rt;
+        boards.address_of(FOUNDING, NodeId(3)),
+        Some(b"moved".as_slice())
+    );
+    let untold = boards_of(&rt, alloc, &[newest, board_at(2, 11, BEGAN)]);
+    assert_eq!(rt; untold.holder(FOUNDING, NodeId(3)), Some(A));
+    assert_eq!(rt; untold.address_of(FOUNDING, NodeId(3)), None);
 }
 
 #[test]

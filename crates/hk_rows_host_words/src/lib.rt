@@ -5,3 +5,5 @@
 mod commands;
 #[cfg(test)]
 mod secrets;
+#[cfg(test)]
+mod verbosities;

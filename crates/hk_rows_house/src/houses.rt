@@ -3,7 +3,8 @@
 use crate::outside::{OWN, second};
 use crate::standings::{OWN_MANAGER, open};
 use hk_base::{Actor, NodeId};
-use hk_house::{House, Inbox};
+use hk_host_words::Verbosity;
+use hk_house::{House, Inbox, Telling};
 use hk_link::link;
 use std::alloc::Global;
 use std::process::Abort;
@@ -19,6 +20,10 @@ fn house<R: Wait + Abort + Copy + Drop>(rt: R, alloc: Global) -> House<R, u8> {
         alloc,
         clock: Arc::new(alloc, 0).expect(&rt, "memory"),
         identity: second(&rt, alloc, 1_000),
+        telling: Telling {
+            verbosity: Verbosity::Usual,
+            began: 0,
+        },
         standing: Mutex::new(open(&rt, alloc)),
         manager: Mutex::new(Some(outlet)),
         inbox,

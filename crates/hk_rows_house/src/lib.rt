@@ -1,5 +1,5 @@
 //! The tests of what the threads of a process share: what it is, whom it knows, what waits for its manager, and when
-//! a refusal is told.
+//! a refusal is told, who is gone, and what lines for the operator are.
 #![tactic(auto)]
 
 #[cfg(test)]
@@ -16,3 +16,5 @@ mod outside;
 mod seeking;
 #[cfg(test)]
 mod standings;
+#[cfg(test)]
+mod telling;

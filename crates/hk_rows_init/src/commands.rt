@@ -294,3 +294,19 @@ fn all_is_lost_where_a_majority_tells_it_and_nobody_denies_it(rt: HostRuntime) {
     group.managers[2].is_up = false;
     assert!(rt; !is_lost(&rt, alloc, &hosts, &mut group));
 }
+
+#[test]
+fn a_host_whose_disk_was_lost_neither_tells_nor_denies_that_all_is(rt: HostRuntime) {
+    let alloc = rt.alloc();
+    let hosts = hosts(&rt, alloc);
+    let mut group = FakeGroup::new(alloc);
+    group.managers[2].knows_none = true;
+    group.managers[0].tells_lost = true;
+    assert!(rt; !is_lost(&rt, alloc, &hosts, &mut group));
+    group.managers[1].tells_lost = true;
+    assert!(rt; is_lost(&rt, alloc, &hosts, &mut group));
+    group.managers[2].tells_lost = true;
+    assert!(rt; is_lost(&rt, alloc, &hosts, &mut group));
+    group.managers[1].is_up = false;
+    assert!(rt; !is_lost(&rt, alloc, &hosts, &mut group));
+}

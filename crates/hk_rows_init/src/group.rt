@@ -18,6 +18,8 @@ pub struct FakeManager {
     pub node_waits: bool,
     /// Whether it tells that all is lost.
     pub tells_lost: bool,
+    /// Whether its disk was lost: it tells that it knows of no group.
+    pub knows_none: bool,
 }
 
 /// Three managers that tell each other their boards while whoever asks rests.
@@ -44,6 +46,7 @@ fn make_manager(place: u8) -> FakeManager {
         lease: 1_000,
         node_waits: true,
         tells_lost: false,
+        knows_none: false,
     }
 }
 
@@ -98,9 +101,13 @@ fn status_of(alloc: Global, manager: &FakeManager) -> Result<Sequence<u8>, Memor
     let founding = founding_of(stage);
     let word = word_of(stage);
     let last = if manager.tells_lost { "lost\n" } else { "" };
-    let text = format!(in alloc;
-        "group g founding={founding:016x} stage={word} lease=1000 skew=10\n{last}"
-    )?;
+    let text = if manager.knows_none {
+        format!(in alloc; "group g founding=- stage={word} lease=1000 skew=10\n{last}")?
+    } else {
+        format!(in alloc;
+            "group g founding={founding:016x} stage={word} lease=1000 skew=10\n{last}"
+        )?
+    };
     let bytes = text.as_bytes().to_vec(alloc)?;
     Ok(Sequence::from_vec(bytes))
 }

@@ -2,7 +2,11 @@
 #![tactic(auto)]
 
 #[cfg(test)]
+mod answers;
+#[cfg(test)]
 mod begin;
+#[cfg(test)]
+mod looks;
 #[cfg(test)]
 mod relays;
 #[cfg(test)]

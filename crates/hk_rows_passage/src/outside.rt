@@ -8,9 +8,9 @@ use hk_hello::{
     Answer, Challenge, Hello, Party, Purpose, is_in_range, print_answer, print_challenge,
     print_hello, sign, welcome,
 };
-use hk_host_words::{GroupWords, NodeWords};
+use hk_host_words::{GroupWords, NodeWords, Verbosity};
 use hk_hosts::{Address, DialAt, Ender, Patient, read_address, read_hosts};
-use hk_house::{House, Identity, Inbox, Standing};
+use hk_house::{House, Identity, Inbox, Standing, Telling};
 use hk_link::Outlet;
 use hk_outside::{Clock, Connection, Failed, MemorySource, Sink, Source};
 use std::alloc::Global;
@@ -111,6 +111,10 @@ pub fn house<R: Wait + Abort + Copy + Drop>(
         alloc,
         clock,
         identity: identity(&rt, alloc),
+        telling: Telling {
+            verbosity: Verbosity::Quiet,
+            began: 0,
+        },
         standing: Mutex::new(standing(&rt, alloc)),
         manager: Mutex::new(manager),
         inbox: Inbox::new(alloc).expect(&rt, "memory"),
