@@ -37,11 +37,12 @@ fn share_event(alloc: Global, event: &NodeEvent) -> Result<NodeEvent, Memory>
 pub(crate) fn share_letters(alloc: Global, letters: &[Letter]) -> Result<Letters, Memory>
     ensures { IfOk result (λ same. same ≡ letters.now) }
 {
-    let mut same = Sequence::new(alloc);
+    let mut same = Vec::with_capacity(alloc, letters.len())?;
     for letter in letters {
-        same.push(letter.share(alloc)?)?;
+        let letter = letter.share(alloc)?;
+        same.push(letter)?;
     }
-    Ok(same)
+    Ok(Sequence::from_vec(same))
 }
 
 fn share_reply(reply: &Reply) -> Result<Reply, Memory>

@@ -6,17 +6,26 @@ ghost use Rattle.hk_peer.specs.Sending.{Sends, IsWritten};
 ghost use Rattle.hk_peer.specs.Parcels.{frames_of};
 
 use crate::send::{ForwardFault, SendFault};
-use hk_base::Memory;
+use hk_base::{Memory, frame_length};
 use hk_frame::print_letter;
 use hk_link::Parcel;
 use hk_outside::{Connection, Sink, write_all};
 use std::alloc::Global;
 
+// How many bytes the frames of these parcels take.
+fn frames_length(parcels: &[Parcel]) -> usize {
+    let mut all: usize = 0;
+    for parcel in parcels {
+        all = all.saturating_add(frame_length(&parcel.letter));
+    }
+    all
+}
+
 // The frames of these parcels, one behind the other.
 fn print_frames(alloc: Global, parcels: &[Parcel]) -> Result<Vec<u8>, Memory>
     ensures { IfOk result (λ frames. frames.items ≡ frames_of parcels.now) }
 {
-    let mut frames = Vec::new(alloc);
+    let mut frames = Vec::with_capacity(alloc, frames_length(parcels))?;
     for parcel in parcels {
         print_letter(parcel.shard, &parcel.letter, &mut frames)?;
     }

@@ -29,6 +29,7 @@ impl Node {
     }
 
     /// Asks another member for the rows behind the last one that was copied. A ready node does not.
+    #[inline(never)]
     pub(super) fn ask_copy(
         &mut self,
         alloc: Global,

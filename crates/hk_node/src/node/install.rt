@@ -65,6 +65,7 @@ impl Node {
 
     /// Installs a later view that has the node as a member. Every pending update drops its acknowledgements and is sent
     /// again. Any other view is passed over.
+    #[inline(never)]
     pub(super) fn install(&mut self, alloc: Global, view: &View) -> Result<NodeOut, Memory>
         requires { IsView view.now }
         ensures node { OnOk result (self.new ≡ (installs self.old view.now).node) }

@@ -46,6 +46,7 @@ impl Node {
 
     /// Takes a letter. One that is not addressed to the node, comes from nobody whom it takes letters of, is of an update or a copy
     /// and of another epoch, or is of no kind that a node takes from its sender, is dropped and changes nothing.
+    #[inline(never)]
     pub(super) fn receive(&mut self, alloc: Global, letter: &Letter) -> Result<NodeOut, Memory>
         requires { IsLetter letter.now }
         ensures node { OnOk result (self.new ≡ (receives self.old letter.now).node) }

@@ -122,6 +122,7 @@ impl Node {
 
     /// Takes a letter of a manager. One that is not addressed to the node, comes from a manager that is not there, or is neither a
     /// lease nor an ACTIVATE, is dropped and changes nothing.
+    #[inline(never)]
     pub(super) fn receive_from_manager(
         &mut self,
         alloc: Global,
@@ -154,6 +155,7 @@ impl Node {
     }
 
     /// Asks a manager for a lease. One that is not there is not asked.
+    #[inline(never)]
     pub(super) fn ask_lease(&mut self, alloc: Global, manager: u8) -> Result<NodeOut, Memory>
         ensures node { OnOk result (self.new ≡ (asks_lease self.old manager).node) }
         ensures out { IfOk result (λ out. IsOutOf out self.old (asks_lease self.old manager)) }
