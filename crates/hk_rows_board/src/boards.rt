@@ -34,16 +34,6 @@ struct Came {
     lines: &'static [Line],
 }
 
-const fn member(number: u16, ticket: Ticket, inside: &'static [u8]) -> Line {
-    Line {
-        party: Party::Node(NodeId(number)),
-        ticket,
-        mark: Mark::Member,
-        ready: false,
-        inside,
-    }
-}
-
 const MANAGER: Line = Line {
     party: Party::Manager(3),
     ticket: B,
@@ -97,7 +87,13 @@ const MOVED: &[Line] = &[
 ];
 
 // Of a manager that began only now: it binds what its log tells, and was told no address yet.
-const BEGAN: &[Line] = &[member(3, A, b"")];
+const BEGAN: &[Line] = &[Line {
+    party: Party::Node(NodeId(3)),
+    ticket: A,
+    mark: Mark::Member,
+    ready: false,
+    inside: b"",
+}];
 
 const TELLS_B: &[Line] = &[Line {
     party: Party::Node(NodeId(3)),
