@@ -5,9 +5,9 @@ ghost use Rattle.hk_outside.specs.Counts.{Accepts};
 ghost use Rattle.hk_outside.specs.declared.stream.Failed.{Failed as FailedOf};
 ghost use Rattle.hk_accept.specs.Serving.{HasServed};
 
+use crate::conn_job::ConnJobs;
 use crate::desks::Desks;
-use crate::reception::Reception;
-use crate::visit::Clients;
+use crate::make_job::MakeJob;
 use crossbeam_utils::sync::WaitGroup;
 use hk_outside::{Doors, Spawner, Status};
 use std::alloc::Global;
@@ -35,11 +35,11 @@ pub fn next_connection<R: Wait, D: Doors>(rt: &R, doors: &mut D) -> Option<D::Co
 /// Starts the job of each connection that comes through open doors, at most so many, and returns once so many were taken or no more come. A connection that gets no
 /// job, for want of memory or of a thread, is closed, and ends nothing.
 #[tactic(auto, using(crate::proofs::Received::received_none, crate::proofs::Received::received_more))]
-pub fn take_each<R: Wait, D: Doors, S: Spawner, V: Reception<D::Conn>>(
+pub fn take_each<R: Wait, D: Doors, S: Spawner, V: MakeJob<D::Conn>>(
     rt: &R,
     doors: &mut D,
     spawner: &mut S,
-    reception: &V,
+    maker: &V,
     conns: u32,
 )
     ensures { HasServed (D.left doors.old) (D.left doors.new) (S.taken spawner.old) (S.taken spawner.new) (S.faults spawner.old) (S.faults spawner.new) conns }
@@ -48,7 +48,7 @@ pub fn take_each<R: Wait, D: Doors, S: Spawner, V: Reception<D::Conn>>(
         let Some(conn) = next_connection(rt, doors) else {
             return;
         };
-        let _ = spawner.start_made(reception.visit(conn, number));
+        let _ = spawner.start_made(maker.make_job(conn, number));
     }
 }
 
@@ -74,11 +74,11 @@ pub fn serve_each<R: Wait, D: Doors, S: Spawner, K: Desks + Send + Sync + Drop +
         doors.close();
         return Status::Memory;
     };
-    let clients = Clients {
+    let jobs = ConnJobs {
         desks,
         group: &group,
     };
-    take_each(rt, doors, spawner, &clients, conns);
+    take_each(rt, doors, spawner, &jobs, conns);
     doors.close();
     group.wait(rt);
     Status::Done

@@ -4,7 +4,7 @@
 //! connection and serves the connection there to its end ([`Desks`]). When `serve_each` returns, all jobs that it
 //! started have ended, so no reply is lost on the way. How it ends, and what shows it, stands in its contract; that
 //! each job serves its connection, and that it waits for them, no clause says. [`take_each`] is the loop alone, over
-//! whatever makes the jobs ([`Reception`]), and [`next_connection`] what it waits by.
+//! whatever makes the jobs ([`MakeJob`]), and [`next_connection`] what it waits by.
 //!
 //! Nothing that a full machine does ends the loop. Where a connection can't be taken, it rests for a moment and tries
 //! again; where there is no memory or no thread for a connection's job, that connection is closed.
@@ -19,13 +19,13 @@
 #![tactic(auto)]
 
 mod accept;
+mod conn_job;
 mod desks;
+mod make_job;
 mod notices;
-mod reception;
 mod spawner;
-mod visit;
 
 pub use accept::{next_connection, serve_each, take_each};
 pub use desks::{Desks, serve_at};
-pub use reception::Reception;
+pub use make_job::MakeJob;
 pub use spawner::LooseSpawner;

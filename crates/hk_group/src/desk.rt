@@ -6,7 +6,7 @@ ghost use Rattle.hk_worker.specs.Opening.{FinishesAtPost};
 ghost use Rattle.hk_group.specs.Led.{AsksAgain, BeginsAgain};
 
 use crate::completion::Unheard;
-use crate::keeping::Keeper;
+use crate::keeping::Upkeep;
 use hk_base::{Key, Memory, Op};
 use hk_locked::Places;
 use hk_outside::{Begun, Desk, DeskReply};
@@ -18,7 +18,7 @@ use std::sync::{Arc, Wait};
 #[derive(Drop)]
 pub struct GroupDesk<C: DeskClock + Drop, R: Wait + Drop, P: Places> {
     pub(crate) clock: Arc<C>,
-    pub(crate) keeper: Keeper<R, C>,
+    pub(crate) upkeep: Upkeep<R, C>,
     pub(crate) post: Post<Unheard, P>,
 }
 
@@ -40,14 +40,14 @@ impl<C: DeskClock + Drop, R: Wait + Drop, P: Places> Desk for GroupDesk<C, R, P>
         ensures suits { Suits op.now result }
         ensures told { AsksAgain (C.was_read self.old.clock.value) (C.reading self.old.clock.value) key.now op.now self.old.post self.new.post result }
     {
-        self.keeper.ask(&mut self.post, &*self.clock, key, op)
+        self.upkeep.ask(&mut self.post, &*self.clock, key, op)
     }
 
     fn begin(&mut self, key: &Key, op: &Op) -> Result<Begun<OpenAsk>, Memory>
         ensures suits { BeginSuits (λ waits. waits.op) op.now result }
         ensures told { BeginsAgain (C.was_read self.old.clock.value) (C.reading self.old.clock.value) key.now op.now self.old.post self.new.post result }
     {
-        self.keeper.begin(&mut self.post, &*self.clock, key, op)
+        self.upkeep.begin(&mut self.post, &*self.clock, key, op)
     }
 
     fn finish(&mut self, waits: OpenAsk) -> Result<DeskReply, Memory>
@@ -55,6 +55,6 @@ impl<C: DeskClock + Drop, R: Wait + Drop, P: Places> Desk for GroupDesk<C, R, P>
         ensures settled { IsSettled result }
         ensures told { FinishesAtPost waits self.old.post self.new.post result }
     {
-        self.post.finish(&self.keeper.rt, waits)
+        self.post.finish(&self.upkeep.rt, waits)
     }
 }

@@ -5,7 +5,7 @@ ghost use Rattle.std.specs.Prelude.{◌≡◌, length, IfOk};
 use crate::completion::Unheard;
 use crate::copying::Copier;
 use crate::desk::GroupDesk;
-use crate::keeping::Keeper;
+use crate::keeping::Upkeep;
 use crate::leases::{LeaseTerms, Leases};
 use crate::load::Load;
 use crate::reader::Reader;
@@ -30,7 +30,7 @@ const READERS: u32 = u32::MAX;
 
 /// What all desks share.
 #[derive(Drop)]
-pub(crate) struct Station<R: Wait + Drop, C: Drop> {
+pub(crate) struct DeskContext<R: Wait + Drop, C: Drop> {
     pub(crate) rt: R,
     pub(crate) alloc: Global,
     pub(crate) clock: Arc<C>,
@@ -43,7 +43,7 @@ pub(crate) struct Station<R: Wait + Drop, C: Drop> {
 /// Makes a desk for each connection, at the nodes in turn.
 #[derive(Drop)]
 pub struct GroupDesks<R: Wait + Drop, C: Drop, P: Places> {
-    pub(crate) station: Station<R, C>,
+    pub(crate) context: DeskContext<R, C>,
     /// The shards of the nodes, those of node 0 first.
     pub(crate) nodes: Vec<Arc<Shards<Unheard, P>>>,
     /// To each node and manager. They are split for each desk.
@@ -68,13 +68,13 @@ fn lease_cells<R: Wait, P: Places>(
 
 // The leases of these shards.
 fn new_leases<R: Wait + Drop, C: Clock + Drop, P: Places>(
-    station: &Station<R, C>,
+    context: &DeskContext<R, C>,
     shards: &Shards<Unheard, P>,
 ) -> Result<Leases<C>, Memory> {
     Ok(Leases {
-        clock: Arc::try_clone(&station.clock)?,
-        terms: station.terms,
-        cells: lease_cells(&station.rt, station.alloc, shards)?,
+        clock: Arc::try_clone(&context.clock)?,
+        terms: context.terms,
+        cells: lease_cells(&context.rt, context.alloc, shards)?,
         bell: Arc::try_clone(shards.bell())?,
         out_until: 0,
     })
@@ -94,18 +94,18 @@ fn bells_of<P: Places>(
 
 // The post of this connection.
 fn new_post<R: Wait + Drop, C: Drop, P: Places>(
-    station: &Station<R, C>,
+    context: &DeskContext<R, C>,
     shards: &Arc<Shards<Unheard, P>>,
     number: u32,
     outlets: Outlets,
 ) -> Result<Post<Unheard, P>, Memory> {
     Post::new(
-        &station.rt,
-        station.alloc,
+        &context.rt,
+        context.alloc,
         shards.node().0,
-        station.workers.saturating_add(number),
+        context.workers.saturating_add(number),
         Arc::try_clone(shards)?,
-        Inlets::new(station.alloc),
+        Inlets::new(context.alloc),
         outlets,
         Unheard,
     )
@@ -117,7 +117,7 @@ impl<R: Wait + Copy + Drop, C: DeskClock + Drop, P: Places> GroupDesks<R, C, P> 
         ensures { IfOk result (λ leases. length leases.items ≡ 8) }
     {
         match self.nodes.first() {
-            Some(shards) => lease_cells(&self.station.rt, self.station.alloc, shards),
+            Some(shards) => lease_cells(&self.context.rt, self.context.alloc, shards),
             None => Err(Memory),
         }
     }
@@ -134,10 +134,10 @@ impl<R: Wait + Copy + Drop, C: DeskClock + Drop, P: Places> GroupDesks<R, C, P> 
         if shard >= SHARDS {
             return Err(Memory);
         }
-        let station = &self.station;
+        let context = &self.context;
         let shards = Arc::try_clone(self.first()?)?;
-        let (routes, outlets) = Follower::begin(&station.rt, station.alloc, &self.routes)?;
-        Ok(Copier::new(station.alloc, shard, shards, routes, outlets))
+        let (routes, outlets) = Follower::begin(&context.rt, context.alloc, &self.routes)?;
+        Ok(Copier::new(context.alloc, shard, shards, routes, outlets))
     }
 
     /// What looks how the first node stands.
@@ -148,13 +148,13 @@ impl<R: Wait + Copy + Drop, C: DeskClock + Drop, P: Places> GroupDesks<R, C, P> 
 
     /// What makes the steps of parcels for the first node, and the outlet that leads to it.
     pub fn reader(&self) -> Result<(Outlet, Reader<R, P>), Memory> {
-        let station = &self.station;
-        let (routes, outlets) = Follower::begin(&station.rt, station.alloc, &self.routes)?;
+        let context = &self.context;
+        let (routes, outlets) = Follower::begin(&context.rt, context.alloc, &self.routes)?;
         Reader::new(
-            station.rt,
-            station.alloc,
+            context.rt,
+            context.alloc,
             self.first()?,
-            &station.load,
+            &context.load,
             READERS,
             routes,
             outlets,
@@ -162,20 +162,20 @@ impl<R: Wait + Copy + Drop, C: DeskClock + Drop, P: Places> GroupDesks<R, C, P> 
     }
 
     // What keeps a post at these shards.
-    fn keeper(
+    fn upkeep(
         &self,
         shards: &Shards<Unheard, P>,
         routes: Follower,
-    ) -> Result<Keeper<R, C>, Memory> {
-        let station = &self.station;
-        Ok(Keeper {
-            rt: station.rt,
-            alloc: station.alloc,
+    ) -> Result<Upkeep<R, C>, Memory> {
+        let context = &self.context;
+        Ok(Upkeep {
+            rt: context.rt,
+            alloc: context.alloc,
             routes,
-            reserve: Reserve::new(station.alloc),
-            leases: new_leases(station, shards)?,
-            bells: bells_of(station.alloc, self.nodes.as_slice())?,
-            load: Arc::try_clone(&station.load)?,
+            reserve: Reserve::new(context.alloc),
+            leases: new_leases(context, shards)?,
+            bells: bells_of(context.alloc, self.nodes.as_slice())?,
+            load: Arc::try_clone(&context.load)?,
             updates: 0,
             bytes: 0,
         })
@@ -187,17 +187,17 @@ impl<R: Wait + Copy + Drop, C: DeskClock + Drop, P: Places> GroupDesks<R, C, P> 
         if count == 0 {
             return Err(Memory);
         }
-        let station = &self.station;
+        let context = &self.context;
         let shards = &self.nodes[number as usize % count];
-        let (routes, outlets) = Follower::begin(&station.rt, station.alloc, &self.routes)?;
-        let clock = Arc::try_clone(&station.clock)?;
-        let keeper = self.keeper(shards, routes)?;
+        let (routes, outlets) = Follower::begin(&context.rt, context.alloc, &self.routes)?;
+        let clock = Arc::try_clone(&context.clock)?;
+        let upkeep = self.upkeep(shards, routes)?;
         // The post comes last. Were it let go here, that would take room for a node's shards on the stack, and what the
         // stack of a connection's thread once took it keeps.
-        let post = new_post(station, shards, number, outlets)?;
+        let post = new_post(context, shards, number, outlets)?;
         Ok(GroupDesk {
             clock,
-            keeper,
+            upkeep,
             post,
         })
     }
@@ -209,6 +209,6 @@ impl<
     P: Places + Send + Sync + 'static,
 > Desks for GroupDesks<R, C, P> {
     fn serve<N: Connection>(&self, conn: &mut N, number: u32) {
-        serve_at(self.station.alloc, conn, self.desk(number));
+        serve_at(self.context.alloc, conn, self.desk(number));
     }
 }

@@ -29,7 +29,7 @@ const MOST_ASKS: u32 = 32;
 
 // What keeps a post able to serve: its letters go by the outlets as they are now, leases are asked for and waited for, and journals begin anew.
 #[derive(Drop)]
-pub(crate) struct Keeper<R: Wait + Drop, C: Drop> {
+pub(crate) struct Upkeep<R: Wait + Drop, C: Drop> {
     pub(crate) rt: R,
     pub(crate) alloc: Global,
     /// The outlets of its post, as they change.
@@ -45,7 +45,7 @@ pub(crate) struct Keeper<R: Wait + Drop, C: Drop> {
     pub(crate) bytes: u64,
 }
 
-impl<R: Wait + Drop, C: Clock + Drop> Keeper<R, C> {
+impl<R: Wait + Drop, C: Clock + Drop> Upkeep<R, C> {
     // Has the workers of all nodes look at the journals where much data was brought.
     fn count_data(&mut self, bytes: u64) {
         self.bytes = self.bytes.saturating_add(bytes);

@@ -8,7 +8,7 @@ use crate::desks::GroupDesks;
 use crate::gate::Ending;
 use crate::group::Group;
 use crate::lines::Lines;
-use crate::program::{EACH_READING, Seat, Shared, seat_node};
+use crate::program::{EACH_READING, NodeEnds, Shared, new_node_ends};
 use crate::working::WorkJob;
 use crossbeam_utils::sync::WaitGroup;
 use hk_base::{Actor, Memory, NodeId};
@@ -136,17 +136,17 @@ fn new_staff<
     P: Places,
 >(
     shared: &Shared<R, C>,
-    seat: Seat<P>,
+    ends: NodeEnds<P>,
     group: &Group,
     pause: u64,
     routes: &Arc<Routes>,
 ) -> Result<(Vec<WorkJob<R, C, P>>, GroupDesks<R, C, P>), Memory>
     ensures { IfOk result (λ staff. length staff.0.items ≡ group.now.workers) }
 {
-    let mut seats = Vec::new(shared.alloc);
-    seats.push(seat)?;
-    let workers = shared.workers(&mut seats, group.workers, pause, routes)?;
-    let desks = shared.desks(seats, group, routes)?;
+    let mut all_ends = Vec::new(shared.alloc);
+    all_ends.push(ends)?;
+    let workers = shared.workers(&mut all_ends, group.workers, pause, routes)?;
+    let desks = shared.desks(all_ends, group, routes)?;
     Ok((workers, desks))
 }
 
@@ -180,10 +180,10 @@ impl<
     {
         let mut lines = Lines::new(alloc);
         let founded = founded.with_waits(waits_of(group));
-        let seat = seat_node::<P>(alloc, founded, &mut lines)?;
+        let ends = new_node_ends::<P>(alloc, founded, &mut lines)?;
         let shared = Shared::new(rt, alloc, clock)?;
         let ways = new_ways(alloc, number, group, &mut lines)?;
-        Member::with_ways(shared, seat, ways, lines, EACH_READING, group)
+        Member::with_ways(shared, ends, ways, lines, EACH_READING, group)
     }
 
     /// The same, but of the other nodes it does not know yet: ways to them are put into its routes as they come. Its workers raise its clock no sooner than `pause`
@@ -202,16 +202,16 @@ impl<
     {
         let mut lines = Lines::new(alloc);
         let founded = founded.with_waits(waits_of(group));
-        let seat = seat_node::<P>(alloc, founded, &mut lines)?;
+        let ends = new_node_ends::<P>(alloc, founded, &mut lines)?;
         let shared = Shared::new(rt, alloc, clock)?;
         let ways = ways_to_managers(alloc, group, &mut lines)?;
-        Member::with_ways(shared, seat, ways, lines, pause, group)
+        Member::with_ways(shared, ends, ways, lines, pause, group)
     }
 
-    // The node at this seat, with these ways.
+    // The node with these ends, and these ways to others.
     fn with_ways(
         shared: Shared<R, C>,
-        seat: Seat<P>,
+        ends: NodeEnds<P>,
         ways: Vec<Way>,
         mut lines: Lines,
         pause: u64,
@@ -222,7 +222,7 @@ impl<
     {
         let outlet = lines.split_first()?;
         let routes = lines.routes(shared.alloc)?;
-        let (workers, desks) = new_staff(&shared, seat, group, pause, &routes)?;
+        let (workers, desks) = new_staff(&shared, ends, group, pause, &routes)?;
         let Shared { ending, jobs, .. } = shared;
         Ok(Member {
             workers,

@@ -7,7 +7,7 @@ ghost use Rattle.hk_group.specs.Founding.{IsGroup, first_view};
 ghost use Rattle.std.specs.Prelude.{◌≡◌, ◌<◌, ◌+◌, ◌*◌, length, IfOk, OnOk};
 
 use crate::completion::Unheard;
-use crate::desks::{GroupDesks, Station};
+use crate::desks::{DeskContext, GroupDesks};
 use crate::gate::{Ending, Open, Rings};
 use crate::group::Group;
 use crate::leases::LeaseTerms;
@@ -52,17 +52,17 @@ pub(crate) struct Program<R: Wait + Drop, C: Drop, P: Places> {
     pub(crate) desks: Arc<GroupDesks<R, C, P>>,
 }
 
-/// A node with what comes for it.
+/// A node with the end of the link to it, and the rings that tell of what is put there.
 #[derive(Drop)]
-pub(crate) struct Seat<P: Places> {
+pub(crate) struct NodeEnds<P: Places> {
     pub(crate) shards: Arc<Shards<Unheard, P>>,
     inlet: Inlet,
     rings: Arc<Rings>,
 }
 
-// What comes for a manager number, and the rings that tell of it.
+// The end of the link to the managers of a number, and the rings that tell of what is put there.
 #[derive(Drop)]
-struct ManagerSeat {
+struct ManagerEnds {
     inlet: Inlet,
     rings: Arc<Rings>,
 }
@@ -74,17 +74,17 @@ fn rings_of(alloc: Global, bell: &Arc<Bell>) -> Result<Arc<Rings>, Memory> {
 }
 
 /// Names the cells of a node, and makes the link to it.
-pub(crate) fn seat_node<P: Places>(
+pub(crate) fn new_node_ends<P: Places>(
     alloc: Global,
     founded: Founded,
     lines: &mut Lines,
-) -> Result<Seat<P>, Memory>
+) -> Result<NodeEnds<P>, Memory>
     requires { node_names P.places founded.node ≡ names_of founded }
 {
     let shards = Arc::new(alloc, founded.named())?;
     let rings = rings_of(alloc, shards.bell())?;
     let inlet = lines.add(alloc, Actor::Node(shards.node()), shards.bell())?;
-    Ok(Seat {
+    Ok(NodeEnds {
         shards,
         inlet,
         rings,
@@ -92,40 +92,40 @@ pub(crate) fn seat_node<P: Places>(
 }
 
 // The same of all nodes.
-fn seat_nodes<P: Places>(
+fn ends_of_nodes<P: Places>(
     alloc: Global,
     founded: Vec<Founded>,
     lines: &mut Lines,
-) -> Result<Vec<Seat<P>>, Memory>
+) -> Result<Vec<NodeEnds<P>>, Memory>
     requires { AreNamed P.places founded.items }
-    ensures { IfOk result (λ seats. length seats.items ≡ length founded.items) }
+    ensures { IfOk result (λ all_ends. length all_ends.items ≡ length founded.items) }
 {
-    let mut seats = Vec::new(alloc);
+    let mut all_ends = Vec::new(alloc);
     for one in founded {
-        seats.push(seat_node(alloc, one, lines)?)?;
+        all_ends.push(new_node_ends(alloc, one, lines)?)?;
     }
-    Ok(seats)
+    Ok(all_ends)
 }
 
 // Makes the link to the managers of this number.
-fn seat_manager(alloc: Global, number: u8, lines: &mut Lines) -> Result<ManagerSeat, Memory> {
+fn new_manager_ends(alloc: Global, number: u8, lines: &mut Lines) -> Result<ManagerEnds, Memory> {
     let bell = Arc::new(alloc, Bell::new())?;
     let rings = rings_of(alloc, &bell)?;
     let inlet = lines.add(alloc, Actor::Manager(number), &bell)?;
-    Ok(ManagerSeat { inlet, rings })
+    Ok(ManagerEnds { inlet, rings })
 }
 
 // Makes the links to the managers, manager 0 first.
-fn seat_managers(
+fn ends_of_managers(
     alloc: Global,
     managers: u8,
     lines: &mut Lines,
-) -> Result<VecDeque<ManagerSeat>, Memory> {
-    let mut seats = VecDeque::new(alloc);
+) -> Result<VecDeque<ManagerEnds>, Memory> {
+    let mut all_ends = VecDeque::new(alloc);
     for number in 0..managers {
-        seats.push_back(seat_manager(alloc, number, lines)?)?;
+        all_ends.push_back(new_manager_ends(alloc, number, lines)?)?;
     }
-    Ok(seats)
+    Ok(all_ends)
 }
 
 impl<R: Wait + Copy + Send + Sync + Drop + 'static, C: Clock + Send + Sync + Drop + 'static> Shared<
@@ -152,20 +152,20 @@ impl<R: Wait + Copy + Send + Sync + Drop + 'static, C: Clock + Send + Sync + Dro
     // The worker of this number at a node.
     fn worker<P: Places>(
         &self,
-        seat: &mut Seat<P>,
+        ends: &mut NodeEnds<P>,
         number: u8,
         pause: u64,
         routes: &Arc<Routes>,
     ) -> Result<WorkJob<R, C, P>, Memory> {
         let mut inlets = Sequence::new(self.alloc);
-        inlets.push(seat.inlet.split()?)?;
+        inlets.push(ends.inlet.split()?)?;
         let (routes, outlets) = Follower::begin(&self.rt, self.alloc, routes)?;
         let post = Post::new(
             &self.rt,
             self.alloc,
-            seat.shards.node().0,
+            ends.shards.node().0,
             u32::from(number),
-            Arc::try_clone(&seat.shards)?,
+            Arc::try_clone(&ends.shards)?,
             inlets,
             outlets,
             Unheard,
@@ -178,7 +178,7 @@ impl<R: Wait + Copy + Send + Sync + Drop + 'static, C: Clock + Send + Sync + Dro
             pause,
             clock: Arc::try_clone(&self.clock)?,
             load: Arc::try_clone(&self.load)?,
-            gate: self.gate(&seat.rings)?,
+            gate: self.gate(&ends.rings)?,
             jobs: self.jobs.clone()?,
         })
     }
@@ -187,7 +187,7 @@ impl<R: Wait + Copy + Send + Sync + Drop + 'static, C: Clock + Send + Sync + Dro
     fn add_workers<P: Places>(
         &self,
         jobs: &mut Vec<WorkJob<R, C, P>>,
-        seat: &mut Seat<P>,
+        ends: &mut NodeEnds<P>,
         count: u8,
         pause: u64,
         routes: &Arc<Routes>,
@@ -195,7 +195,7 @@ impl<R: Wait + Copy + Send + Sync + Drop + 'static, C: Clock + Send + Sync + Dro
         ensures { OnOk result (length jobs.new.items ≡ length jobs.old.items + count) }
     {
         for number in 0..count {
-            jobs.push(self.worker(seat, number, pause, routes)?)?;
+            jobs.push(self.worker(ends, number, pause, routes)?)?;
         }
         Ok(())
     }
@@ -203,16 +203,16 @@ impl<R: Wait + Copy + Send + Sync + Drop + 'static, C: Clock + Send + Sync + Dro
     /// So many workers of each node, which raise its clock no sooner than so many milliseconds behind the last time.
     pub(crate) fn workers<P: Places>(
         &self,
-        seats: &mut Vec<Seat<P>>,
+        all_ends: &mut Vec<NodeEnds<P>>,
         count: u8,
         pause: u64,
         routes: &Arc<Routes>,
     ) -> Result<Vec<WorkJob<R, C, P>>, Memory>
-        ensures { IfOk result (λ jobs. length jobs.items ≡ length seats.old.items * count) }
+        ensures { IfOk result (λ jobs. length jobs.items ≡ length all_ends.old.items * count) }
     {
         let mut jobs = Vec::new(self.alloc);
-        for place in 0..seats.len() {
-            self.add_workers(&mut jobs, &mut seats[place], count, pause, routes)?;
+        for place in 0..all_ends.len() {
+            self.add_workers(&mut jobs, &mut all_ends[place], count, pause, routes)?;
         }
         Ok(jobs)
     }
@@ -220,7 +220,7 @@ impl<R: Wait + Copy + Send + Sync + Drop + 'static, C: Clock + Send + Sync + Dro
     // The loop over the managers of this number.
     fn manager(
         &self,
-        seat: ManagerSeat,
+        ends: ManagerEnds,
         number: u8,
         view: &View,
         group: &Group,
@@ -230,7 +230,7 @@ impl<R: Wait + Copy + Send + Sync + Drop + 'static, C: Clock + Send + Sync + Dro
         requires view { IsView view.now }
         requires number { number < group.now.managers }
     {
-        let ManagerSeat { inlet, rings } = seat;
+        let ManagerEnds { inlet, rings } = ends;
         let outlets = lines.split(self.alloc)?;
         let post = ManagerPost::new(
             self.alloc,
@@ -251,10 +251,10 @@ impl<R: Wait + Copy + Send + Sync + Drop + 'static, C: Clock + Send + Sync + Dro
         })
     }
 
-    // The loop of each manager number. There is a seat for each.
+    // The loop of each manager number. The ends of each are there.
     fn managers(
         &self,
-        mut seats: VecDeque<ManagerSeat>,
+        mut all_ends: VecDeque<ManagerEnds>,
         view: &View,
         group: &Group,
         lines: &mut Lines,
@@ -265,10 +265,10 @@ impl<R: Wait + Copy + Send + Sync + Drop + 'static, C: Clock + Send + Sync + Dro
     {
         let mut jobs = Vec::new(self.alloc);
         for number in 0..group.managers {
-            let Some(seat) = seats.pop_front() else {
+            let Some(ends) = all_ends.pop_front() else {
                 return Err(Memory);
             };
-            jobs.push(self.manager(seat, number, view, group, lines)?)?;
+            jobs.push(self.manager(ends, number, view, group, lines)?)?;
         }
         Ok(jobs)
     }
@@ -276,16 +276,16 @@ impl<R: Wait + Copy + Send + Sync + Drop + 'static, C: Clock + Send + Sync + Dro
     /// What makes the desks of connections.
     pub(crate) fn desks<P: Places>(
         &self,
-        seats: Vec<Seat<P>>,
+        all_ends: Vec<NodeEnds<P>>,
         group: &Group,
         routes: &Arc<Routes>,
     ) -> Result<GroupDesks<R, C, P>, Memory> {
         let mut nodes = Vec::new(self.alloc);
-        for seat in seats {
-            nodes.push(seat.shards)?;
+        for ends in all_ends {
+            nodes.push(ends.shards)?;
         }
         Ok(GroupDesks {
-            station: Station {
+            context: DeskContext {
                 rt: self.rt,
                 alloc: self.alloc,
                 clock: Arc::try_clone(&self.clock)?,
@@ -322,12 +322,12 @@ pub(crate) fn prepare<
 {
     let alloc = shared.alloc;
     let mut lines = Lines::new(alloc);
-    let mut seats = seat_nodes::<P>(alloc, founded, &mut lines)?;
-    let manager_seats = seat_managers(alloc, group.managers, &mut lines)?;
+    let mut all_ends = ends_of_nodes::<P>(alloc, founded, &mut lines)?;
+    let manager_ends = ends_of_managers(alloc, group.managers, &mut lines)?;
     let routes = lines.routes(alloc)?;
-    let workers = shared.workers(&mut seats, group.workers, EACH_READING, &routes)?;
-    let managers = shared.managers(manager_seats, view, group, &mut lines)?;
-    let desks = shared.desks(seats, group, &routes)?;
+    let workers = shared.workers(&mut all_ends, group.workers, EACH_READING, &routes)?;
+    let managers = shared.managers(manager_ends, view, group, &mut lines)?;
+    let desks = shared.desks(all_ends, group, &routes)?;
     let desks = Arc::new(alloc, desks)?;
     Ok(Program {
         shared,

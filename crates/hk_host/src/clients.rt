@@ -3,7 +3,7 @@
 ghost use Rattle.std.specs.Prelude.{◌≡◌, None, false};
 ghost use Rattle.hk_outside.specs.Causes.{Rose};
 
-use hk_accept::{Desks, Reception};
+use hk_accept::{Desks, MakeJob};
 use hk_base::Memory;
 use hk_hosts::{Address, DoorsAt};
 use hk_house::{House, rest};
@@ -85,28 +85,27 @@ pub(crate) fn open_in_time<R: Wait + Drop, C: Drop, D: DoorsAt>(
     unreachable!()
 }
 
-/// A connection of a client, and what makes its desk.
+/// The job of a client's connection.
 #[derive(Drop)]
-pub(crate) struct Visit<N: Drop, K: Drop> {
+pub(crate) struct ClientJob<N: Drop, K: Drop> {
     conn: N,
     desks: Arc<K>,
     number: u32,
 }
 
-/// Takes clients in: each is served at a desk of its own.
+/// Makes the jobs of clients: each is served at a desk of its own.
 #[derive(Drop)]
-pub(crate) struct Visits<'a, K> {
+pub(crate) struct ClientJobs<'a, K> {
     pub(crate) desks: &'a Arc<K>,
 }
 
-impl<'a, N: Connection + Send + Drop + 'static, K: Desks + Send + Sync + Drop + 'static> Reception<
-    N,
-> for Visits<'a, K> {
-    type Visit = Visit<N, K>;
+impl<'a, N: Connection + Send + Drop + 'static, K: Desks + Send + Sync + Drop + 'static> MakeJob<N>
+    for ClientJobs<'a, K> {
+    type ConnJob = ClientJob<N, K>;
 
-    fn visit(&self, conn: N, number: u32) -> Result<Visit<N, K>, Memory> {
+    fn make_job(&self, conn: N, number: u32) -> Result<ClientJob<N, K>, Memory> {
         let desks = self.desks.clone()?;
-        Ok(Visit {
+        Ok(ClientJob {
             conn,
             desks,
             number,
@@ -115,10 +114,10 @@ impl<'a, N: Connection + Send + Drop + 'static, K: Desks + Send + Sync + Drop + 
 }
 
 impl<N: Connection + Send + Drop + 'static, K: Desks + Send + Sync + Drop + 'static> Job
-    for Visit<N, K> {
+    for ClientJob<N, K> {
     // Serves the connection to its end. One for whose desk there is no memory is closed.
     fn run(self) {
-        let Visit {
+        let ClientJob {
             mut conn,
             desks,
             number,

@@ -9,7 +9,7 @@ ghost use Rattle.hk_worker.specs.Founding.{names_of, names_of_cells, AreForAny};
 ghost use Rattle.hk_group.specs.Founding.{IsGroup, first_view};
 ghost use Rattle.hk_host.specs.Starting.{Starts};
 
-use crate::clients::{ClientDoors, Visits, can_open, open_in_time};
+use crate::clients::{ClientDoors, ClientJobs, can_open, open_in_time};
 use crate::fault::{ServeFault, StartFault};
 use crate::lanes::NodeDoor;
 use crate::manager::{HostManager, Inside, start_host};
@@ -181,7 +181,7 @@ fn serve_open<
         address: listen,
         house,
     };
-    take_each(&house.rt, &mut at, spawner, &Visits { desks }, u32::MAX);
+    take_each(&house.rt, &mut at, spawner, &ClientJobs { desks }, u32::MAX);
     doors.close();
 }
 

@@ -3,10 +3,10 @@
 ghost use Rattle.std.specs.Prelude.{◌≡◌, ◌⊎◌, true};
 ghost use Rattle.hk_process.specs.Serving.{HasTaken};
 
-use crate::guests::Knock;
-use crate::visit::{House, Visitors};
+use crate::conn_job::{PeerConnJobs, PeerServer};
+use crate::conn_limit::Knock;
 use crossbeam_utils::sync::WaitGroup;
-use hk_accept::{Desks, Reception, next_connection, take_each};
+use hk_accept::{Desks, MakeJob, next_connection, take_each};
 use hk_outside::{Doors, Spawner, Status};
 use std::alloc::Global;
 use std::sync::{Arc, Wait};
@@ -19,18 +19,18 @@ fn take_on<
     S: Spawner,
     K: Desks + Send + Sync + Drop + 'static,
     G: Knock + Send + Drop + 'static,
->(rt: &R, doors: &mut D, spawner: &mut S, visitors: &Visitors<'_, R, K, G>, others: u32) -> bool
+>(rt: &R, doors: &mut D, spawner: &mut S, jobs: &PeerConnJobs<'_, R, K, G>, others: u32) -> bool
     ensures { HasTaken (D.left doors.old) (D.left doors.new) (S.taken spawner.old) (S.taken spawner.new) (S.faults spawner.old) (S.faults spawner.new) 0 }
 {
     let mut number = others;
     for _ in rt.forever() {
-        if visitors.is_over() {
+        if jobs.is_over() {
             return false;
         }
         let Some(conn) = next_connection(rt, doors) else {
             return true;
         };
-        let _ = spawner.start_made(visitors.visit(conn, number));
+        let _ = spawner.start_made(jobs.make_job(conn, number));
         number = number.saturating_add(1);
     }
     unreachable!()
@@ -38,7 +38,7 @@ fn take_on<
 
 /// Serves the connections that come through open doors, each by a job of its own, and returns once those of clients have ended. As long as a client is served or may
 /// come, peers may come again.
-pub(crate) fn take_visits<
+pub(crate) fn take_conns<
     R: Wait + Send + Sync + Drop + 'static,
     D: Doors,
     S: Spawner,
@@ -49,7 +49,7 @@ pub(crate) fn take_visits<
     alloc: Global,
     doors: &mut D,
     spawner: &mut S,
-    house: &Arc<House<R, K, G>>,
+    server: &Arc<PeerServer<R, K, G>>,
     conns: u32,
 ) -> Status
     ensures ends { (result ≡ Status.Done) ⊎ (result ≡ Status.Memory) }
@@ -60,13 +60,13 @@ pub(crate) fn take_visits<
         doors.close();
         return Status::Memory;
     };
-    let visitors = Visitors {
-        house,
+    let jobs = PeerConnJobs {
+        server,
         clients: &clients,
     };
-    take_each(rt, doors, spawner, &visitors, conns);
-    let no_more = take_on(rt, doors, spawner, &visitors, conns);
-    house.guests.close();
+    take_each(rt, doors, spawner, &jobs, conns);
+    let no_more = take_on(rt, doors, spawner, &jobs, conns);
+    server.limit.close();
     doors.close();
     // Where it is over no client is served any more.
     if no_more {

@@ -33,12 +33,12 @@
 #![tactic(auto)]
 
 mod accept;
-mod guests;
+mod conn_job;
+mod conn_limit;
 mod process;
 mod route;
 mod sending;
 mod server;
-mod visit;
 
 pub use process::Process;
 pub use sending::{SendJob, Sending};

@@ -8,12 +8,12 @@ ghost use Rattle.hk_worker.specs.Founding.{names_of};
 ghost use Rattle.hk_process.specs.Process.{IsProcess, process_jobs};
 ghost use Rattle.hk_process.specs.Serving.{HasTakenBeside};
 
-use crate::accept::take_visits;
-use crate::guests::{Guests, Knock, Knocker};
+use crate::accept::take_conns;
+use crate::conn_job::PeerServer;
+use crate::conn_limit::{ConnLimit, Knock, Knocker};
 use crate::process::Process;
 use crate::route::Route;
 use crate::sending::{SendJob, Sending};
-use crate::visit::House;
 use hk_accept::Desks;
 use hk_base::{Actor, Memory, NodeId};
 use hk_group::{Member, Way, first_view, found_node, start_each};
@@ -75,7 +75,7 @@ fn serve_conns<
     alloc: Global,
     workers: Vec<W>,
     senders: Vec<T>,
-    house: &Arc<House<R, K, G>>,
+    server: &Arc<PeerServer<R, K, G>>,
     conns: u32,
     doors: &mut D,
     spawner: &mut S,
@@ -92,10 +92,10 @@ fn serve_conns<
     if start_each(senders, spawner).is_err() {
         return Status::SpawnFault;
     }
-    take_visits(rt, alloc, doors, spawner, house, conns)
+    take_conns(rt, alloc, doors, spawner, server, conns)
 }
 
-// Serves the connections, if there was memory for the loops that send and for what the visits share.
+// Serves the connections, if there was memory for the loops that send and for what the jobs of connections share.
 #[tactic(auto, using(crate::proofs::Groups::all_started))]
 fn serve_where<
     R: Wait + Send + Sync + Drop + 'static,
@@ -111,7 +111,7 @@ fn serve_where<
     process: &Process,
     workers: Vec<W>,
     senders: Result<Vec<T>, Memory>,
-    house: Result<Arc<House<R, K, G>>, Memory>,
+    server: Result<Arc<PeerServer<R, K, G>>, Memory>,
     doors: &mut D,
     spawner: &mut S,
 ) -> Status
@@ -126,7 +126,7 @@ fn serve_where<
     let Ok(senders) = senders else {
         return Status::Memory;
     };
-    let Ok(house) = house else {
+    let Ok(server) = server else {
         return Status::Memory;
     };
     serve_conns(
@@ -134,40 +134,40 @@ fn serve_where<
         alloc,
         workers,
         senders,
-        &house,
+        &server,
         process.conns,
         doors,
         spawner,
     )
 }
 
-// What all visits of the node share.
-fn new_house<R: Wait + Drop, K: Drop, G: Drop>(
+// What all jobs of connections share.
+fn new_server<R: Wait + Drop, K: Drop, G: Drop>(
     rt: R,
     alloc: Global,
     node: NodeId,
     outlet: Outlet,
     desks: K,
-    guests: Guests<G>,
-) -> Result<Arc<House<R, K, G>>, Memory> {
-    let house = House {
+    limit: ConnLimit<G>,
+) -> Result<Arc<PeerServer<R, K, G>>, Memory> {
+    let server = PeerServer {
         rt,
         alloc,
         node,
         outlet: Mutex::new(outlet),
         desks,
-        guests,
+        limit,
     };
-    Ok(Arc::new(alloc, house)?)
+    Ok(Arc::new(alloc, server)?)
 }
 
 // Who comes to the process. Whoever ends last knocks at its own port.
-fn new_guests<D: Doors>(doors: &D, process: &Process) -> Guests<Knocker<D::Dialer>> {
+fn new_limit<D: Doors>(doors: &D, process: &Process) -> ConnLimit<Knocker<D::Dialer>> {
     let knocker = Knocker {
         dialer: doors.dialer(),
         port: process.port.saturating_add(u16::from(process.id)),
     };
-    Guests::new(process.conns, process.nodes, knocker)
+    ConnLimit::new(process.conns, process.nodes, knocker)
 }
 
 // The bell of the node's workers.
@@ -213,10 +213,12 @@ fn serve_node<
     ensures spawn_fault { result ≡ Status.SpawnFault → Rose (S.faults spawner.old) (S.faults spawner.new) }
 {
     let node = NodeId(u16::from(process.id));
-    let guests = new_guests(doors, process);
+    let limit = new_limit(doors, process);
     let senders = send_jobs(rt, alloc, doors, process, ways, sending);
-    let house = new_house(rt, alloc, node, outlet, desks, guests);
-    serve_where(&rt, alloc, process, workers, senders, house, doors, spawner)
+    let server = new_server(rt, alloc, node, outlet, desks, limit);
+    serve_where(
+        &rt, alloc, process, workers, senders, server, doors, spawner,
+    )
 }
 
 // Serves the connections, and ends all other loops then: first the workers, so that what they put is sent still.

@@ -1,6 +1,6 @@
 use Rattle.hk_outside.specs.Desk.{Suits}
 use Rattle.hk_group.specs.Led.{AsksAgain}
-use Rattle.hk_group.proofs.keeping.Keeper.ask.Given as goal
+use Rattle.hk_group.proofs.keeping.Upkeep.ask.Given as goal
 
 -- what was told last
 abbrev pub invariant-loop-again : goal.invariant-loop-again

@@ -1,11 +1,11 @@
-//! The job of one connection.
+//! The job of one connection, as its first byte tells whose it is.
 
 ghost use Rattle.std.specs.Io.KnownBytes.{Consumes};
 ghost use Rattle.hk_outside.specs.First.{first_bytes};
 
-use crate::guests::{Guests, Knock};
+use crate::conn_limit::{ConnLimit, Knock};
 use crossbeam_utils::sync::WaitGroup;
-use hk_accept::{Desks, Reception};
+use hk_accept::{Desks, MakeJob};
 use hk_base::{Actor, Memory, NodeId};
 use hk_link::Outlet;
 use hk_outside::{Connection, Job, Primed, Source};
@@ -16,39 +16,39 @@ use std::sync::{Arc, Mutex, Wait};
 // The first byte of each frame. No request of a client begins with it.
 const FRAME: u8 = 0;
 
-/// The node that is visited, and what all its visits share.
+/// The node of this process, and what the jobs of all its connections share.
 #[derive(Drop)]
-pub(crate) struct House<R: Wait + Drop, K: Drop, G: Drop> {
+pub(crate) struct PeerServer<R: Wait + Drop, K: Drop, G: Drop> {
     pub(crate) rt: R,
     pub(crate) alloc: Global,
     pub(crate) node: NodeId,
     /// Leads to the node. It is split for each peer.
     pub(crate) outlet: Mutex<Outlet>,
     pub(crate) desks: K,
-    pub(crate) guests: Guests<G>,
+    pub(crate) limit: ConnLimit<G>,
 }
 
-/// A connection to be served.
+/// The job of a connection, of a client or of a peer.
 #[derive(Drop)]
-pub(crate) struct Visit<R: Wait + Drop, N: Drop, K: Drop, G: Drop> {
+pub(crate) struct PeerConnJob<R: Wait + Drop, N: Drop, K: Drop, G: Drop> {
     conn: N,
-    house: Arc<House<R, K, G>>,
+    server: Arc<PeerServer<R, K, G>>,
     number: u32,
-    // Left when the visit is over, or known to be a peer's.
+    // Left when the job is over, or known to be a peer's.
     clients: WaitGroup,
 }
 
-/// Takes in all who come. All visits are of the group of clients until they are over, or known to be a peer's.
+/// Makes the jobs of all connections. All jobs are of the group of clients until they are over, or known to be a peer's.
 #[derive(Drop)]
-pub(crate) struct Visitors<'a, R: Wait + Drop, K: Drop, G: Drop> {
-    pub(crate) house: &'a Arc<House<R, K, G>>,
+pub(crate) struct PeerConnJobs<'a, R: Wait + Drop, K: Drop, G: Drop> {
+    pub(crate) server: &'a Arc<PeerServer<R, K, G>>,
     pub(crate) clients: &'a WaitGroup,
 }
 
-impl<'a, R: Wait + Drop, K: Drop, G: Knock + Drop> Visitors<'a, R, K, G> {
+impl<'a, R: Wait + Drop, K: Drop, G: Knock + Drop> PeerConnJobs<'a, R, K, G> {
     /// Whether no client is served, and none may come.
     pub(crate) fn is_over(&self) -> bool {
-        self.house.guests.is_over(&self.house.rt)
+        self.server.limit.is_over(&self.server.rt)
     }
 }
 
@@ -58,15 +58,15 @@ impl<
     N: Connection + Send + Drop + 'static,
     K: Desks + Send + Sync + Drop + 'static,
     G: Knock + Send + Drop + 'static,
-> Reception<N> for Visitors<'a, R, K, G> {
-    type Visit = Visit<R, N, K, G>;
+> MakeJob<N> for PeerConnJobs<'a, R, K, G> {
+    type ConnJob = PeerConnJob<R, N, K, G>;
 
-    fn visit(&self, conn: N, number: u32) -> Result<Visit<R, N, K, G>, Memory> {
-        let house = Arc::try_clone(self.house)?;
+    fn make_job(&self, conn: N, number: u32) -> Result<PeerConnJob<R, N, K, G>, Memory> {
+        let server = Arc::try_clone(self.server)?;
         let clients = self.clients.clone()?;
-        Ok(Visit {
+        Ok(PeerConnJob {
             conn,
-            house,
+            server,
             number,
             clients,
         })
@@ -89,13 +89,16 @@ fn first_byte<N: Source>(conn: &mut N) -> Option<u8>
 }
 
 // Puts what a peer sends, to its end. One for whose outlet there is no memory is closed: it may come again.
-fn take_in<R: Wait + Drop, N: Source, K: Drop, G: Drop>(house: &House<R, K, G>, conn: &mut N) {
-    let split = house.outlet.lock(&house.rt).split();
+fn take_in<R: Wait + Drop, N: Source, K: Drop, G: Drop>(
+    server: &PeerServer<R, K, G>,
+    conn: &mut N,
+) {
+    let split = server.outlet.lock(&server.rt).split();
     if let Ok(mut outlet) = split {
-        let course = Course::to(Actor::Node(house.node));
+        let course = Course::to(Actor::Node(server.node));
         serve_peer(
-            &house.rt,
-            house.alloc,
+            &server.rt,
+            server.alloc,
             conn,
             course,
             &mut outlet,
@@ -109,29 +112,29 @@ impl<
     N: Connection + Send + Drop + 'static,
     K: Desks + Send + Sync + Drop + 'static,
     G: Knock + Send + Drop + 'static,
-> Job for Visit<R, N, K, G> {
+> Job for PeerConnJob<R, N, K, G> {
     // A connection that ends before its first byte counts as a client that came and ended.
     fn run(self) {
-        let Visit {
+        let PeerConnJob {
             mut conn,
-            house,
+            server,
             number,
             clients,
         } = self;
         let first = first_byte(&mut conn);
         if first == Some(FRAME) {
             drop(clients);
-            house.guests.meet_peer(&house.rt);
-            take_in(&house, &mut Primed::new(FRAME, conn));
+            server.limit.meet_peer(&server.rt);
+            take_in(&server, &mut Primed::new(FRAME, conn));
             return;
         }
-        if house.guests.admit(&house.rt) {
+        if server.limit.admit(&server.rt) {
             if let Some(first) = first {
                 let mut primed = Primed::new(first, conn);
-                house.desks.serve(&mut primed, number);
+                server.desks.serve(&mut primed, number);
                 drop(primed);
             }
-            house.guests.part(&house.rt);
+            server.limit.part(&server.rt);
         }
         drop(clients);
     }

@@ -42,7 +42,7 @@ struct Counts {
 ///
 /// It is over once so many came as the process serves, and no client is being served.
 #[derive(Drop)]
-pub(crate) struct Guests<G: Drop> {
+pub(crate) struct ConnLimit<G: Drop> {
     conns: u32,
     others: u32,
     counts: Mutex<Counts>,
@@ -51,10 +51,10 @@ pub(crate) struct Guests<G: Drop> {
     knocker: Mutex<G>,
 }
 
-impl<G: Knock + Drop> Guests<G> {
+impl<G: Knock + Drop> ConnLimit<G> {
     /// Nobody came yet, of so many that are to come, to one of so many nodes.
-    pub(crate) fn new(conns: u32, nodes: u8, knocker: G) -> Guests<G> {
-        Guests {
+    pub(crate) fn new(conns: u32, nodes: u8, knocker: G) -> ConnLimit<G> {
+        ConnLimit {
             conns,
             others: u32::from(nodes.saturating_sub(1)),
             counts: Mutex::new(Counts {

@@ -1,7 +1,7 @@
 use Rattle.hk_outside.specs.Desk.{BeginSuits}
 use Rattle.hk_worker.specs.declared.opening.OpenAsk.{OpenAsk}
 use Rattle.hk_group.specs.Led.{BeginsAgain}
-use Rattle.hk_group.proofs.keeping.Keeper.begin.Given as goal
+use Rattle.hk_group.proofs.keeping.Upkeep.begin.Given as goal
 
 -- what was told last
 abbrev pub invariant-loop-again : goal.invariant-loop-again

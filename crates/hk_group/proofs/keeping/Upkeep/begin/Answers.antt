@@ -1,7 +1,7 @@
 use Rattle.std.proofs.Common.{◌≡◌, true, sym, ◌∙◌}
 use Rattle.hk_group.specs.Led.{late_begun}
 use Rattle.hk_group.proofs.Led.{begun_again}
-use Rattle.hk_group.proofs.keeping.Keeper.begin.Goals as goal
+use Rattle.hk_group.proofs.keeping.Upkeep.begin.Goals as goal
 
 pub loop-again-preserved : goal.loop-again-preserved
 loop-again-preserved g c =

@@ -4,9 +4,9 @@ use hk_base::Memory;
 use hk_outside::Job;
 
 /// Makes the job of each connection that comes.
-pub trait Reception<N> {
-    type Visit: Job;
+pub trait MakeJob<N> {
+    type ConnJob: Job;
 
     /// The job of a connection that comes behind so many others. One for whose job there is no memory is closed.
-    fn visit(&self, conn: N, number: u32) -> Result<Self::Visit, Memory>;
+    fn make_job(&self, conn: N, number: u32) -> Result<Self::ConnJob, Memory>;
 }

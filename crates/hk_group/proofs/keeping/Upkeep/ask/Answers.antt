@@ -1,7 +1,7 @@
 use Rattle.std.proofs.Common.{◌≡◌, true, sym, ◌∙◌}
 use Rattle.hk_group.specs.Led.{is_late}
 use Rattle.hk_group.proofs.Led.{asked_again}
-use Rattle.hk_group.proofs.keeping.Keeper.ask.Goals as goal
+use Rattle.hk_group.proofs.keeping.Upkeep.ask.Goals as goal
 
 pub loop-again-preserved : goal.loop-again-preserved
 loop-again-preserved g c =

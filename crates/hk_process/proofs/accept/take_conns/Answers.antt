@@ -1,7 +1,7 @@
 use Rattle.std.proofs.Common.{subst, sym}
 use Rattle.hk_process.specs.Serving.{HasTaken}
 use Rattle.hk_process.proofs.Taking.{taken_on}
-use Rattle.hk_process.proofs.accept.take_visits.Goals as goal
+use Rattle.hk_process.proofs.accept.take_conns.Goals as goal
 
 -- that the doors were closed took no connection
 pub returns-then-no_more-clause-done : goal.returns-then-no_more-clause-done

@@ -1,7 +1,0 @@
-use Rattle.std.proofs.Common.{◌≡◌, ◌+◌, length}
-use Rattle.hk_worker.specs.Founding.{AreNamed}
-use Rattle.hk_group.proofs.program.seat_nodes.Given as goal
-
--- those that are left are named, and the others have a seat
-abbrev pub invariant-loop-one : goal.invariant-loop-one
-invariant-loop-one g l = AreNamed g.P.Places.places l.one-iterator.rest.items × (length l.seats.items + length l.one-iterator.rest.items ≡ length l.fn.founded.items)
