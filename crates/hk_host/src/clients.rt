@@ -6,7 +6,7 @@ ghost use Rattle.hk_outside.specs.Causes.{Rose};
 use hk_accept::{Desks, MakeJob};
 use hk_base::Memory;
 use hk_hosts::{Address, DoorsAt};
-use hk_house::{House, rest};
+use hk_house::{SharedState, rest};
 use hk_outside::{Connection, Doors, Failed, Job, NoDialer};
 use std::sync::{Arc, Wait};
 
@@ -15,14 +15,14 @@ const REST_MILLIS: u64 = 1_000;
 
 /// Doors at an address, whatever port is told. Once the process is to end, and while its node leaves, no connection comes: so they do not tell how many are left.
 #[derive(Drop)]
-pub(crate) struct ClientDoors<'doors, 'address, 'house, D: DoorsAt, R: Wait + Drop, C: Drop> {
+pub(crate) struct ClientDoors<'doors, 'address, 'shared, D: DoorsAt, R: Wait + Drop, C: Drop> {
     pub(crate) doors: &'doors mut D,
     pub(crate) address: &'address Address,
-    pub(crate) house: &'house House<R, C>,
+    pub(crate) shared: &'shared SharedState<R, C>,
 }
 
-impl<'doors, 'address, 'house, D: DoorsAt, R: Wait + Drop, C: Drop> Doors
-    for ClientDoors<'doors, 'address, 'house, D, R, C> {
+impl<'doors, 'address, 'shared, D: DoorsAt, R: Wait + Drop, C: Drop> Doors
+    for ClientDoors<'doors, 'address, 'shared, D, R, C> {
     type Conn = D::Conn;
 
     type Dialer = NoDialer<D::Conn>;
@@ -39,7 +39,7 @@ impl<'doors, 'address, 'house, D: DoorsAt, R: Wait + Drop, C: Drop> Doors
 
     fn accept(&mut self) -> Result<Option<D::Conn>, Failed> {
         let come = self.doors.accept();
-        if self.house.is_out() || self.house.is_leaving() {
+        if self.shared.is_out() || self.shared.is_leaving() {
             return Ok(None);
         }
         come
@@ -67,20 +67,20 @@ pub(crate) fn can_open<D: DoorsAt>(doors: &mut D, address: &Address) -> bool
 /// Opens the port of an address, as often as it takes, unless the process is to end: then it gives false. Whoever has it lets it go one day; until then the node serves its
 /// group, and clients at other hosts.
 pub(crate) fn open_in_time<R: Wait + Drop, C: Drop, D: DoorsAt>(
-    house: &House<R, C>,
+    shared: &SharedState<R, C>,
     doors: &mut D,
     address: &Address,
 ) -> bool
     ensures { D.left doors.new ≡ D.left doors.old }
 {
-    for _ in house.rt.forever() {
-        if house.is_out() {
+    for _ in shared.rt.forever() {
+        if shared.is_out() {
             return false;
         }
         if doors.open(address).is_ok() {
             return true;
         }
-        rest(&house.rt, REST_MILLIS);
+        rest(&shared.rt, REST_MILLIS);
     }
     unreachable!()
 }

@@ -2,7 +2,7 @@
 
 use hk_base::{Memory, NodeId};
 use hk_group::Copier;
-use hk_house::{House, rest};
+use hk_house::{SharedState, rest};
 use hk_locked::Places;
 use hk_outside::{Clock, Job};
 use std::sync::{Arc, Wait};
@@ -16,19 +16,21 @@ const PACE_MILLIS: u64 = 7;
 /// Copies the rows of a shard of this process's node from other members, and ends once it has all.
 #[derive(Drop)]
 pub(crate) struct CopyJob<R: Wait + Drop, C: Drop, P: Places> {
-    pub(crate) house: Arc<House<R, C>>,
+    pub(crate) shared: Arc<SharedState<R, C>>,
     pub(crate) copier: Copier<P>,
     pub(crate) shard: u8,
 }
 
 // Whom is asked: the members that are ready, in turn.
 fn giver_of<R: Wait + Drop, C: Drop>(
-    house: &House<R, C>,
+    shared: &SharedState<R, C>,
     turn: usize,
 ) -> Result<Option<NodeId>, Memory> {
-    let guard = house.standing.lock(&house.rt);
+    let guard = shared.standing.lock(&shared.rt);
     let standing = &*guard;
-    let ready = standing.boards.ready_nodes(house.alloc, standing.founding)?;
+    let ready = standing
+        .boards
+        .ready_nodes(shared.alloc, standing.founding)?;
     let count = ready.len();
     if count == 0 {
         return Ok(None);
@@ -47,21 +49,21 @@ struct Course {
 
 // Asks for rows where that is to be done now. Where none came for long it turns to another member.
 fn ask<R: Wait + Drop, C: Clock + Drop, P: Places>(
-    house: &House<R, C>,
+    shared: &SharedState<R, C>,
     copier: &mut Copier<P>,
     course: &mut Course,
 ) {
-    let now = house.clock.now();
-    let lasts = house.identity.beat().saturating_mul(IDLE_BEATS);
+    let now = shared.clock.now();
+    let lasts = shared.identity.beat().saturating_mul(IDLE_BEATS);
     let again = lasts <= now.saturating_sub(course.moved);
     if again {
         course.turn = course.turn.wrapping_add(1);
         course.moved = now;
     }
-    let Ok(Some(from)) = giver_of(house, course.turn) else {
+    let Ok(Some(from)) = giver_of(shared, course.turn) else {
         return;
     };
-    if copier.ask(&house.rt, from, again) {
+    if copier.ask(&shared.rt, from, again) {
         course.moved = now;
     }
 }
@@ -73,22 +75,22 @@ impl<
 > Job for CopyJob<R, C, P> {
     fn run(self) {
         let CopyJob {
-            house,
+            shared,
             mut copier,
             shard,
         } = self;
-        let rt = house.rt;
+        let rt = shared.rt;
         // so the shards begin at different members
         let mut course = Course {
             turn: usize::from(shard),
-            moved: house.clock.now(),
+            moved: shared.clock.now(),
         };
         for _ in rt.forever() {
-            if copier.is_whole(&rt) || house.is_out() {
+            if copier.is_whole(&rt) || shared.is_out() {
                 return;
             }
             if copier.has_view(&rt) {
-                ask(&*house, &mut copier, &mut course);
+                ask(&*shared, &mut copier, &mut course);
             }
             rest(&rt, PACE_MILLIS);
         }

@@ -5,12 +5,12 @@ ghost use Rattle.hk_host.specs.Starting.{Starts};
 use crate::fault::StartFault;
 use crate::sending::Dialers;
 use hk_base::{Actor, Memory};
-use hk_house::House;
+use hk_house::SharedState;
 use hk_lanes::{Lane, LaneDesks, LaneJob, Lanes};
 use hk_link::Bell;
 use hk_locked::Places;
 use hk_outside::{Clock, Source, Spawner};
-use hk_passage::{NodeEntry, Passage};
+use hk_passage::{Channel, NodeEntry};
 use hk_peer::{Course, PromptCarrier};
 use hk_worker::DeskClock;
 use std::alloc::Global;
@@ -63,16 +63,16 @@ impl<R: Wait + Copy + Drop, C: DeskClock + Drop, P: Places, X: PromptCarrier + D
 
 /// The lanes from an actor of this process to nodes, and what is to carry for them.
 #[derive(Drop)]
-pub(crate) struct Berths<X: Drop> {
+pub(crate) struct LanePool<X: Drop> {
     pub(crate) lanes: Vec<Arc<Lane<X>>>,
     /// One for each lane that leads nowhere.
     pub(crate) spare: Vec<X>,
 }
 
-impl<X: PromptCarrier + Drop> Berths<X> {
+impl<X: PromptCarrier + Drop> LanePool<X> {
     // No lanes yet.
-    fn new(alloc: Global) -> Berths<X> {
-        Berths {
+    fn new(alloc: Global) -> LanePool<X> {
+        LanePool {
             lanes: Vec::new(alloc),
             spare: Vec::new(alloc),
         }
@@ -104,12 +104,12 @@ impl<X: PromptCarrier + Drop> Berths<X> {
 
 // What is to carry for a lane from an actor of this process. It leads nowhere before it is aimed.
 fn new_carrier<R: Wait + Drop, C: Drop, E: Dialers>(
-    house: &Arc<House<R, C>>,
+    shared: &Arc<SharedState<R, C>>,
     dialers: &E,
     from: Actor,
-) -> Result<Passage<R, C, E::Dialer>, Memory> {
-    let house = Arc::try_clone(house)?;
-    Ok(Passage::new(house, dialers.dialer(), from, from))
+) -> Result<Channel<R, C, E::Dialer>, Memory> {
+    let shared = Arc::try_clone(shared)?;
+    Ok(Channel::new(shared, dialers.dialer(), from, from))
 }
 
 /// Makes the lanes of an actor of this process, and starts their threads.
@@ -119,17 +119,17 @@ pub(crate) fn start_lanes<
     E: Dialers,
     S: Spawner,
 >(
-    house: &Arc<House<R, C>>,
+    shared: &Arc<SharedState<R, C>>,
     dialers: &E,
     spawner: &mut S,
     from: Actor,
-) -> Result<Berths<Passage<R, C, E::Dialer>>, StartFault>
+) -> Result<LanePool<Channel<R, C, E::Dialer>>, StartFault>
     ensures { Starts (S.faults spawner.old) (S.faults spawner.new) result }
 {
-    let mut berths = Berths::new(house.alloc);
+    let mut pool = LanePool::new(shared.alloc);
     for _ in 0..LANES {
-        let carrier = new_carrier(house, dialers, from)?;
-        spawner.start_made(berths.add(house.rt, house.alloc, carrier))?;
+        let carrier = new_carrier(shared, dialers, from)?;
+        spawner.start_made(pool.add(shared.rt, shared.alloc, carrier))?;
     }
-    Ok(berths)
+    Ok(pool)
 }

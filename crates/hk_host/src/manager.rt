@@ -13,7 +13,7 @@ use crate::ways::{ManagerWays, rung_link};
 use hk_base::{Actor, Memory};
 use hk_disk::LogFile;
 use hk_hosts::{DoorsAt, Random};
-use hk_house::House;
+use hk_house::SharedState;
 use hk_link::Inlet;
 use hk_managing::{ManagerJob, ManagerStart};
 use hk_outside::{Clock, Spawner};
@@ -33,9 +33,9 @@ pub struct Inside<D: Drop, X: Drop> {
 }
 
 // Letters come to the manager from now on; it takes them once it is open.
-fn admit_letters<R: Wait + Drop, C: Drop>(house: &House<R, C>) -> Result<Inlet, Memory> {
-    let (outlet, inlet) = rung_link(house.alloc, &house.inbox.bell)?;
-    let mut guard = house.manager.lock(&house.rt);
+fn admit_letters<R: Wait + Drop, C: Drop>(shared: &SharedState<R, C>) -> Result<Inlet, Memory> {
+    let (outlet, inlet) = rung_link(shared.alloc, &shared.mailbox.bell)?;
+    let mut guard = shared.manager.lock(&shared.rt);
     *guard = Some(outlet);
     Ok(inlet)
 }
@@ -50,19 +50,19 @@ pub struct HostManager<F: LogFile + Drop> {
 
 // The loop of the manager.
 fn manager_job<R: Wait + Eprint + Drop, C: Clock + Drop, F: LogFile + Drop>(
-    house: &Arc<House<R, C>>,
+    shared: &Arc<SharedState<R, C>>,
     manager: HostManager<F>,
     routes: &Arc<Routes>,
 ) -> Result<ManagerJob<R, C, F>, Memory> {
     let HostManager { place, start } = manager;
-    let inlet = admit_letters(&**house)?;
+    let inlet = admit_letters(&**shared)?;
     // a manager sends to each manager, itself too
-    if let Some(outlet) = house.manager_outlet() {
-        routes.add(&house.rt, Actor::Manager(place), outlet)?;
+    if let Some(outlet) = shared.manager_outlet() {
+        routes.add(&shared.rt, Actor::Manager(place), outlet)?;
     }
-    let clock = Arc::try_clone(&house.clock)?;
-    let house = Arc::try_clone(house)?;
-    ManagerJob::new(house, start, inlet, routes, clock)
+    let clock = Arc::try_clone(&shared.clock)?;
+    let shared = Arc::try_clone(shared)?;
+    ManagerJob::new(shared, start, inlet, routes, clock)
 }
 
 fn new_routes(alloc: Global, outlets: Outlets) -> Result<Arc<Routes>, Memory> {
@@ -76,25 +76,25 @@ fn start_manager_ways<
     E: Dialers,
     S: Spawner,
 >(
-    house: &Arc<House<R, C>>,
+    shared: &Arc<SharedState<R, C>>,
     place: u8,
     dialers: &E,
     sending: &mut Sending,
     spawner: &mut S,
 ) -> Result<Arc<Routes>, StartFault>
-    requires { place < length (arc_value house.now).identity.hosts }
+    requires { place < length (arc_value shared.now).identity.hosts }
     ensures { Starts (S.faults spawner.old) (S.faults spawner.new) result }
 {
     let ManagerWays { outlets, ways } = ManagerWays::new(
-        house.alloc,
+        shared.alloc,
         place,
-        house.identity.managers(),
+        shared.identity.managers(),
     )?;
     let own = Actor::Manager(place);
-    let routes = new_routes(house.alloc, outlets)?;
-    start_ways(house, dialers, sending, spawner, own, ways)?;
-    let berths = start_lanes(house, dialers, spawner, own)?;
-    spawner.start_made(RouteJob::new(house, None, &routes, berths))?;
+    let routes = new_routes(shared.alloc, outlets)?;
+    start_ways(shared, dialers, sending, spawner, own, ways)?;
+    let pool = start_lanes(shared, dialers, spawner, own)?;
+    spawner.start_made(RouteJob::new(shared, None, &routes, pool))?;
     Ok(routes)
 }
 
@@ -106,18 +106,18 @@ fn start_manager<
     E: Dialers,
     S: Spawner,
 >(
-    house: &Arc<House<R, C>>,
+    shared: &Arc<SharedState<R, C>>,
     manager: HostManager<F>,
     dialers: &E,
     sending: &mut Sending,
     spawner: &mut S,
 ) -> Result<(), StartFault>
-    requires { manager.place < length (arc_value house.now).identity.hosts }
+    requires { manager.place < length (arc_value shared.now).identity.hosts }
     ensures { Starts (S.faults spawner.old) (S.faults spawner.new) result }
 {
-    let routes = start_manager_ways(house, manager.place, dialers, sending, spawner)?;
-    spawner.start_made(BeatJob::new(house, &house.inbox.bell, Vec::new(house.alloc)))?;
-    spawner.start_made(manager_job(house, manager, &routes))?;
+    let routes = start_manager_ways(shared, manager.place, dialers, sending, spawner)?;
+    spawner.start_made(BeatJob::new(shared, &shared.mailbox.bell, Vec::new(shared.alloc)))?;
+    spawner.start_made(manager_job(shared, manager, &routes))?;
     Ok(())
 }
 
@@ -129,30 +129,30 @@ fn start_any_manager<
     E: Dialers,
     S: Spawner,
 >(
-    house: &Arc<House<R, C>>,
+    shared: &Arc<SharedState<R, C>>,
     manager: Option<HostManager<F>>,
     dialers: &E,
     sending: &mut Sending,
     spawner: &mut S,
 ) -> Result<(), StartFault>
-    requires { IfSome manager (λ m. m.place < length (arc_value house.now).identity.hosts) }
+    requires { IfSome manager (λ m. m.place < length (arc_value shared.now).identity.hosts) }
     ensures { Starts (S.faults spawner.old) (S.faults spawner.new) result }
 {
     match manager {
-        Some(manager) => start_manager(house, manager, dialers, sending, spawner),
+        Some(manager) => start_manager(shared, manager, dialers, sending, spawner),
         None => Ok(()),
     }
 }
 
 // What reports to the manager of this place.
 fn report_job<R: Wait + Drop, C: Drop, E: Dialers>(
-    house: &Arc<House<R, C>>,
+    shared: &Arc<SharedState<R, C>>,
     dialers: &E,
     place: u8,
 ) -> Result<ReportJob<R, C, Asker<R, C, E::Dialer>>, Memory> {
-    let asker = Asker::new(Arc::try_clone(house)?, dialers.dialer(), place);
+    let asker = Asker::new(Arc::try_clone(shared)?, dialers.dialer(), place);
     Ok(ReportJob {
-        house: Arc::try_clone(house)?,
+        shared: Arc::try_clone(shared)?,
         place,
         asker,
     })
@@ -164,11 +164,11 @@ fn start_reports<
     C: Clock + Send + Sync + Drop + 'static,
     E: Dialers,
     S: Spawner,
->(house: &Arc<House<R, C>>, dialers: &E, spawner: &mut S) -> Result<(), StartFault>
+>(shared: &Arc<SharedState<R, C>>, dialers: &E, spawner: &mut S) -> Result<(), StartFault>
     ensures { Starts (S.faults spawner.old) (S.faults spawner.new) result }
 {
-    for place in 0..house.identity.managers() {
-        spawner.start_made(report_job(house, dialers, place))?;
+    for place in 0..shared.identity.managers() {
+        spawner.start_made(report_job(shared, dialers, place))?;
     }
     Ok(())
 }
@@ -184,7 +184,7 @@ pub(crate) fn start_host<
     X: Random + Send + Drop + 'static,
     S: Spawner,
 >(
-    house: &Arc<House<R, C>>,
+    shared: &Arc<SharedState<R, C>>,
     entry: &Arc<N>,
     manager: Option<HostManager<F>>,
     inside: Inside<D, X>,
@@ -192,11 +192,11 @@ pub(crate) fn start_host<
     sending: &mut Sending,
     spawner: &mut S,
 ) -> Result<(), StartFault>
-    requires { IfSome manager (λ m. m.place < length (arc_value house.now).identity.hosts) }
+    requires { IfSome manager (λ m. m.place < length (arc_value shared.now).identity.hosts) }
     ensures { Starts (S.faults spawner.old) (S.faults spawner.new) result }
 {
-    start_any_manager(house, manager, dialers, sending, spawner)?;
+    start_any_manager(shared, manager, dialers, sending, spawner)?;
     let Inside { doors, random } = inside;
-    start_inside(house, entry, doors, random, spawner)?;
-    start_reports(house, dialers, spawner)
+    start_inside(shared, entry, doors, random, spawner)?;
+    start_reports(shared, dialers, spawner)
 }

@@ -1,7 +1,7 @@
 //! The job that gives the beat.
 
 use hk_base::Memory;
-use hk_house::{House, rest};
+use hk_house::{SharedState, rest};
 use hk_link::Bell;
 use hk_outside::Job;
 use hk_snap::LeaseCell;
@@ -10,7 +10,7 @@ use std::sync::{Arc, Wait};
 /// Rings at each beat for whoever has something to do then: the manager, or the workers of the node, which renew their leases and send again what waits.
 #[derive(Drop)]
 pub(crate) struct BeatJob<R: Wait + Drop, C: Drop> {
-    house: Arc<House<R, C>>,
+    shared: Arc<SharedState<R, C>>,
     bell: Arc<Bell>,
     // What looks at the leases of the node, of whose workers this is the beat.
     leases: Vec<LeaseCell>,
@@ -29,8 +29,8 @@ fn first_end<R: Wait>(rt: &R, leases: &mut Vec<LeaseCell>) -> Option<u64> {
 }
 
 // Others of this process learn how long the leases of its node last.
-fn show_end<R: Wait + Drop, C: Drop>(house: &House<R, C>, end: u64) {
-    let mut guard = house.standing.lock(&house.rt);
+fn show_end<R: Wait + Drop, C: Drop>(shared: &SharedState<R, C>, end: u64) {
+    let mut guard = shared.standing.lock(&shared.rt);
     let standing = &mut *guard;
     standing.shards.lease_end = end;
 }
@@ -38,12 +38,12 @@ fn show_end<R: Wait + Drop, C: Drop>(house: &House<R, C>, end: u64) {
 impl<R: Wait + Drop, C: Drop> BeatJob<R, C> {
     /// It rings this bell, and looks at these leases.
     pub(crate) fn new(
-        house: &Arc<House<R, C>>,
+        shared: &Arc<SharedState<R, C>>,
         bell: &Arc<Bell>,
         leases: Vec<LeaseCell>,
     ) -> Result<BeatJob<R, C>, Memory> {
         Ok(BeatJob {
-            house: Arc::try_clone(house)?,
+            shared: Arc::try_clone(shared)?,
             bell: Arc::try_clone(bell)?,
             leases,
         })
@@ -54,17 +54,17 @@ impl<R: Wait + Send + Sync + Drop + 'static, C: Send + Sync + Drop + 'static> Jo
     for BeatJob<R, C> {
     fn run(self) {
         let BeatJob {
-            house,
+            shared,
             bell,
             mut leases,
         } = self;
-        let beat = house.identity.beat();
-        for _ in house.rt.forever() {
-            rest(&house.rt, beat);
-            if let Some(end) = first_end(&house.rt, &mut leases) {
-                show_end(&*house, end);
+        let beat = shared.identity.beat();
+        for _ in shared.rt.forever() {
+            rest(&shared.rt, beat);
+            if let Some(end) = first_end(&shared.rt, &mut leases) {
+                show_end(&*shared, end);
             }
-            bell.ring(&house.rt, 1);
+            bell.ring(&shared.rt, 1);
         }
     }
 }

@@ -16,13 +16,13 @@ use crate::watching::WatchJob;
 use hk_base::{Actor, Memory, NodeId};
 use hk_group::{Group, GroupDesks, Member, start_each};
 use hk_hosts::Address;
-use hk_house::{House, Identity, copy_of};
+use hk_house::{Identity, SharedState, copy_of};
 use hk_inside::NodeState;
 use hk_lanes::{LaneDesks, Lanes, Tallies};
 use hk_link::Outlet;
 use hk_locked::Places;
 use hk_outside::Spawner;
-use hk_passage::Passage;
+use hk_passage::Channel;
 use hk_process::Sending;
 use hk_routes::Routes;
 use hk_worker::{DeskClock, Founded};
@@ -71,8 +71,8 @@ pub(crate) fn founding_group(identity: &Identity, workers: u8) -> Group
 }
 
 // Others learn of the node.
-fn stand<R: Wait + Drop, C: Drop>(house: &House<R, C>, node: NodeId) {
-    let mut guard = house.standing.lock(&house.rt);
+fn stand<R: Wait + Drop, C: Drop>(shared: &SharedState<R, C>, node: NodeId) {
+    let mut guard = shared.standing.lock(&shared.rt);
     let standing = &mut *guard;
     standing.node = Some(node);
     standing.state = NodeState::Seated;
@@ -84,15 +84,15 @@ pub(crate) fn new_member<
     C: DeskClock + Send + Sync + Drop + 'static,
     P: Places + Send + Sync + 'static,
 >(
-    house: &House<R, C>,
+    shared: &SharedState<R, C>,
     clock: Arc<C>,
     founded: Founded,
     group: &Group,
 ) -> Result<Member<R, C, P>, Memory>
     requires named { node_names P.places founded.node ≡ names_of founded }
 {
-    let pause = house.identity.beat() / READINGS;
-    Member::<R, C, P>::among_managers(house.rt, house.alloc, clock, founded, pause.max(1), group)
+    let pause = shared.identity.beat() / READINGS;
+    Member::<R, C, P>::among_managers(shared.rt, shared.alloc, clock, founded, pause.max(1), group)
 }
 
 // Starts what opens ways to other nodes as they come, and gives the lanes of these.
@@ -102,28 +102,28 @@ fn start_routing<
     E: Dialers,
     S: Spawner,
 >(
-    house: &Arc<House<R, C>>,
+    shared: &Arc<SharedState<R, C>>,
     dialers: &E,
     spawner: &mut S,
     node: NodeId,
     routes: &Arc<Routes>,
-) -> Result<Arc<Lanes<Passage<R, C, E::Dialer>>>, StartFault>
+) -> Result<Arc<Lanes<Channel<R, C, E::Dialer>>>, StartFault>
     ensures { Starts (S.faults spawner.old) (S.faults spawner.new) result }
 {
-    let berths = start_lanes(house, dialers, spawner, Actor::Node(node))?;
-    let lanes = berths.shared(house.alloc)?;
-    spawner.start_made(RouteJob::new(house, Some(node), routes, berths))?;
+    let pool = start_lanes(shared, dialers, spawner, Actor::Node(node))?;
+    let lanes = pool.shared(shared.alloc)?;
+    spawner.start_made(RouteJob::new(shared, Some(node), routes, pool))?;
     Ok(lanes)
 }
 
 // The job that copies the rows of a shard.
 fn copy_job<R: Wait + Copy + Drop, C: DeskClock + Drop, P: Places>(
-    house: &Arc<House<R, C>>,
+    shared: &Arc<SharedState<R, C>>,
     desks: &GroupDesks<R, C, P>,
     shard: u8,
 ) -> Result<CopyJob<R, C, P>, Memory> {
     Ok(CopyJob {
-        house: Arc::try_clone(house)?,
+        shared: Arc::try_clone(shared)?,
         copier: desks.copier(shard)?,
         shard,
     })
@@ -135,29 +135,33 @@ fn start_copying<
     R: Wait + Eprint + Copy + Send + Sync + Drop + 'static,
     C: DeskClock + Send + Sync + Drop + 'static,
     S: Spawner,
->(house: &Arc<House<R, C>>, spawner: &mut S, desks: &GroupDesks<R, C, P>) -> Result<(), StartFault>
+>(
+    shared: &Arc<SharedState<R, C>>,
+    spawner: &mut S,
+    desks: &GroupDesks<R, C, P>,
+) -> Result<(), StartFault>
     ensures { Starts (S.faults spawner.old) (S.faults spawner.new) result }
 {
     for shard in 0..SHARDS {
-        spawner.start_made(copy_job(house, desks, shard))?;
+        spawner.start_made(copy_job(shared, desks, shard))?;
     }
     Ok(())
 }
 
 // The job that looks how the node stands.
 fn watch_job<R: Wait + Copy + Drop, C: DeskClock + Drop, P: Places, E: Dialers>(
-    house: &Arc<House<R, C>>,
+    shared: &Arc<SharedState<R, C>>,
     node: NodeId,
     dialers: &E,
     desks: &GroupDesks<R, C, P>,
     tallies: &Arc<Tallies>,
     clients: &Address,
 ) -> Result<WatchJob<R, C, P, E::Dialer>, Memory> {
-    let Some(clients) = copy_of(house.alloc, clients) else {
+    let Some(clients) = copy_of(shared.alloc, clients) else {
         return Err(Memory);
     };
     Ok(WatchJob {
-        house: Arc::try_clone(house)?,
+        shared: Arc::try_clone(shared)?,
         node,
         watch: desks.watch()?,
         tallies: Arc::try_clone(tallies)?,
@@ -174,7 +178,7 @@ fn start_watching<
     E: Dialers,
     S: Spawner,
 >(
-    house: &Arc<House<R, C>>,
+    shared: &Arc<SharedState<R, C>>,
     node: NodeId,
     dialers: &E,
     spawner: &mut S,
@@ -184,7 +188,7 @@ fn start_watching<
 ) -> Result<(), StartFault>
     ensures { Starts (S.faults spawner.old) (S.faults spawner.new) result }
 {
-    spawner.start_made(watch_job(house, node, dialers, desks, tallies, clients))?;
+    spawner.start_made(watch_job(shared, node, dialers, desks, tallies, clients))?;
     Ok(())
 }
 
@@ -195,7 +199,7 @@ fn start_part<
     C: DeskClock + Send + Sync + Drop + 'static,
     S: Spawner,
 >(
-    house: &Arc<House<R, C>>,
+    shared: &Arc<SharedState<R, C>>,
     part: Part,
     spawner: &mut S,
     desks: &GroupDesks<R, C, P>,
@@ -204,7 +208,7 @@ fn start_part<
 {
     match part {
         Part::Founder(_) => Ok(()),
-        Part::Joiner(_) => start_copying(house, spawner, desks),
+        Part::Joiner(_) => start_copying(shared, spawner, desks),
     }
 }
 
@@ -215,7 +219,7 @@ fn start_beat<
     C: DeskClock + Send + Sync + Drop + 'static,
     S: Spawner,
 >(
-    house: &Arc<House<R, C>>,
+    shared: &Arc<SharedState<R, C>>,
     spawner: &mut S,
     desks: &GroupDesks<R, C, P>,
     outlet: &Outlet,
@@ -226,7 +230,7 @@ fn start_beat<
         return Ok(());
     };
     let leases = desks.leases()?;
-    spawner.start_made(BeatJob::new(house, bell, leases))?;
+    spawner.start_made(BeatJob::new(shared, bell, leases))?;
     Ok(())
 }
 
@@ -239,14 +243,14 @@ pub(crate) fn start_node<
     E: Dialers,
     S: Spawner,
 >(
-    house: &Arc<House<R, C>>,
+    shared: &Arc<SharedState<R, C>>,
     part: Part,
     dialers: &E,
     sending: &mut Sending,
     spawner: &mut S,
     member: Member<R, C, P>,
     listen: &Address,
-) -> Result<LaneDesks<R, C, P, Passage<R, C, E::Dialer>>, StartFault>
+) -> Result<LaneDesks<R, C, P, Channel<R, C, E::Dialer>>, StartFault>
     ensures { Starts (S.faults spawner.old) (S.faults spawner.new) result }
 {
     let Member {
@@ -259,12 +263,12 @@ pub(crate) fn start_node<
     } = member;
     let node = part.number();
     start_each(workers, spawner)?;
-    start_ways(house, dialers, sending, spawner, Actor::Node(node), ways)?;
-    let lanes = start_routing(house, dialers, spawner, node, &routes)?;
-    start_beat(house, spawner, &desks, &outlet)?;
-    stand(&**house, node);
-    start_part(house, part, spawner, &desks)?;
-    let tallies = Tallies::new(house.alloc)?;
-    start_watching(house, node, dialers, spawner, &desks, &tallies, listen)?;
-    Ok(LaneDesks::new(house.rt, house.alloc, desks, lanes, tallies))
+    start_ways(shared, dialers, sending, spawner, Actor::Node(node), ways)?;
+    let lanes = start_routing(shared, dialers, spawner, node, &routes)?;
+    start_beat(shared, spawner, &desks, &outlet)?;
+    stand(&**shared, node);
+    start_part(shared, part, spawner, &desks)?;
+    let tallies = Tallies::new(shared.alloc)?;
+    start_watching(shared, node, dialers, spawner, &desks, &tallies, listen)?;
+    Ok(LaneDesks::new(shared.rt, shared.alloc, desks, lanes, tallies))
 }

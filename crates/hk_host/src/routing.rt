@@ -1,9 +1,9 @@
 //! The job that keeps the ways from an actor to the nodes of its group.
 
-use crate::lanes::Berths;
+use crate::lanes::LanePool;
 use crate::ways::rung_link;
 use hk_base::{Actor, Memory, NodeId};
-use hk_house::{House, rest};
+use hk_house::{SharedState, rest};
 use hk_lanes::Lane;
 use hk_link::Outlet;
 use hk_outside::{Clock, Job};
@@ -26,11 +26,11 @@ struct OpenWay<X: Drop> {
 /// Opens a way to each node whose number has a holder, and ends those to others. It looks at each beat at what the boards tell.
 #[derive(Drop)]
 pub(crate) struct RouteJob<R: Wait + Drop, C: Drop, X: Drop> {
-    house: Arc<House<R, C>>,
+    shared: Arc<SharedState<R, C>>,
     // The actor that sends, if it is a node.
     own: Option<NodeId>,
     routes: Arc<Routes>,
-    berths: Berths<X>,
+    pool: LanePool<X>,
     ways: Vec<OpenWay<X>>,
 }
 
@@ -42,26 +42,26 @@ fn is_node(node: NodeId, other: Option<NodeId>) -> bool {
 }
 
 // The nodes that boards tell.
-fn nodes_told<R: Wait + Drop, C: Drop>(house: &House<R, C>) -> Result<Vec<NodeId>, Memory> {
-    let guard = house.standing.lock(&house.rt);
+fn nodes_told<R: Wait + Drop, C: Drop>(shared: &SharedState<R, C>) -> Result<Vec<NodeId>, Memory> {
+    let guard = shared.standing.lock(&shared.rt);
     let standing = &*guard;
-    standing.boards.nodes(house.alloc, standing.founding)
+    standing.boards.nodes(shared.alloc, standing.founding)
 }
 
 impl<R: Wait + Drop, C: Clock + Drop, X: AimedCarrier + Drop> RouteJob<R, C, X> {
     /// No way is open yet. `own` is the node that sends, if it is one.
     pub(crate) fn new(
-        house: &Arc<House<R, C>>,
+        shared: &Arc<SharedState<R, C>>,
         own: Option<NodeId>,
         routes: &Arc<Routes>,
-        berths: Berths<X>,
+        pool: LanePool<X>,
     ) -> Result<RouteJob<R, C, X>, Memory> {
         Ok(RouteJob {
-            house: Arc::try_clone(house)?,
+            shared: Arc::try_clone(shared)?,
             own,
             routes: Arc::try_clone(routes)?,
-            berths,
-            ways: Vec::new(house.alloc),
+            pool,
+            ways: Vec::new(shared.alloc),
         })
     }
 
@@ -85,7 +85,7 @@ impl<R: Wait + Drop, C: Clock + Drop, X: AimedCarrier + Drop> RouteJob<R, C, X> 
     }
 
     fn free_lane(&self) -> Option<Arc<Lane<X>>> {
-        for lane in &self.berths.lanes {
+        for lane in &self.pool.lanes {
             if lane.is_free() {
                 return Arc::try_clone(lane).ok();
             }
@@ -95,14 +95,14 @@ impl<R: Wait + Drop, C: Clock + Drop, X: AimedCarrier + Drop> RouteJob<R, C, X> 
 
     // A lane leads to the node from now on. It gives what its letters are put into.
     fn begin(&mut self, lane: Arc<Lane<X>>, node: NodeId, now: u64) -> Result<Outlet, Memory> {
-        let alloc = self.house.alloc;
+        let alloc = self.shared.alloc;
         let (outlet, inlet) = rung_link(alloc, lane.bell())?;
         self.ways.reserve(1)?;
-        let Some(mut carrier) = self.berths.spare.pop() else {
+        let Some(mut carrier) = self.pool.spare.pop() else {
             return Err(Memory);
         };
         carrier.aim(Actor::Node(node));
-        lane.begin(&self.house.rt, alloc, inlet, carrier);
+        lane.begin(&self.shared.rt, alloc, inlet, carrier);
         self.ways.push_reserved(OpenWay {
             node,
             lane,
@@ -120,7 +120,7 @@ impl<R: Wait + Drop, C: Clock + Drop, X: AimedCarrier + Drop> RouteJob<R, C, X> 
             return;
         };
         let to = Actor::Node(node);
-        if self.routes.add(&self.house.rt, to, outlet).is_err() {
+        if self.routes.add(&self.shared.rt, to, outlet).is_err() {
             self.close(node);
         }
     }
@@ -132,8 +132,8 @@ impl<R: Wait + Drop, C: Clock + Drop, X: AimedCarrier + Drop> RouteJob<R, C, X> 
         }
         let way = self.ways.swap_remove(place);
         let to = Actor::Node(way.node);
-        self.routes.remove(&self.house.rt, to);
-        if let Some(carrier) = way.lane.end(&self.house.rt) {
+        self.routes.remove(&self.shared.rt, to);
+        if let Some(carrier) = way.lane.end(&self.shared.rt) {
             self.keep(carrier, to);
         }
     }
@@ -142,7 +142,7 @@ impl<R: Wait + Drop, C: Clock + Drop, X: AimedCarrier + Drop> RouteJob<R, C, X> 
     fn keep(&mut self, carrier: X, to: Actor) {
         let mut carrier = carrier;
         carrier.aim(to);
-        let _ = self.berths.spare.push(carrier);
+        let _ = self.pool.spare.push(carrier);
     }
 
     // Ends the way to a node.
@@ -154,7 +154,7 @@ impl<R: Wait + Drop, C: Clock + Drop, X: AimedCarrier + Drop> RouteJob<R, C, X> 
 
     // The place of a way whose node was not told for long.
     fn outworn(&self, now: u64) -> Option<usize> {
-        let lasts = u64::from(self.house.identity.lease).saturating_mul(LEASES);
+        let lasts = u64::from(self.shared.identity.lease).saturating_mul(LEASES);
         self.ways
             .iter()
             .position(|way| lasts < now.saturating_sub(way.told))
@@ -169,8 +169,8 @@ impl<R: Wait + Drop, C: Clock + Drop, X: AimedCarrier + Drop> RouteJob<R, C, X> 
 
     // What is done at a beat.
     fn turn(&mut self) {
-        let now = self.house.clock.now();
-        let Ok(nodes) = nodes_told(&*self.house) else {
+        let now = self.shared.clock.now();
+        let Ok(nodes) = nodes_told(&*self.shared) else {
             return;
         };
         for node in &nodes {
@@ -190,8 +190,8 @@ impl<
 > Job for RouteJob<R, C, X> {
     fn run(self) {
         let mut routing = self;
-        let rt = routing.house.rt;
-        let beat = routing.house.identity.beat();
+        let rt = routing.shared.rt;
+        let beat = routing.shared.identity.beat();
         for _ in rt.forever() {
             routing.turn();
             rest(&rt, beat);

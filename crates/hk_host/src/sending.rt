@@ -6,10 +6,10 @@ use crate::fault::StartFault;
 use hk_base::{Actor, Memory};
 use hk_group::{Way, start_each};
 use hk_hosts::DialAt;
-use hk_house::House;
+use hk_house::SharedState;
 use hk_link::Parcel;
 use hk_outside::{Clock, Spawner};
-use hk_passage::Passage;
+use hk_passage::Channel;
 use hk_peer::Carrier;
 use hk_process::{SendJob, Sending};
 use std::io::Eprint;
@@ -25,15 +25,15 @@ pub trait Dialers {
 /// Carries letters from an actor of this process to a manager. A node tells managers nothing but that it wants leases, and one that leaves wants none.
 #[derive(Drop)]
 pub(crate) struct ManagerCarrier<R: Wait + Drop, C: Drop, D: DialAt + Drop> {
-    house: Arc<House<R, C>>,
+    shared: Arc<SharedState<R, C>>,
     from: Actor,
-    passage: Passage<R, C, D>,
+    channel: Channel<R, C, D>,
 }
 
 // Whether an actor of this process tells the managers nothing at this moment.
-fn is_quiet<R: Wait + Drop, C: Drop>(house: &House<R, C>, from: Actor) -> bool {
+fn is_quiet<R: Wait + Drop, C: Drop>(shared: &SharedState<R, C>, from: Actor) -> bool {
     match from {
-        Actor::Node(_) => house.is_leaving(),
+        Actor::Node(_) => shared.is_leaving(),
         Actor::Manager(_) => false,
     }
 }
@@ -41,42 +41,42 @@ fn is_quiet<R: Wait + Drop, C: Drop>(house: &House<R, C>, from: Actor) -> bool {
 impl<R: Wait + Eprint + Drop, C: Clock + Drop, D: DialAt + Drop> Carrier
     for ManagerCarrier<R, C, D> {
     fn forward(&mut self, batch: &[Parcel]) {
-        if !is_quiet(&*self.house, self.from) {
-            self.passage.forward(batch);
+        if !is_quiet(&*self.shared, self.from) {
+            self.channel.forward(batch);
         }
     }
 
     fn is_connected(&self) -> bool {
-        self.passage.is_connected()
+        self.channel.is_connected()
     }
 }
 
 fn carrier_to<R: Wait + Copy + Drop, C: Drop, E: Dialers>(
-    house: &Arc<House<R, C>>,
+    shared: &Arc<SharedState<R, C>>,
     dialers: &E,
     from: Actor,
     to: Actor,
 ) -> Result<ManagerCarrier<R, C, E::Dialer>, Memory> {
-    let passage = Passage::new(Arc::try_clone(house)?, dialers.dialer(), from, to);
+    let channel = Channel::new(Arc::try_clone(shared)?, dialers.dialer(), from, to);
     Ok(ManagerCarrier {
-        house: Arc::try_clone(house)?,
+        shared: Arc::try_clone(shared)?,
         from,
-        passage,
+        channel,
     })
 }
 
 // A loop for each of these ways from an actor of this process.
 fn send_jobs<R: Wait + Copy + Drop, C: Drop, E: Dialers>(
-    house: &Arc<House<R, C>>,
+    shared: &Arc<SharedState<R, C>>,
     dialers: &E,
     sending: &mut Sending,
     from: Actor,
     ways: Vec<Way>,
 ) -> Result<Vec<SendJob<R, ManagerCarrier<R, C, E::Dialer>>>, Memory> {
-    let mut jobs = Vec::new(house.alloc);
+    let mut jobs = Vec::new(shared.alloc);
     for way in ways {
-        let carrier = carrier_to(house, dialers, from, way.to)?;
-        jobs.push(sending.job(house.rt, house.alloc, carrier, way)?)?;
+        let carrier = carrier_to(shared, dialers, from, way.to)?;
+        jobs.push(sending.job(shared.rt, shared.alloc, carrier, way)?)?;
     }
     Ok(jobs)
 }
@@ -88,7 +88,7 @@ pub(crate) fn start_ways<
     E: Dialers,
     S: Spawner,
 >(
-    house: &Arc<House<R, C>>,
+    shared: &Arc<SharedState<R, C>>,
     dialers: &E,
     sending: &mut Sending,
     spawner: &mut S,
@@ -97,7 +97,7 @@ pub(crate) fn start_ways<
 ) -> Result<(), StartFault>
     ensures { Starts (S.faults spawner.old) (S.faults spawner.new) result }
 {
-    let jobs = send_jobs(house, dialers, sending, from, ways)?;
+    let jobs = send_jobs(shared, dialers, sending, from, ways)?;
     start_each(jobs, spawner)?;
     Ok(())
 }

@@ -20,12 +20,12 @@ use hk_base::{Memory, NodeId, View};
 use hk_disk::LogFile;
 use hk_group::{Group, Member, first_view, found_joiner, found_without_lease};
 use hk_hosts::{Address, DoorsAt, Random};
-use hk_house::{House, Identity, Inbox, Notice, Standing, Telling, rest};
+use hk_house::{Identity, Mailbox, Notice, SharedState, Standing, Telling, rest};
 use hk_inside::NodeState;
 use hk_lanes::LaneDesks;
 use hk_locked::Places;
 use hk_outside::{Clock, Spawner, Status};
-use hk_passage::Passage;
+use hk_passage::Channel;
 use hk_peer::PromptCarrier;
 use hk_process::Sending;
 use hk_worker::{DeskClock, Founded, NodeCells, Tickets};
@@ -49,18 +49,18 @@ pub struct Serving<'a> {
 }
 
 // What the threads share, before anything was heard.
-fn new_house<R: Wait + Drop, C: Drop>(
+fn new_shared<R: Wait + Drop, C: Drop>(
     rt: R,
     alloc: Global,
     clock: Arc<C>,
     identity: Identity,
     telling: Telling,
-) -> Result<Arc<House<R, C>>, Memory>
-    ensures { IfOk result (λ house. (arc_value house).identity ≡ identity) }
+) -> Result<Arc<SharedState<R, C>>, Memory>
+    ensures { IfOk result (λ shared. (arc_value shared).identity ≡ identity) }
 {
     let standing = Standing::new(alloc, identity.managers())?;
-    let inbox = Inbox::new(alloc)?;
-    let house = House {
+    let mailbox = Mailbox::new(alloc)?;
+    let shared = SharedState {
         rt,
         alloc,
         clock,
@@ -68,11 +68,11 @@ fn new_house<R: Wait + Drop, C: Drop>(
         telling,
         standing: Mutex::new(standing),
         manager: Mutex::new(None),
-        inbox,
+        mailbox,
         is_out: AtomicBool::new(false),
         is_leaving: AtomicBool::new(false),
     };
-    Ok(Arc::new(alloc, house)?)
+    Ok(Arc::new(alloc, shared)?)
 }
 
 // Whether the boards bind the number of this host's place to this process.
@@ -83,78 +83,78 @@ fn is_founder(standing: &Standing, identity: &Identity, place: u8) -> bool {
 }
 
 // What the node is, once that is known.
-fn part_of<R: Wait + Drop, C: Drop>(house: &House<R, C>) -> Option<Part> {
-    let guard = house.standing.lock(&house.rt);
+fn part_of<R: Wait + Drop, C: Drop>(shared: &SharedState<R, C>) -> Option<Part> {
+    let guard = shared.standing.lock(&shared.rt);
     let standing = &*guard;
-    if let Some(place) = house.identity.place {
-        if is_founder(standing, &house.identity, place) {
+    if let Some(place) = shared.identity.place {
+        if is_founder(standing, &shared.identity, place) {
             return Some(Part::Founder(place));
         }
     }
-    let node = standing.held(&house.identity)?;
+    let node = standing.held(&shared.identity)?;
     Some(Part::Joiner(node))
 }
 
 // Fails where the process is to end: the log of its manager lost records, its node was left out, or its group is no more.
-fn go_on<R: Wait + Drop, C: Drop>(house: &House<R, C>) -> Result<(), ServeFault> {
+fn go_on<R: Wait + Drop, C: Drop>(shared: &SharedState<R, C>) -> Result<(), ServeFault> {
     let lost = {
-        let guard = house.standing.lock(&house.rt);
+        let guard = shared.standing.lock(&shared.rt);
         guard.lost_tail
     };
     if let Some(lost) = lost {
         return Err(ServeFault::LostTail(lost));
     }
-    if house.look_out() {
+    if shared.look_out() {
         return Err(ServeFault::Out);
     }
     Ok(())
 }
 
 // Waits until the group is open and the process has a number there.
-fn wait_for_part<R: Wait + Drop, C: Drop>(house: &House<R, C>) -> Result<Part, ServeFault> {
-    for _ in house.rt.forever() {
-        go_on(house)?;
-        if let Some(part) = part_of(house) {
+fn wait_for_part<R: Wait + Drop, C: Drop>(shared: &SharedState<R, C>) -> Result<Part, ServeFault> {
+    for _ in shared.rt.forever() {
+        go_on(shared)?;
+        if let Some(part) = part_of(shared) {
             return Ok(part);
         }
-        rest(&house.rt, house.identity.beat());
+        rest(&shared.rt, shared.identity.beat());
     }
     unreachable!()
 }
 
 // Whether the node serves clients.
-fn is_ready<R: Wait + Drop, C: Drop>(house: &House<R, C>) -> bool {
-    let guard = house.standing.lock(&house.rt);
+fn is_ready<R: Wait + Drop, C: Drop>(shared: &SharedState<R, C>) -> bool {
+    let guard = shared.standing.lock(&shared.rt);
     let standing = &*guard;
     standing.state == NodeState::Ready
 }
 
 // Whether the manager of this host is none of its group: its folder was empty while the group lived.
-fn lacks_manager<R: Wait + Drop, C: Drop>(house: &House<R, C>) -> bool {
-    let guard = house.standing.lock(&house.rt);
-    house.identity.place.is_some() && guard.manager.is_none()
+fn lacks_manager<R: Wait + Drop, C: Drop>(shared: &SharedState<R, C>) -> bool {
+    let guard = shared.standing.lock(&shared.rt);
+    shared.identity.place.is_some() && guard.manager.is_none()
 }
 
 // Tells that the node is ready, and where its host has no manager, that too.
 fn tell_standing<R: Wait + Eprint + Drop, C: Clock + Drop>(
-    house: &House<R, C>,
+    shared: &SharedState<R, C>,
     node: NodeId,
     data: &str,
 ) {
-    if lacks_manager(house) {
-        house.tell(&Notice::NoManager { folder: data });
+    if lacks_manager(shared) {
+        shared.tell(&Notice::NoManager { folder: data });
     }
-    house.tell(&Notice::Ready { node });
+    shared.tell(&Notice::Ready { node });
 }
 
 // Waits until all shards are ready.
-fn wait_until_ready<R: Wait + Drop, C: Drop>(house: &House<R, C>) -> Result<(), ServeFault> {
-    for _ in house.rt.forever() {
-        go_on(house)?;
-        if is_ready(house) {
+fn wait_until_ready<R: Wait + Drop, C: Drop>(shared: &SharedState<R, C>) -> Result<(), ServeFault> {
+    for _ in shared.rt.forever() {
+        go_on(shared)?;
+        if is_ready(shared) {
             return Ok(());
         }
-        rest(&house.rt, house.identity.beat());
+        rest(&shared.rt, shared.identity.beat());
     }
     unreachable!()
 }
@@ -168,7 +168,7 @@ fn serve_open<
     K: DoorsAt,
     S: Spawner,
 >(
-    house: &House<R, C>,
+    shared: &SharedState<R, C>,
     desks: &Arc<LaneDesks<R, C, P, X>>,
     listen: &Address,
     doors: &mut K,
@@ -179,41 +179,47 @@ fn serve_open<
     let mut at = ClientDoors {
         doors: &mut *doors,
         address: listen,
-        house,
+        shared,
     };
-    take_each(&house.rt, &mut at, spawner, &ClientJobs { desks }, u32::MAX);
+    take_each(
+        &shared.rt,
+        &mut at,
+        spawner,
+        &ClientJobs { desks },
+        u32::MAX,
+    );
     doors.close();
 }
 
 // Waits while the node leaves, and gives whether it stays after all. Then it serves clients again.
-fn wait_to_stay<R: Wait + Drop, C: Drop>(house: &House<R, C>) -> bool {
-    for _ in house.rt.forever() {
-        if house.is_out() {
+fn wait_to_stay<R: Wait + Drop, C: Drop>(shared: &SharedState<R, C>) -> bool {
+    for _ in shared.rt.forever() {
+        if shared.is_out() {
             return false;
         }
-        if !house.is_leaving() {
+        if !shared.is_leaving() {
             return true;
         }
-        rest(&house.rt, house.identity.beat());
+        rest(&shared.rt, shared.identity.beat());
     }
     unreachable!()
 }
 
 // How the process ends that serves no clients any more.
-fn end_of<R: Wait + Drop, C: Drop>(house: &House<R, C>) -> Result<Status, ServeFault>
+fn end_of<R: Wait + Drop, C: Drop>(shared: &SharedState<R, C>) -> Result<Status, ServeFault>
     ensures { IfOk result (λ status. status ≡ Status.Done) }
 {
-    if house.is_out() {
+    if shared.is_out() {
         return Err(ServeFault::Out);
     }
     Ok(Status::Done)
 }
 
 // Its node has left: a majority of the managers let views begin without it. It acknowledges for two beats more, for those that have not heard so yet.
-fn end_left<R: Wait + Drop, C: Drop>(house: &House<R, C>) -> Result<Status, ServeFault>
+fn end_left<R: Wait + Drop, C: Drop>(shared: &SharedState<R, C>) -> Result<Status, ServeFault>
     ensures { result ≡ Ok Status.Done }
 {
-    rest(&house.rt, house.identity.beat().saturating_mul(2));
+    rest(&shared.rt, shared.identity.beat().saturating_mul(2));
     Ok(Status::Done)
 }
 
@@ -226,7 +232,7 @@ fn serve_clients<
     K: DoorsAt,
     S: Spawner,
 >(
-    house: &House<R, C>,
+    shared: &SharedState<R, C>,
     desks: &Arc<LaneDesks<R, C, P, X>>,
     listen: &Address,
     doors: &mut K,
@@ -235,16 +241,16 @@ fn serve_clients<
     ensures ends { IfOk result (λ status. status ≡ Status.Done) }
     ensures closed { result ≡ Ok Status.Done → K.closed doors.new ≡ true }
 {
-    for _ in house.rt.forever() {
-        if !open_in_time(house, doors, listen) {
+    for _ in shared.rt.forever() {
+        if !open_in_time(shared, doors, listen) {
             return Err(ServeFault::Out);
         }
-        serve_open(house, desks, listen, doors, spawner);
-        if !house.is_leaving() {
-            return end_of(house);
+        serve_open(shared, desks, listen, doors, spawner);
+        if !shared.is_leaving() {
+            return end_of(shared);
         }
-        if !wait_to_stay(house) {
-            return end_left(house);
+        if !wait_to_stay(shared) {
+            return end_left(shared);
         }
     }
     unreachable!()
@@ -260,7 +266,7 @@ fn serve_ready<
     K: DoorsAt,
     S: Spawner,
 >(
-    house: &House<R, C>,
+    shared: &SharedState<R, C>,
     entry: &NodeDoor<R, C, P, X>,
     node: NodeId,
     desks: LaneDesks<R, C, P, X>,
@@ -271,16 +277,16 @@ fn serve_ready<
     ensures ends { IfOk result (λ status. (status ≡ Status.Done) ⊎ (status ≡ Status.Memory)) }
     ensures closed { result ≡ Ok Status.Done → K.closed doors.new ≡ true }
 {
-    let Ok(desks) = Arc::new(house.alloc, desks) else {
+    let Ok(desks) = Arc::new(shared.alloc, desks) else {
         return Ok(Status::Memory);
     };
     let Ok(own) = Arc::try_clone(&desks) else {
         return Ok(Status::Memory);
     };
     entry.open(own);
-    wait_until_ready(house)?;
-    tell_standing(house, node, serving.data);
-    serve_clients(house, &desks, serving.listen, doors, spawner)
+    wait_until_ready(shared)?;
+    tell_standing(shared, node, serving.data);
+    serve_clients(shared, &desks, serving.listen, doors, spawner)
 }
 
 // Starts the node that this member is, and serves its clients.
@@ -293,8 +299,8 @@ fn serve_member<
     K: DoorsAt,
     S: Spawner,
 >(
-    house: &Arc<House<R, C>>,
-    entry: &NodeDoor<R, C, P, Passage<R, C, E::Dialer>>,
+    shared: &Arc<SharedState<R, C>>,
+    entry: &NodeDoor<R, C, P, Channel<R, C, E::Dialer>>,
     sending: &mut Sending,
     part: Part,
     member: Member<R, C, P>,
@@ -309,7 +315,7 @@ fn serve_member<
     ensures spawn_fault { result ≡ Ok Status.SpawnFault → Rose (S.faults spawner.old) (S.faults spawner.new) }
 {
     match start_node(
-        house,
+        shared,
         part,
         dialers,
         sending,
@@ -318,7 +324,7 @@ fn serve_member<
         serving.listen,
     ) {
         Ok(desks) => serve_ready(
-            &**house,
+            &**shared,
             entry,
             part.number(),
             desks,
@@ -339,8 +345,8 @@ fn serve_made<
     K: DoorsAt,
     S: Spawner,
 >(
-    house: &Arc<House<R, C>>,
-    entry: &NodeDoor<R, C, P, Passage<R, C, E::Dialer>>,
+    shared: &Arc<SharedState<R, C>>,
+    entry: &NodeDoor<R, C, P, Channel<R, C, E::Dialer>>,
     sending: &mut Sending,
     part: Part,
     made: Result<Member<R, C, P>, Memory>,
@@ -356,7 +362,7 @@ fn serve_made<
 {
     match made {
         Ok(member) => serve_member(
-            house, entry, sending, part, member, serving, dialers, doors, spawner,
+            shared, entry, sending, part, member, serving, dialers, doors, spawner,
         ),
         Err(_) => Ok(Status::Memory),
     }
@@ -371,8 +377,8 @@ fn serve_founded<
     K: DoorsAt,
     S: Spawner,
 >(
-    house: &Arc<House<R, C>>,
-    entry: &NodeDoor<R, C, P, Passage<R, C, E::Dialer>>,
+    shared: &Arc<SharedState<R, C>>,
+    entry: &NodeDoor<R, C, P, Channel<R, C, E::Dialer>>,
     sending: &mut Sending,
     part: Part,
     group: &Group,
@@ -389,9 +395,9 @@ fn serve_founded<
     ensures no_door_fault { result ≡ Ok Status.DoorFault → ⊥ }
     ensures spawn_fault { result ≡ Ok Status.SpawnFault → Rose (S.faults spawner.old) (S.faults spawner.new) }
 {
-    let made = new_member::<R, C, P>(&**house, clock, founded, group);
+    let made = new_member::<R, C, P>(&**shared, clock, founded, group);
     serve_made(
-        house, entry, sending, part, made, serving, dialers, doors, spawner,
+        shared, entry, sending, part, made, serving, dialers, doors, spawner,
     )
 }
 
@@ -413,9 +419,9 @@ struct Started<R: Wait + Drop, C: Drop, P: Places, X: Drop> {
 
 // The door to a node that is not there yet.
 fn new_entry<R: Wait + Copy + Drop, C: Drop, P: Places, X: Drop>(
-    house: &House<R, C>,
+    shared: &SharedState<R, C>,
 ) -> Result<Arc<NodeDoor<R, C, P, X>>, Memory> {
-    Ok(Arc::new(house.alloc, NodeDoor::new(house.rt))?)
+    Ok(Arc::new(shared.alloc, NodeDoor::new(shared.rt))?)
 }
 
 fn new_tickets(alloc: Global) -> Result<Arc<Tickets>, Memory> {
@@ -423,12 +429,12 @@ fn new_tickets(alloc: Global) -> Result<Arc<Tickets>, Memory> {
 }
 
 // The seed of the node, made before there are cells: what may fail while these are in hand lets go of them.
-fn new_seed<R: Wait + Drop, C: Drop>(house: &House<R, C>) -> Result<Seed<C>, Memory>
-    ensures { IfOk result (λ seed. seed.view ≡ first_view (length house.now.identity.hosts)) }
+fn new_seed<R: Wait + Drop, C: Drop>(shared: &SharedState<R, C>) -> Result<Seed<C>, Memory>
+    ensures { IfOk result (λ seed. seed.view ≡ first_view (length shared.now.identity.hosts)) }
 {
-    let view = first_view(house.alloc, house.identity.managers())?;
-    let tickets = new_tickets(house.alloc)?;
-    let clock = Arc::try_clone(&house.clock)?;
+    let view = first_view(shared.alloc, shared.identity.managers())?;
+    let tickets = new_tickets(shared.alloc)?;
+    let clock = Arc::try_clone(&shared.clock)?;
     Ok(Seed {
         view,
         tickets,
@@ -447,21 +453,21 @@ fn start_process<
     X: Random + Send + Drop + 'static,
     S: Spawner,
 >(
-    house: &Arc<House<R, C>>,
+    shared: &Arc<SharedState<R, C>>,
     manager: Option<HostManager<F>>,
     inside: Inside<D, X>,
     dialers: &E,
     spawner: &mut S,
-) -> Result<Started<R, C, P, Passage<R, C, E::Dialer>>, StartFault>
-    requires { IfSome manager (λ m. m.place < length (arc_value house.now).identity.hosts) }
+) -> Result<Started<R, C, P, Channel<R, C, E::Dialer>>, StartFault>
+    requires { IfSome manager (λ m. m.place < length (arc_value shared.now).identity.hosts) }
     ensures starts { Starts (S.faults spawner.old) (S.faults spawner.new) result }
-    ensures seed { IfOk result (λ started. started.seed.view ≡ first_view (length (arc_value house.now).identity.hosts)) }
+    ensures seed { IfOk result (λ started. started.seed.view ≡ first_view (length (arc_value shared.now).identity.hosts)) }
 {
-    let mut sending = Sending::new(house.alloc)?;
-    let entry = new_entry::<R, C, P, Passage<R, C, E::Dialer>>(&**house)?;
-    let seed = new_seed(&**house)?;
+    let mut sending = Sending::new(shared.alloc)?;
+    let entry = new_entry::<R, C, P, Channel<R, C, E::Dialer>>(&**shared)?;
+    let seed = new_seed(&**shared)?;
     start_host(
-        house,
+        shared,
         &entry,
         manager,
         inside,
@@ -479,7 +485,7 @@ fn start_process<
 // The shards of a founder over these cells, at which nothing happened yet. They have no lease, so nothing is answered of them before the managers grant one.
 #[tactic(auto, using(crate::proofs::Served::is_numbered))]
 fn found_first<R: Wait + Drop, C: Drop>(
-    house: &House<R, C>,
+    shared: &SharedState<R, C>,
     cells: NodeCells,
     view: &View,
     group: &Group,
@@ -494,13 +500,13 @@ fn found_first<R: Wait + Drop, C: Drop>(
     if place >= group.nodes {
         return Err(Memory);
     }
-    found_without_lease(&house.rt, house.alloc, cells, view, group, place, tickets)
+    found_without_lease(&shared.rt, shared.alloc, cells, view, group, place, tickets)
 }
 
 // The shards of the node over these cells, at which nothing happened yet.
 #[tactic(auto, using(crate::proofs::Served::is_numbered))]
 fn found<R: Wait + Drop, C: Drop>(
-    house: &House<R, C>,
+    shared: &SharedState<R, C>,
     cells: NodeCells,
     view: &View,
     group: &Group,
@@ -513,8 +519,10 @@ fn found<R: Wait + Drop, C: Drop>(
     ensures cells { IfOk result (λ founded. names_of founded ≡ names_of_cells group.now.skew cells) }
 {
     match part {
-        Part::Founder(place) => found_first(house, cells, view, group, place, tickets),
-        Part::Joiner(node) => { found_joiner(&house.rt, house.alloc, cells, group, node, tickets) }
+        Part::Founder(place) => found_first(shared, cells, view, group, place, tickets),
+        Part::Joiner(node) => {
+            found_joiner(&shared.rt, shared.alloc, cells, group, node, tickets)
+        }
     }
 }
 
@@ -527,23 +535,23 @@ fn serve_part<
     K: DoorsAt,
     S: Spawner,
 >(
-    house: &Arc<House<R, C>>,
+    shared: &Arc<SharedState<R, C>>,
     cells: NodeCells,
-    started: Started<R, C, P, Passage<R, C, E::Dialer>>,
+    started: Started<R, C, P, Channel<R, C, E::Dialer>>,
     part: Part,
     serving: Serving<'_>,
     dialers: &E,
     doors: &mut K,
     spawner: &mut S,
 ) -> Result<Status, ServeFault>
-    requires places { AreForAny P.places (names_of_cells (arc_value house.now).identity.skew cells) }
-    requires view { started.seed.view ≡ first_view (length (arc_value house.now).identity.hosts) }
+    requires places { AreForAny P.places (names_of_cells (arc_value shared.now).identity.skew cells) }
+    requires view { started.seed.view ≡ first_view (length (arc_value shared.now).identity.hosts) }
     ensures ends { IfOk result EndsServe }
     ensures closed { result ≡ Ok Status.Done → K.closed doors.new ≡ true }
     ensures no_door_fault { result ≡ Ok Status.DoorFault → ⊥ }
     ensures spawn_fault { result ≡ Ok Status.SpawnFault → Rose (S.faults spawner.old) (S.faults spawner.new) }
 {
-    let group = founding_group(&house.identity, serving.workers);
+    let group = founding_group(&shared.identity, serving.workers);
     let Started {
         entry,
         mut sending,
@@ -554,9 +562,9 @@ fn serve_part<
         tickets,
         clock,
     } = seed;
-    match found(&**house, cells, &view, &group, part, tickets) {
+    match found(&**shared, cells, &view, &group, part, tickets) {
         Ok(founded) => serve_founded(
-            house,
+            shared,
             &*entry,
             &mut sending,
             part,
@@ -584,7 +592,7 @@ fn serve_process<
     K: DoorsAt,
     S: Spawner,
 >(
-    house: &Arc<House<R, C>>,
+    shared: &Arc<SharedState<R, C>>,
     cells: NodeCells,
     manager: Option<HostManager<F>>,
     inside: Inside<D, X>,
@@ -593,22 +601,22 @@ fn serve_process<
     doors: &mut K,
     spawner: &mut S,
 ) -> Result<Status, ServeFault>
-    requires manager { IfSome manager (λ m. m.place < length (arc_value house.now).identity.hosts) }
-    requires places { AreForAny P.places (names_of_cells (arc_value house.now).identity.skew cells) }
+    requires manager { IfSome manager (λ m. m.place < length (arc_value shared.now).identity.hosts) }
+    requires places { AreForAny P.places (names_of_cells (arc_value shared.now).identity.skew cells) }
     ensures ends { IfOk result EndsServe }
     ensures closed { result ≡ Ok Status.Done → K.closed doors.new ≡ true }
     ensures no_door_fault { result ≡ Ok Status.DoorFault → ⊥ }
     ensures spawn_fault { result ≡ Ok Status.SpawnFault → Rose (S.faults spawner.old) (S.faults spawner.new) }
 {
     let started = match start_process::<P, R, C, F, E, D, X, S>(
-        house, manager, inside, dialers, spawner,
+        shared, manager, inside, dialers, spawner,
     ) {
         Ok(started) => started,
         Err(fault) => return Ok(fault.status()),
     };
-    match wait_for_part(&**house) {
+    match wait_for_part(&**shared) {
         Ok(part) => serve_part(
-            house, cells, started, part, serving, dialers, doors, spawner,
+            shared, cells, started, part, serving, dialers, doors, spawner,
         ),
         Err(fault) => Err(fault),
     }
@@ -649,7 +657,7 @@ pub fn serve_host<
     ensures door_fault { result ≡ Ok Status.DoorFault → Rose (K.faults doors.old) (K.faults doors.new) }
     ensures spawn_fault { result ≡ Ok Status.SpawnFault → Rose (S.faults spawner.old) (S.faults spawner.new) }
 {
-    let Ok(house) = new_house(rt, alloc, clock, identity, serving.telling) else {
+    let Ok(shared) = new_shared(rt, alloc, clock, identity, serving.telling) else {
         return Ok(Status::Memory);
     };
     if !can_open(doors, serving.listen) {
@@ -657,7 +665,7 @@ pub fn serve_host<
     }
     match NodeCells::new(&rt, alloc) {
         Ok(cells) => serve_process::<Brand, R, C, F, E, D, X, K, S>(
-            &house, cells, manager, inside, dialers, serving, doors, spawner,
+            &shared, cells, manager, inside, dialers, serving, doors, spawner,
         ),
         Err(_) => Ok(Status::Memory),
     }

@@ -3,7 +3,7 @@
 use hk_base::NodeId;
 use hk_group::NodeWatch;
 use hk_hosts::{Address, DialAt};
-use hk_house::{House, Notice, Presence, rest};
+use hk_house::{Notice, Presence, SharedState, rest};
 use hk_inside::{Counts, NodeState};
 use hk_lanes::Tallies;
 use hk_locked::Places;
@@ -20,7 +20,7 @@ const KNOCK_MILLIS: u64 = 100;
 /// connections there learns of it.
 #[derive(Drop)]
 pub(crate) struct WatchJob<R: Wait + Drop, C: Drop, P: Places, D: DialAt + Drop> {
-    pub(crate) house: Arc<House<R, C>>,
+    pub(crate) shared: Arc<SharedState<R, C>>,
     pub(crate) node: NodeId,
     pub(crate) watch: NodeWatch<P>,
     pub(crate) tallies: Arc<Tallies>,
@@ -44,12 +44,12 @@ fn state_of(before: NodeState, ready: u8, least_epoch: u64) -> NodeState {
 
 // Others learn how the node stands. It gives how that is.
 fn stand<R: Wait + Drop, C: Drop>(
-    house: &House<R, C>,
+    shared: &SharedState<R, C>,
     ready: u8,
     least_epoch: u64,
     counts: Counts,
 ) -> NodeState {
-    let mut guard = house.standing.lock(&house.rt);
+    let mut guard = shared.standing.lock(&shared.rt);
     let standing = &mut *guard;
     standing.state = state_of(standing.state, ready, least_epoch);
     standing.shards.ready = ready;
@@ -75,14 +75,14 @@ fn counts<R: Wait, P: Places>(rt: &R, watch: &NodeWatch<P>, tallies: &Tallies) -
 
 // Looks once, and gives how the node stands.
 fn look<R: Wait + Drop, C: Drop, P: Places>(
-    house: &House<R, C>,
+    shared: &SharedState<R, C>,
     watch: &NodeWatch<P>,
     tallies: &Tallies,
 ) -> NodeState {
-    let ready = watch.count_whole(&house.rt);
-    let least_epoch = watch.least_epoch(&house.rt);
-    let counts = counts(&house.rt, watch, tallies);
-    stand(house, ready, least_epoch, counts)
+    let ready = watch.count_whole(&shared.rt);
+    let least_epoch = watch.least_epoch(&shared.rt);
+    let counts = counts(&shared.rt, watch, tallies);
+    stand(shared, ready, least_epoch, counts)
 }
 
 // What the operator knows of the node.
@@ -98,7 +98,7 @@ impl Known {
     // Tells of a joiner how far it has come. That it is ready tells who serves its clients.
     fn tell_state<R: Wait + Eprint + Drop, C: Clock + Drop>(
         &mut self,
-        house: &House<R, C>,
+        shared: &SharedState<R, C>,
         state: NodeState,
     ) {
         if self.state == state {
@@ -107,44 +107,47 @@ impl Known {
         self.state = state;
         let node = self.node;
         match state {
-            NodeState::Seated => house.tell(&Notice::Seated { node }),
-            NodeState::Copying => house.tell(&Notice::Copying { node }),
+            NodeState::Seated => shared.tell(&Notice::Seated { node }),
+            NodeState::Copying => shared.tell(&Notice::Copying { node }),
             NodeState::Waiting | NodeState::Ready | NodeState::Leaving => {}
         }
     }
 
     // Tells where its leases are over for a beat, and where they are back. One that leaves wants none.
-    fn tell_lease<R: Wait + Eprint + Drop, C: Clock + Drop>(&mut self, house: &House<R, C>) {
+    fn tell_lease<R: Wait + Eprint + Drop, C: Clock + Drop>(&mut self, shared: &SharedState<R, C>) {
         if self.leaves {
             return;
         }
         let node = self.node;
-        let now = house.clock.now();
-        if has_lease(house, now) {
+        let now = shared.clock.now();
+        if has_lease(shared, now) {
             if self.lease.shows(now) {
-                house.tell(&Notice::LeaseBack { node });
+                shared.tell(&Notice::LeaseBack { node });
             }
-        } else if self.lease.misses(house.identity.beat(), now) {
-            house.tell(&Notice::LeaseOver { node });
+        } else if self.lease.misses(shared.identity.beat(), now) {
+            shared.tell(&Notice::LeaseOver { node });
         }
     }
 
     // Looks whether the node leaves, and tells it where it begins to.
-    fn look_leaving<R: Wait + Eprint + Drop, C: Clock + Drop>(&mut self, house: &House<R, C>) {
-        house.look_leaving(house.clock.now());
-        let leaves = house.is_leaving();
+    fn look_leaving<R: Wait + Eprint + Drop, C: Clock + Drop>(
+        &mut self,
+        shared: &SharedState<R, C>,
+    ) {
+        shared.look_leaving(shared.clock.now());
+        let leaves = shared.is_leaving();
         if leaves && !self.leaves {
-            house.tell(&Notice::Leaving { node: self.node });
+            shared.tell(&Notice::Leaving { node: self.node });
         }
         self.leaves = leaves;
     }
 }
 
 // Whether the leases of all shards run at this reading.
-fn has_lease<R: Wait + Drop, C: Drop>(house: &House<R, C>, now: u64) -> bool {
-    let guard = house.standing.lock(&house.rt);
+fn has_lease<R: Wait + Drop, C: Drop>(shared: &SharedState<R, C>, now: u64) -> bool {
+    let guard = shared.standing.lock(&shared.rt);
     let end = guard.shards.lease_end;
-    now.saturating_add(u64::from(house.identity.skew)) <= end
+    now.saturating_add(u64::from(shared.identity.skew)) <= end
 }
 
 impl<
@@ -155,29 +158,29 @@ impl<
 > Job for WatchJob<R, C, P, D> {
     fn run(self) {
         let WatchJob {
-            house,
+            shared,
             node,
             watch,
             tallies,
             mut dialer,
             clients,
         } = self;
-        let beat = house.identity.beat();
+        let beat = shared.identity.beat();
         let mut known = Known {
             node,
             state: NodeState::Waiting,
             lease: Presence::Unseen,
             leaves: false,
         };
-        for _ in house.rt.forever() {
-            let state = look(&*house, &watch, &*tallies);
-            known.tell_state(&*house, state);
-            known.look_leaving(&*house);
-            known.tell_lease(&*house);
-            if house.look_out() || known.leaves {
+        for _ in shared.rt.forever() {
+            let state = look(&*shared, &watch, &*tallies);
+            known.tell_state(&*shared, state);
+            known.look_leaving(&*shared);
+            known.tell_lease(&*shared);
+            if shared.look_out() || known.leaves {
                 let _ = dialer.dial(&clients, KNOCK_MILLIS);
             }
-            rest(&house.rt, beat);
+            rest(&shared.rt, beat);
         }
     }
 }

@@ -3,8 +3,8 @@
 ghost use Rattle.std.specs.Prelude.{◌≡◌};
 ghost use Rattle.hk_house.specs.Notices.{is_wanted};
 
-use crate::house::House;
 use crate::moment::Moment;
+use crate::shared_state::SharedState;
 use hk_base::{Actor, NodeId};
 use hk_hello::HelloRefusal;
 use hk_host_words::Verbosity;
@@ -163,7 +163,7 @@ impl<'a> Display for Notice<'a> {
     }
 }
 
-impl<R: Wait + Eprint + Drop, C: Clock + Drop> House<R, C> {
+impl<R: Wait + Eprint + Drop, C: Clock + Drop> SharedState<R, C> {
     /// Writes a line, where lines of its level are wanted: of a verbose process with the time and the level in front.
     /// No lock of this process may be held.
     pub fn tell(&self, notice: &Notice<'_>) {

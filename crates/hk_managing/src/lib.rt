@@ -28,7 +28,7 @@
 //! before the office did anything is not answered. Who asks then asks again.
 //!
 //! Its caller owes that the outlets lead to whom they are named for, that one process at a time has the log, that the
-//! clock of the house keeps its rate, and that the first view is that of the group's hosts.
+//! clock of the shared state keeps its rate, and that the first view is that of the group's hosts.
 //!
 //! What is proved. [`begin_by`] gives just what the log's records give (`IsBegun`, of `hk_restore`'s `restored`), or just
 //! its fault, or memory was wanting. [`begin_manager`] gives that of records which the file has and which are sure, and the

@@ -18,7 +18,7 @@ use hk_boards::{Boards, TicketsTold};
 use hk_disk::LogFile;
 use hk_durable::{Intent, LateClock};
 use hk_fields::Ticket;
-use hk_house::{Coming, House, LostTail, Notice, Slot};
+use hk_house::{Coming, LostTail, Notice, SharedState, Slot};
 use hk_inside::Inquiry;
 use hk_keeper::Wish;
 use hk_lease::wait;
@@ -38,7 +38,7 @@ const NO_WISHES: [Wish; 8] = [Wish::Nothing; 8];
 /// The manager of a host: what it knows, and its cores.
 #[derive(Drop)]
 pub struct ManagerJob<R: Wait + Drop, C: Drop, F: LogFile + Drop> {
-    house: Arc<House<R, C>>,
+    shared: Arc<SharedState<R, C>>,
     office: Office,
     cores: Cores<F>,
     // What comes for the cores.
@@ -200,16 +200,16 @@ fn members_begun<'a>(views: &'a [View], begun: &[u64; 8]) -> Option<&'a [NodeId]
 }
 
 impl<R: Wait + Eprint + Drop, C: Clock + Drop, F: LogFile + Drop> ManagerJob<R, C, F> {
-    /// The job of the manager that begins so, whose letters come by the inlet and go by the routes. `clock` is the clock of the house.
+    /// The job of the manager that begins so, whose letters come by the inlet and go by the routes. `clock` is the clock of the shared state.
     pub fn new(
-        house: Arc<House<R, C>>,
+        shared: Arc<SharedState<R, C>>,
         start: ManagerStart<F>,
         inlet: Inlet,
         routes: &Arc<Routes>,
         clock: Arc<C>,
     ) -> Result<ManagerJob<R, C, F>, Memory> {
-        let alloc = house.alloc;
-        let (routes, outlets) = Follower::begin(&house.rt, alloc, routes)?;
+        let alloc = shared.alloc;
+        let (routes, outlets) = Follower::begin(&shared.rt, alloc, routes)?;
         let (relay, inlet) = Relay::new(alloc, inlet)?;
         let ManagerStart { begun, writer } = start;
         let Begun {
@@ -219,7 +219,7 @@ impl<R: Wait + Eprint + Drop, C: Clock + Drop, F: LogFile + Drop> ManagerJob<R, 
         } = begun;
         let cores = Cores::new(managers, inlet, outlets, writer);
         let mut job = ManagerJob {
-            house,
+            shared,
             office,
             cores,
             relay,
@@ -240,15 +240,15 @@ impl<R: Wait + Eprint + Drop, C: Clock + Drop, F: LogFile + Drop> ManagerJob<R, 
     fn now(&self) -> u64
         ensures { result ≤ MAX_TIME }
     {
-        self.house.clock.now().min(MAX_TIME)
+        self.shared.clock.now().min(MAX_TIME)
     }
 
     // The views that the cores hold. None while the group is not open.
     fn views(&self) -> Result<Vec<View>, Memory> {
         if self.office.takes_letters() {
-            self.cores.views(self.house.alloc)
+            self.cores.views(self.shared.alloc)
         } else {
-            Ok(Vec::new(self.house.alloc))
+            Ok(Vec::new(self.shared.alloc))
         }
     }
 
@@ -257,13 +257,13 @@ impl<R: Wait + Eprint + Drop, C: Clock + Drop, F: LogFile + Drop> ManagerJob<R, 
         let asked = self.behind.asked().max(1);
         Acting {
             since: self.acts_since,
-            until: asked.saturating_add(wait(u64::from(self.house.identity.lease))),
+            until: asked.saturating_add(wait(u64::from(self.shared.identity.lease))),
         }
     }
 
     // What the last boards of all managers told of a number.
     fn told_of(&self, node: NodeId) -> TicketsTold {
-        let guard = self.house.standing.lock(&self.house.rt);
+        let guard = self.shared.standing.lock(&self.shared.rt);
         let standing = &*guard;
         standing.boards.told_of(self.office.founding(), node)
     }
@@ -277,7 +277,7 @@ impl<R: Wait + Eprint + Drop, C: Clock + Drop, F: LogFile + Drop> ManagerJob<R, 
     ) -> Result<(), Unlogged>
         ensures { OnOk result (StayTold self.old.office gathered.old.notes.items self.new.office gathered.new.notes.items) }
     {
-        let alloc = self.house.alloc;
+        let alloc = self.shared.alloc;
         if !has_founding_in_range(&inquiry) {
             return Ok(());
         }
@@ -291,7 +291,7 @@ impl<R: Wait + Eprint + Drop, C: Clock + Drop, F: LogFile + Drop> ManagerJob<R, 
         let acting = self.acting();
         let seen = Seen {
             now,
-            name: self.house.identity.group.as_slice(),
+            name: self.shared.identity.group.as_slice(),
             views: &views,
             told,
             acting,
@@ -320,9 +320,9 @@ impl<R: Wait + Eprint + Drop, C: Clock + Drop, F: LogFile + Drop> ManagerJob<R, 
     fn hear(&mut self, gathered: &mut Gathered, place: u8) -> Result<(), Unlogged>
         ensures { OnOk result (StayTold self.old.office gathered.old.notes.items self.new.office gathered.new.notes.items) }
     {
-        let alloc = self.house.alloc;
+        let alloc = self.shared.alloc;
         let now = self.now();
-        let guard = self.house.standing.lock(&self.house.rt);
+        let guard = self.shared.standing.lock(&self.shared.rt);
         let standing = &*guard;
         match standing.boards.of(place) {
             Some(heard) => gathered.hear(alloc, &mut self.office, now, place, heard),
@@ -344,7 +344,7 @@ impl<R: Wait + Eprint + Drop, C: Clock + Drop, F: LogFile + Drop> ManagerJob<R, 
         ensures { OnOk result (StayTold self.old.office gathered.old.notes.items self.new.office gathered.new.notes.items) }
     {
         for _taken in 0..MOST_TAKEN {
-            let Some(coming) = self.house.inbox.take(&self.house.rt) else {
+            let Some(coming) = self.shared.mailbox.take(&self.shared.rt) else {
                 return Ok(());
             };
             self.take(gathered, coming)?;
@@ -355,7 +355,7 @@ impl<R: Wait + Eprint + Drop, C: Clock + Drop, F: LogFile + Drop> ManagerJob<R, 
     fn gather(&mut self) -> Result<Gathered, Unlogged>
         ensures { IfOk result (λ gathered. StayTold self.old.office [] self.new.office gathered.notes.items) }
     {
-        let alloc = self.house.alloc;
+        let alloc = self.shared.alloc;
         let mut gathered = Gathered::new(alloc);
         self.take_all(&mut gathered)?;
         let now = self.now();
@@ -370,8 +370,8 @@ impl<R: Wait + Eprint + Drop, C: Clock + Drop, F: LogFile + Drop> ManagerJob<R, 
         intents: &[Intent; 8],
     ) -> Result<Replies, Unlogged> {
         let replies = gathered.sure(
-            &self.house.rt,
-            self.house.alloc,
+            &self.shared.rt,
+            self.shared.alloc,
             &self.behind,
             &mut self.cores,
             intents,
@@ -382,33 +382,33 @@ impl<R: Wait + Eprint + Drop, C: Clock + Drop, F: LogFile + Drop> ManagerJob<R, 
 
     // Others of this process learn how the manager stands. From the first reading behind that reports tell that it is open.
     fn publish(&mut self) {
-        let mut guard = self.house.standing.lock(&self.house.rt);
+        let mut guard = self.shared.standing.lock(&self.shared.rt);
         let standing = &mut *guard;
         stand(
             standing,
             &self.office,
-            self.house.identity.place,
-            self.house.identity.ticket,
+            self.shared.identity.place,
+            self.shared.identity.ticket,
             self.records,
         );
         if self.open_since.is_none() && self.office.takes_letters() {
-            self.open_since = Some(self.house.clock.now());
+            self.open_since = Some(self.shared.clock.now());
         }
     }
 
     // Others of this process learn that it has no manager any more: its reports tell of none, and no letter is taken for one.
     fn withdraw(&self) {
-        let mut guard = self.house.standing.lock(&self.house.rt);
+        let mut guard = self.shared.standing.lock(&self.shared.rt);
         let standing = &mut *guard;
         standing.manager = None;
     }
 
     // Whether a majority of the managers answered, this one counted, what was asked behind a reading, and none was told of more records than its log has.
     fn is_answered(&self, since: u64) -> bool {
-        let Some(place) = self.house.identity.place else {
+        let Some(place) = self.shared.identity.place else {
             return false;
         };
-        let guard = self.house.standing.lock(&self.house.rt);
+        let guard = self.shared.standing.lock(&self.shared.rt);
         let standing = &*guard;
         standing.boards.majority_answered(place, since)
             && tail_lost(&standing.boards, self.records).is_none()
@@ -420,14 +420,14 @@ impl<R: Wait + Eprint + Drop, C: Clock + Drop, F: LogFile + Drop> ManagerJob<R, 
             return;
         };
         if self.acts_since.is_none() && self.is_answered(since) {
-            self.cores.open(self.house.alloc);
-            self.acts_since = Some(self.house.clock.now());
+            self.cores.open(self.shared.alloc);
+            self.acts_since = Some(self.shared.clock.now());
         }
     }
 
     // Whether the log lost records that another manager was told of. Who ends the process learns it.
     fn has_lost_tail(&self) -> bool {
-        let mut guard = self.house.standing.lock(&self.house.rt);
+        let mut guard = self.shared.standing.lock(&self.shared.rt);
         let standing = &mut *guard;
         standing.lost_tail = tail_lost(&standing.boards, self.records);
         standing.lost_tail.is_some()
@@ -437,7 +437,7 @@ impl<R: Wait + Eprint + Drop, C: Clock + Drop, F: LogFile + Drop> ManagerJob<R, 
     fn follow_routes(&mut self)
         ensures { self.new.office ≡ self.old.office }
     {
-        if let Some(outlets) = self.routes.renewed(&self.house.rt, self.house.alloc) {
+        if let Some(outlets) = self.routes.renewed(&self.shared.rt, self.shared.alloc) {
             self.cores.lead(outlets);
         }
     }
@@ -452,14 +452,14 @@ impl<R: Wait + Eprint + Drop, C: Clock + Drop, F: LogFile + Drop> ManagerJob<R, 
         self.follow_routes();
         let now = self.now();
         self.relay
-            .pass(&self.house.rt, &mut self.office, now)
+            .pass(&self.shared.rt, &mut self.office, now)
             .unwrap_or(true)
     }
 
     // Whether it is time to look at what it heard: once each beat, and only where it acts.
     fn is_to_look(&self, now: u64) -> bool {
         self.acts_since.is_some()
-            && now.saturating_sub(self.looks.last) >= self.house.identity.beat()
+            && now.saturating_sub(self.looks.last) >= self.shared.identity.beat()
     }
 
     // Notes whether a majority of the managers answers, each within half a lease.
@@ -467,18 +467,18 @@ impl<R: Wait + Eprint + Drop, C: Clock + Drop, F: LogFile + Drop> ManagerJob<R, 
         requires { now ≤ MAX_TIME }
         ensures { self.new.office ≡ self.old.office }
     {
-        let lease = self.house.identity.lease;
-        let beat = self.house.identity.beat();
+        let lease = self.shared.identity.lease;
+        let beat = self.shared.identity.beat();
         let answered = self.is_answered(now.saturating_sub(u64::from(lease / 2)));
         self.answers.hear(lease, beat, now, answered);
     }
 
     // How long ago nodes asked this manager for leases, for its reports to others.
     fn tell_asks(&self, now: u64, views: &[View]) {
-        let Ok(seen) = self.office.asks_seen(self.house.alloc, now, views) else {
+        let Ok(seen) = self.office.asks_seen(self.shared.alloc, now, views) else {
             return;
         };
-        let mut guard = self.house.standing.lock(&self.house.rt);
+        let mut guard = self.shared.standing.lock(&self.shared.rt);
         let standing = &mut *guard;
         standing.asks = seen;
     }
@@ -493,11 +493,11 @@ impl<R: Wait + Eprint + Drop, C: Clock + Drop, F: LogFile + Drop> ManagerJob<R, 
         if self.told.as_slice() == members {
             return;
         }
-        let Ok(told) = members.to_vec(self.house.alloc) else {
+        let Ok(told) = members.to_vec(self.shared.alloc) else {
             return;
         };
         self.told = told;
-        self.house.tell(&Notice::Begins { members });
+        self.shared.tell(&Notice::Begins { members });
     }
 
     // What the cores are to do of themselves in this turn.
@@ -508,8 +508,8 @@ impl<R: Wait + Eprint + Drop, C: Clock + Drop, F: LogFile + Drop> ManagerJob<R, 
         if !self.is_to_look(now) {
             return NOTHING;
         }
-        self.looks.look(now, self.house.identity.lease);
-        let Ok(views) = self.cores.views(self.house.alloc) else {
+        self.looks.look(now, self.shared.identity.lease);
+        let Ok(views) = self.cores.views(self.shared.alloc) else {
             return NOTHING;
         };
         if views.len() != 8 {
@@ -521,7 +521,7 @@ impl<R: Wait + Eprint + Drop, C: Clock + Drop, F: LogFile + Drop> ManagerJob<R, 
         if self.looks.rests(now) || !self.answers.may_wish(now) {
             return intents_of(&views, &NO_WISHES, &self.begun);
         }
-        match self.office.intents(self.house.alloc, now, &views) {
+        match self.office.intents(self.shared.alloc, now, &views) {
             Ok(wishes) => intents_of(&views, &wishes, &self.begun),
             Err(_) => NOTHING,
         }
@@ -531,7 +531,7 @@ impl<R: Wait + Eprint + Drop, C: Clock + Drop, F: LogFile + Drop> ManagerJob<R, 
     fn note_begun(&mut self, intents: &[Intent; 8])
         ensures { (notes : List Entry) → StayTold self.old.office notes self.new.office notes }
     {
-        let alloc = self.house.alloc;
+        let alloc = self.shared.alloc;
         let Ok(begun) = self.cores.begun(alloc, intents) else {
             return;
         };
@@ -552,13 +552,13 @@ impl<R: Wait + Eprint + Drop, C: Clock + Drop, F: LogFile + Drop> ManagerJob<R, 
         let replies = self.make_sure(gathered, &intents)?;
         self.note_begun(&intents);
         if !was_open && self.office.takes_letters() {
-            self.house.tell(&Notice::Open {
+            self.shared.tell(&Notice::Open {
                 founding: self.office.founding(),
             });
         }
         self.publish();
         self.act();
-        replies.leave(&self.house.rt);
+        replies.leave(&self.shared.rt);
         Ok(more)
     }
 }
@@ -570,18 +570,18 @@ impl<
 > Job for ManagerJob<R, C, F> {
     fn run(self) {
         let mut manager = self;
-        let rt = manager.house.rt;
+        let rt = manager.shared.rt;
         for _ in rt.forever() {
-            let heard = manager.house.inbox.bell.rings();
+            let heard = manager.shared.mailbox.bell.rings();
             if manager.has_lost_tail() {
                 return;
             }
             match manager.turn() {
                 Ok(true) => {}
-                Ok(false) => manager.house.inbox.bell.wait(&rt, heard),
+                Ok(false) => manager.shared.mailbox.bell.wait(&rt, heard),
                 Err(_) => {
                     manager.withdraw();
-                    manager.house.tell(&Notice::LogEnded);
+                    manager.shared.tell(&Notice::LogEnded);
                     return;
                 }
             }

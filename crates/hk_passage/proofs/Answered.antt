@@ -1,7 +1,7 @@
 -- Requests that were answered so far, and how they end.
 use Rattle.std.proofs.Common.{ℕ, zero, suc, refl, Ok, Err}
 use Rattle.hk_greet.specs.Standing.{Standing}
-use Rattle.hk_passage.specs.declared.caller.RequestsEnd.{RequestsEnd}
+use Rattle.hk_passage.specs.declared.serving.RequestsEnd.{RequestsEnd}
 use Rattle.hk_passage.specs.Answering.{Answers, AreAnswered, EndsBehind}
 
 -- so many, whatever their number

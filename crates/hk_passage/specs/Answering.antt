@@ -4,8 +4,8 @@ use Rattle.hk_inside.specs.declared.inquiry.Inquiry.{Inquiry}
 use Rattle.hk_inside.specs.declared.response.Response.{Response}
 use Rattle.hk_greet.specs.Standing.{Standing}
 use Rattle.hk_greet.specs.Exchange.{HearsNext, Responds}
-use Rattle.hk_passage.specs.declared.caller.RequestsEnd.{RequestsEnd}
-use Rattle.hk_passage.specs.declared.caller.RequestsEnd.TheVariants as ends
+use Rattle.hk_passage.specs.declared.serving.RequestsEnd.{RequestsEnd}
+use Rattle.hk_passage.specs.declared.serving.RequestsEnd.TheVariants as ends
 
 -- A request came, and its answer was written. Or no request came, or none was heard; or one came, and nothing was
 -- written; or a front of its answer was, or nothing, as its fault tells.

@@ -5,4 +5,4 @@ pub mod Sending
 pub mod Asking
 pub mod Answering
 pub mod Reporting
-pub mod Callers
+pub mod Incoming

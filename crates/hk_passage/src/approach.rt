@@ -15,7 +15,7 @@ use hk_fields::Ticket;
 use hk_greet::{Buffered, KnockFault, knock};
 use hk_hello::{Hello, Party, Purpose};
 use hk_hosts::{Address, Patient};
-use hk_house::{House, Notice, Told};
+use hk_house::{Notice, SharedState, Told};
 use hk_outside::Clock;
 use std::io::Eprint;
 use std::sync::Wait;
@@ -51,37 +51,37 @@ pub struct Call {
 
 // What a speaker says where it dials for an actor.
 fn hello_of<R: Wait + Drop, C: Drop>(
-    house: &House<R, C>,
+    shared: &SharedState<R, C>,
     speaker: Speaker,
     to: Actor,
 ) -> Result<Hello, Memory>
-    requires { IsOwn house.now.identity speaker.from speaker.ticket }
+    requires { IsOwn shared.now.identity speaker.from speaker.ticket }
     ensures range { IfOk result IsHelloInRange }
-    ensures said { IfOk result (Says house.now.identity speaker.purpose speaker.from to) }
+    ensures said { IfOk result (Says shared.now.identity speaker.purpose speaker.from to) }
 {
-    house.identity.hello(
-        house.alloc,
+    shared.identity.hello(
+        shared.alloc,
         speaker.purpose,
         speaker.from,
         Party::Actor(to),
-        house.founding(),
+        shared.founding(),
         speaker.ticket,
     )
 }
 
 // The call of a speaker for an actor, if there is an address for it.
 fn call_of<R: Wait + Drop, C: Drop>(
-    house: &House<R, C>,
+    shared: &SharedState<R, C>,
     speaker: Speaker,
     to: Actor,
 ) -> Option<Call>
-    requires { IsOwn house.now.identity speaker.from speaker.ticket }
+    requires { IsOwn shared.now.identity speaker.from speaker.ticket }
     ensures range { IfSome result (λ call. IsHelloInRange call.hello) }
-    ensures said { IfSome result (λ call. Says house.now.identity speaker.purpose speaker.from to call.hello) }
-    ensures reached { IfSome result (λ call. IsReachedThen house.now.identity to (Some call.address)) }
+    ensures said { IfSome result (λ call. Says shared.now.identity speaker.purpose speaker.from to call.hello) }
+    ensures reached { IfSome result (λ call. IsReachedThen shared.now.identity to (Some call.address)) }
 {
-    let hello = hello_of(house, speaker, to).ok()?;
-    let address = house.address_of(to)?;
+    let hello = hello_of(shared, speaker, to).ok()?;
+    let address = shared.address_of(to)?;
     Some(Call { hello, address })
 }
 
@@ -102,22 +102,22 @@ impl Approach {
     /// went well after all.
     pub fn begin<R: Wait + Drop, C: Clock + Drop>(
         &mut self,
-        house: &House<R, C>,
+        shared: &SharedState<R, C>,
         speaker: Speaker,
     ) -> Option<Call>
-        requires { IsOwn house.now.identity speaker.from speaker.ticket }
+        requires { IsOwn shared.now.identity speaker.from speaker.ticket }
         ensures range { IfSome result (λ call. IsHelloInRange call.hello) }
-        ensures said { IfSome result (λ call. Says house.now.identity speaker.purpose speaker.from self.old.to call.hello) }
-        ensures reached { IfSome result (λ call. IsReachedThen house.now.identity self.old.to (Some call.address)) }
-        ensures begun { Begins (λ now. IfSome (C.reading (arc_value house.now.clock)) (λ time. now ≡ time)) result self.old.retry self.new.retry }
+        ensures said { IfSome result (λ call. Says shared.now.identity speaker.purpose speaker.from self.old.to call.hello) }
+        ensures reached { IfSome result (λ call. IsReachedThen shared.now.identity self.old.to (Some call.address)) }
+        ensures begun { Begins (λ now. IfSome (C.reading (arc_value shared.now.clock)) (λ time. now ≡ time)) result self.old.retry self.new.retry }
         ensures to { self.new.to ≡ self.old.to }
     {
-        let now = house.clock.now();
+        let now = shared.clock.now();
         if !self.retry.is_due(now) {
             return None;
         }
         self.retry.failed(now);
-        call_of(house, speaker, self.to)
+        call_of(shared, speaker, self.to)
     }
 
     /// Nobody was reached.
@@ -131,7 +131,7 @@ impl Approach {
     // The operator is told of a refusal that has lasted for a lease, once a minute.
     fn note<R: Wait + Eprint + Drop, C: Clock + Drop>(
         &mut self,
-        house: &House<R, C>,
+        shared: &SharedState<R, C>,
         knocked: &Result<(), KnockFault>,
     )
         ensures to { self.new.to ≡ self.old.to }
@@ -141,9 +141,9 @@ impl Approach {
             self.told.taken();
             return;
         };
-        let now = house.clock.now();
-        if self.told.refused(house.identity.lease, now) {
-            house.tell(&Notice::Refused {
+        let now = shared.clock.now();
+        if self.told.refused(shared.identity.lease, now) {
+            shared.tell(&Notice::Refused {
                 to: self.to,
                 refusal: *refusal,
             });
@@ -153,18 +153,18 @@ impl Approach {
     /// Greets whoever accepted a connection that was dialled.
     pub fn greet<R: Wait + Eprint + Drop, C: Clock + Drop, N: Patient>(
         &mut self,
-        house: &House<R, C>,
+        shared: &SharedState<R, C>,
         hello: Hello,
         conn: &mut Buffered<N>,
     ) -> Result<(), KnockFault>
         requires { IsHelloInRange hello }
-        ensures knocked { Knocks result house.now.identity.secret hello conn.old conn.new }
+        ensures knocked { Knocks result shared.now.identity.secret hello conn.old conn.new }
         ensures to { self.new.to ≡ self.old.to }
         ensures retry { self.new.retry ≡ self.old.retry }
     {
-        let secret = house.identity.secret.as_slice();
-        let knocked = knock(house.alloc, &*house.clock, conn, secret, hello);
-        self.note(house, &knocked);
+        let secret = shared.identity.secret.as_slice();
+        let knocked = knock(shared.alloc, &*shared.clock, conn, secret, hello);
+        self.note(shared, &knocked);
         knocked
     }
 }

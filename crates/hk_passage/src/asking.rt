@@ -13,7 +13,7 @@ use hk_base::Actor;
 use hk_greet::{Buffered, ask};
 use hk_hello::{Party, Purpose};
 use hk_hosts::{DialAt, Patient};
-use hk_house::House;
+use hk_house::SharedState;
 use hk_inside::{Inquiry, Response};
 use hk_outside::Clock;
 use std::alloc::Global;
@@ -33,27 +33,27 @@ pub trait AskManager {
 /// come.
 #[derive(Drop)]
 pub struct Asker<R: Wait + Drop, C: Drop, D: DialAt + Drop> {
-    house: Arc<House<R, C>>,
+    shared: Arc<SharedState<R, C>>,
     dialer: D,
     approach: Approach,
     conn: Option<Buffered<D::Conn>>,
 }
 
 // What this process says where it dials for a manager: as its own manager once that is open, else as nobody.
-fn speaker_of<R: Wait + Drop, C: Drop>(house: &House<R, C>) -> Speaker
+fn speaker_of<R: Wait + Drop, C: Drop>(shared: &SharedState<R, C>) -> Speaker
     ensures purpose { result.purpose ≡ Purpose.Requests }
-    ensures own { IsOwn house.now.identity result.from result.ticket }
+    ensures own { IsOwn shared.now.identity result.from result.ticket }
 {
     let nobody = Speaker {
         purpose: Purpose::Requests,
         from: Party::Neither,
-        ticket: house.identity.ticket,
+        ticket: shared.identity.ticket,
     };
-    let Some(place) = house.identity.place else {
+    let Some(place) = shared.identity.place else {
         return nobody;
     };
     let own = Actor::Manager(place);
-    match house.own_ticket(own) {
+    match shared.own_ticket(own) {
         Some(ticket) => Speaker {
             purpose: Purpose::Requests,
             from: Party::Actor(own),
@@ -65,13 +65,13 @@ fn speaker_of<R: Wait + Drop, C: Drop>(house: &House<R, C>) -> Speaker
 
 impl<R: Wait + Drop, C: Drop, D: DialAt + Drop> Asker<R, C, D> {
     /// The manager of the host at this place is to be asked. No connection was made yet.
-    pub fn new(house: Arc<House<R, C>>, dialer: D, place: u8) -> Asker<R, C, D>
+    pub fn new(shared: Arc<SharedState<R, C>>, dialer: D, place: u8) -> Asker<R, C, D>
         ensures conn { result.conn ≡ None }
         ensures to { result.approach.to ≡ Actor.Manager place }
     {
-        let pause = house.identity.beat();
+        let pause = shared.identity.beat();
         Asker {
-            house,
+            shared,
             dialer,
             approach: Approach::new(Actor::Manager(place), pause),
             conn: None,
@@ -97,29 +97,29 @@ fn answer_on<N: Patient>(
 impl<R: Wait + Eprint + Drop, C: Clock + Drop, D: DialAt + Drop> AskManager for Asker<R, C, D> {
     fn ask(&mut self, inquiry: &Inquiry) -> Option<Response>
         requires { IsInquiryInRange inquiry.now }
-        ensures asked { IsAsked (arc_value self.old.house).identity.secret (SaysForRequests (arc_value self.old.house).identity self.old.approach.to) inquiry.now result self.old.conn self.new.conn }
-        ensures dials { Redials (arc_value self.old.house).identity self.old.approach.to (λ now. IfSome (C.reading (arc_value (arc_value self.old.house).clock)) (λ time. now ≡ time)) self.old.conn self.new.conn self.old.approach.retry self.new.approach.retry (D.addresses self.old.dialer) (D.addresses self.new.dialer) }
+        ensures asked { IsAsked (arc_value self.old.shared).identity.secret (SaysForRequests (arc_value self.old.shared).identity self.old.approach.to) inquiry.now result self.old.conn self.new.conn }
+        ensures dials { Redials (arc_value self.old.shared).identity self.old.approach.to (λ now. IfSome (C.reading (arc_value (arc_value self.old.shared).clock)) (λ time. now ≡ time)) self.old.conn self.new.conn self.old.approach.retry self.new.approach.retry (D.addresses self.old.dialer) (D.addresses self.new.dialer) }
     {
         if let Some(conn) = &mut self.conn {
-            let answer = answer_on(self.house.alloc, conn, inquiry);
+            let answer = answer_on(self.shared.alloc, conn, inquiry);
             if answer.is_none() {
                 self.conn = None;
             }
             return answer;
         }
-        let speaker = speaker_of(&*self.house);
-        let call = self.approach.begin(&*self.house, speaker)?;
+        let speaker = speaker_of(&*self.shared);
+        let call = self.approach.begin(&*self.shared, speaker)?;
         let Ok(dialled) = self.dialer.dial(&call.address, DIAL_MILLIS) else {
             self.approach.unreached();
             return None;
         };
-        let mut conn = Buffered::new(self.house.alloc, dialled);
-        let Ok(()) = self.approach.greet(&*self.house, call.hello, &mut conn) else {
+        let mut conn = Buffered::new(self.shared.alloc, dialled);
+        let Ok(()) = self.approach.greet(&*self.shared, call.hello, &mut conn) else {
             return None;
         };
-        let lease = u64::from(self.house.identity.lease);
+        let lease = u64::from(self.shared.identity.lease);
         conn.wait_at_most(lease, lease);
-        let answer = answer_on(self.house.alloc, &mut conn, inquiry)?;
+        let answer = answer_on(self.shared.alloc, &mut conn, inquiry)?;
         self.approach.retry.went_well();
         self.conn = Some(conn);
         Some(answer)

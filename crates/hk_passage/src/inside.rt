@@ -2,52 +2,52 @@
 
 ghost use Rattle.hk_outside.specs.Causes.{HasCause};
 
-use crate::caller::serve;
-use crate::callers::Callers;
 use crate::entry::NodeEntry;
+use crate::incoming_conns::IncomingConns;
+use crate::serving::serve;
 use hk_base::Memory;
 use hk_hello::{CHALLENGE_LEN, Challenge};
 use hk_hosts::{DoorsAt, Ender, Patient, Random};
-use hk_house::{House, rest};
+use hk_house::{SharedState, rest};
 use hk_outside::{Clock, Failed, Job, Spawner};
 use std::alloc::Global;
 use std::sync::{Arc, Mutex, Wait};
 
 /// So many connections of other processes are served at once. Others wait until one of them ends.
-pub const MOST_CALLERS: u32 = 128;
+pub const MOST_INCOMING: u32 = 128;
 
 // A job rests for so many milliseconds where a connection can't be taken, as where too many files are open.
 const REST_MILLIS: u64 = 20;
 
 /// What the jobs share that take connections.
 #[derive(Drop)]
-struct Gate<D: Drop, X: Drop> {
+struct ListenerState<D: Drop, X: Drop> {
     doors: Mutex<D>,
     random: Mutex<X>,
-    callers: Mutex<Callers>,
+    incoming: Mutex<IncomingConns>,
 }
 
 /// Takes one connection after the other, each of which it greets and serves to its end. A job can't start others for what
 /// its own doors give, so there is one for each connection that is served at once.
 #[derive(Drop)]
 struct InsideJob<R: Wait + Drop, C: Drop, E: Drop, D: Drop, X: Drop> {
-    house: Arc<House<R, C>>,
+    shared: Arc<SharedState<R, C>>,
     entry: Arc<E>,
-    gate: Arc<Gate<D, X>>,
+    listener: Arc<ListenerState<D, X>>,
 }
 
 // The number of a connection that came. Where too many greetings are unfinished the oldest of them is ended.
-fn begin<R: Wait>(rt: &R, callers: &Mutex<Callers>, ender: Ender) -> Result<u64, Memory> {
-    let mut guard = callers.lock(rt);
-    let callers = &mut *guard;
-    callers.begin(ender)
+fn begin<R: Wait>(rt: &R, incoming: &Mutex<IncomingConns>, ender: Ender) -> Result<u64, Memory> {
+    let mut guard = incoming.lock(rt);
+    let incoming = &mut *guard;
+    incoming.begin(ender)
 }
 
 // The connection of this number has ended.
-fn forget<R: Wait>(rt: &R, callers: &Mutex<Callers>, number: u64) {
-    let mut guard = callers.lock(rt);
-    let callers = &mut *guard;
-    callers.forget(number);
+fn forget<R: Wait>(rt: &R, incoming: &Mutex<IncomingConns>, number: u64) {
+    let mut guard = incoming.lock(rt);
+    let incoming = &mut *guard;
+    incoming.forget(number);
 }
 
 // A challenge that was never used, if one can be drawn.
@@ -60,22 +60,22 @@ fn challenge<R: Wait, X: Random>(rt: &R, random: &Mutex<X>) -> Option<Challenge>
 
 // Greets and serves a connection that came.
 fn take_in<R: Wait + Drop, C: Clock + Drop, E: NodeEntry, X: Random, N: Patient + Drop>(
-    house: &House<R, C>,
+    shared: &SharedState<R, C>,
     entry: &E,
     random: &Mutex<X>,
-    callers: &Mutex<Callers>,
+    incoming: &Mutex<IncomingConns>,
     conn: N,
 ) {
     let Ok(ender) = conn.ender() else {
         return;
     };
-    let Ok(number) = begin(&house.rt, callers, ender) else {
+    let Ok(number) = begin(&shared.rt, incoming, ender) else {
         return;
     };
-    if let Some(challenge) = challenge(&house.rt, random) {
-        serve(house, entry, challenge, callers, number, conn);
+    if let Some(challenge) = challenge(&shared.rt, random) {
+        serve(shared, entry, challenge, incoming, number, conn);
     }
-    forget(&house.rt, callers, number);
+    forget(&shared.rt, incoming, number);
 }
 
 impl<
@@ -86,53 +86,63 @@ impl<
     X: Random + Send + Drop + 'static,
 > Job for InsideJob<R, C, E, D, X> {
     fn run(self) {
-        let InsideJob { house, entry, gate } = self;
-        for _ in house.rt.forever() {
+        let InsideJob {
+            shared,
+            entry,
+            listener,
+        } = self;
+        for _ in shared.rt.forever() {
             let come = {
-                let mut guard = gate.doors.lock(&house.rt);
+                let mut guard = listener.doors.lock(&shared.rt);
                 let doors = &mut *guard;
                 doors.accept()
             };
             match come {
-                Ok(Some(conn)) => take_in(&*house, &*entry, &gate.random, &gate.callers, conn),
+                Ok(Some(conn)) => take_in(
+                    &*shared,
+                    &*entry,
+                    &listener.random,
+                    &listener.incoming,
+                    conn,
+                ),
                 Ok(None) => return,
-                Err(_) => rest(&house.rt, REST_MILLIS),
+                Err(_) => rest(&shared.rt, REST_MILLIS),
             }
         }
     }
 }
 
 // What the jobs share.
-fn new_gate<D: Drop, X: Drop>(
+fn new_listener<D: Drop, X: Drop>(
     alloc: Global,
     doors: D,
     random: X,
-) -> Result<Arc<Gate<D, X>>, Memory> {
-    let gate = Gate {
+) -> Result<Arc<ListenerState<D, X>>, Memory> {
+    let listener = ListenerState {
         doors: Mutex::new(doors),
         random: Mutex::new(random),
-        callers: Mutex::new(Callers::new(alloc)),
+        incoming: Mutex::new(IncomingConns::new(alloc)),
     };
-    Ok(Arc::new(alloc, gate)?)
+    Ok(Arc::new(alloc, listener)?)
 }
 
 // One of the jobs, if there was memory for what they share.
 fn inside_job<R: Wait + Drop, C: Drop, E: Drop, D: Drop, X: Drop>(
-    house: &Arc<House<R, C>>,
+    shared: &Arc<SharedState<R, C>>,
     entry: &Arc<E>,
-    gate: &Result<Arc<Gate<D, X>>, Memory>,
+    listener: &Result<Arc<ListenerState<D, X>>, Memory>,
 ) -> Result<InsideJob<R, C, E, D, X>, Memory> {
-    match gate {
-        Ok(gate) => Ok(InsideJob {
-            house: Arc::try_clone(house)?,
+    match listener {
+        Ok(listener) => Ok(InsideJob {
+            shared: Arc::try_clone(shared)?,
             entry: Arc::try_clone(entry)?,
-            gate: Arc::try_clone(gate)?,
+            listener: Arc::try_clone(listener)?,
         }),
         Err(_) => Err(Memory),
     }
 }
 
-/// Starts the jobs that take the connections which come through open doors, [`MOST_CALLERS`] of them. Challenges are drawn
+/// Starts the jobs that take the connections which come through open doors, [`MOST_INCOMING`] of them. Challenges are drawn
 /// from `random`, and letters to the process's node go in by `entry`. It fails where one of them can't be started, for which the spawner counts a fault; those that were go on.
 pub fn start_inside<
     R: Wait + Send + Sync + Drop + 'static,
@@ -142,7 +152,7 @@ pub fn start_inside<
     X: Random + Send + Drop + 'static,
     S: Spawner,
 >(
-    house: &Arc<House<R, C>>,
+    shared: &Arc<SharedState<R, C>>,
     entry: &Arc<E>,
     doors: D,
     random: X,
@@ -150,9 +160,9 @@ pub fn start_inside<
 ) -> Result<(), Failed>
     ensures { HasCause (S.faults spawner.old) (S.faults spawner.new) result }
 {
-    let gate = new_gate(house.alloc, doors, random);
-    for _ in 0..MOST_CALLERS {
-        spawner.start_made(inside_job(house, entry, &gate))?;
+    let listener = new_listener(shared.alloc, doors, random);
+    for _ in 0..MOST_INCOMING {
+        spawner.start_made(inside_job(shared, entry, &listener))?;
     }
     Ok(())
 }

@@ -10,7 +10,7 @@ use crate::asking::AskManager;
 use hk_base::{Memory, NodeId, Sequence};
 use hk_boards::HeardBoard;
 use hk_fields::Ticket;
-use hk_house::{Coming, House, Identity, Notice, Presence, ShardsSeen, Standing, rest};
+use hk_house::{Coming, Identity, Notice, Presence, ShardsSeen, SharedState, Standing, rest};
 use hk_inside::{Board, Inquiry, NodeSeen, NodesSeen, Report, Response, ShardsTold};
 use hk_outside::{Clock, Job};
 use std::alloc::Global;
@@ -21,7 +21,7 @@ use std::sync::{Arc, Wait};
 /// it answers none for a lease, and where it is back then.
 #[derive(Drop)]
 pub struct ReportJob<R: Wait + Drop, C: Drop, A: Drop> {
-    pub house: Arc<House<R, C>>,
+    pub shared: Arc<SharedState<R, C>>,
     /// The place of that host.
     pub place: u8,
     pub asker: A,
@@ -133,110 +133,118 @@ fn report_of(
 }
 
 // How the process stands now.
-fn report<R: Wait + Drop, C: Clock + Drop>(house: &House<R, C>) -> Result<Report, Memory>
+fn report<R: Wait + Drop, C: Clock + Drop>(shared: &SharedState<R, C>) -> Result<Report, Memory>
     ensures range { IfOk result IsReportInRange }
-    ensures tells { IfOk result (IsReport house.now.identity) }
+    ensures tells { IfOk result (IsReport shared.now.identity) }
 {
-    let now = house.clock.now();
-    let guard = house.standing.lock(&house.rt);
+    let now = shared.clock.now();
+    let guard = shared.standing.lock(&shared.rt);
     let standing = &*guard;
-    match report_of(house.alloc, &house.identity, standing, now) {
+    match report_of(shared.alloc, &shared.identity, standing, now) {
         Ok(report) => Ok(report),
         Err(memory) => Err(memory),
     }
 }
 
 // Keeps the board of a manager as its last one.
-fn keep<R: Wait + Drop, C: Drop>(house: &House<R, C>, place: u8, heard: HeardBoard) {
-    let mut guard = house.standing.lock(&house.rt);
+fn keep<R: Wait + Drop, C: Drop>(shared: &SharedState<R, C>, place: u8, heard: HeardBoard) {
+    let mut guard = shared.standing.lock(&shared.rt);
     let standing = &mut *guard;
     standing.boards.hear(place, heard);
     standing.note_boards();
 }
 
 // Keeps what a manager told, and tells this host's own.
-fn hear<R: Wait + Drop, C: Clock + Drop>(house: &House<R, C>, place: u8, asked: u64, board: Board) {
+fn hear<R: Wait + Drop, C: Clock + Drop>(
+    shared: &SharedState<R, C>,
+    place: u8,
+    asked: u64,
+    board: Board,
+) {
     let heard = HeardBoard {
         asked,
-        came: house.clock.now(),
+        came: shared.clock.now(),
         board,
     };
-    keep(house, place, heard);
-    if house.identity.place.is_some() {
-        house.inbox.put(&house.rt, Coming::Told { place });
+    keep(shared, place, heard);
+    if shared.identity.place.is_some() {
+        shared.mailbox.put(&shared.rt, Coming::Told { place });
     }
 }
 
 // Reports once, and gives whether the manager told its board.
 fn report_to<R: Wait + Drop, C: Clock + Drop, A: AskManager>(
-    house: &House<R, C>,
+    shared: &SharedState<R, C>,
     place: u8,
     asker: &mut A,
 ) -> bool {
-    let asked = house.clock.now();
-    let Ok(report) = report(house) else {
+    let asked = shared.clock.now();
+    let Ok(report) = report(shared) else {
         return false;
     };
     let Some(Response::Board(board)) = asker.ask(&Inquiry::Report(report)) else {
         return false;
     };
-    hear(house, place, asked, board);
+    hear(shared, place, asked, board);
     true
 }
 
 // Notes whether the manager of a place answered, and tells the operator where it is gone, or back.
 fn watch<R: Wait + Eprint + Drop, C: Clock + Drop>(
-    house: &House<R, C>,
+    shared: &SharedState<R, C>,
     place: u8,
     presence: &mut Presence,
     has_answered: bool,
 ) {
-    let now = house.clock.now();
+    let now = shared.clock.now();
     if has_answered {
         if presence.shows(now) {
-            house.tell(&Notice::Back { place });
+            shared.tell(&Notice::Back { place });
         }
-    } else if presence.misses(u64::from(house.identity.lease), now) {
-        house.tell(&Notice::Gone { place });
+    } else if presence.misses(u64::from(shared.identity.lease), now) {
+        shared.tell(&Notice::Gone { place });
     }
 }
 
 // What is to be asked of the manager of this place beside the report.
-fn asks_of<R: Wait + Drop, C: Clock + Drop>(house: &House<R, C>, place: u8) -> Option<Inquiry>
+fn asks_of<R: Wait + Drop, C: Clock + Drop>(
+    shared: &SharedState<R, C>,
+    place: u8,
+) -> Option<Inquiry>
     ensures range { IfSome result IsInquiryInRange }
-    ensures asks { IsAskedThen house.now.identity place result }
+    ensures asks { IsAskedThen shared.now.identity place result }
 {
-    let now = house.clock.now();
-    let guard = house.standing.lock(&house.rt);
+    let now = shared.clock.now();
+    let guard = shared.standing.lock(&shared.rt);
     let standing = &*guard;
-    standing.asks_of(&house.identity, place, now)
+    standing.asks_of(&shared.identity, place, now)
 }
 
 // Keeps the number that the manager gave.
-fn keep_given<R: Wait + Drop, C: Drop>(house: &House<R, C>, node: NodeId) {
-    let mut guard = house.standing.lock(&house.rt);
+fn keep_given<R: Wait + Drop, C: Drop>(shared: &SharedState<R, C>, node: NodeId) {
+    let mut guard = shared.standing.lock(&shared.rt);
     let standing = &mut *guard;
     standing.take_given(node);
 }
 
-fn keep_refusal<R: Wait + Drop, C: Drop>(house: &House<R, C>, place: u8, node: NodeId) {
-    let mut guard = house.standing.lock(&house.rt);
+fn keep_refusal<R: Wait + Drop, C: Drop>(shared: &SharedState<R, C>, place: u8, node: NodeId) {
+    let mut guard = shared.standing.lock(&shared.rt);
     let standing = &mut *guard;
     standing.note_refusal(place, node);
 }
 
 // Keeps what a manager answered to what was asked of it beside the report.
 fn take_answer<R: Wait + Drop, C: Drop>(
-    house: &House<R, C>,
+    shared: &SharedState<R, C>,
     place: u8,
     claimed: Option<NodeId>,
     answer: Response,
 ) {
     match answer {
-        Response::Seated(node) => keep_given(house, node),
+        Response::Seated(node) => keep_given(shared, node),
         Response::No { .. } => {
             if let Some(node) = claimed {
-                keep_refusal(house, place, node);
+                keep_refusal(shared, place, node);
             }
         }
         _ => {}
@@ -253,16 +261,16 @@ fn number_claimed(inquiry: &Inquiry) -> Option<NodeId> {
 
 // Asks the manager of this place for a number, or for the one that was given, where that is to be asked.
 fn seek<R: Wait + Drop, C: Clock + Drop, A: AskManager>(
-    house: &House<R, C>,
+    shared: &SharedState<R, C>,
     place: u8,
     asker: &mut A,
 ) {
-    let Some(inquiry) = asks_of(house, place) else {
+    let Some(inquiry) = asks_of(shared, place) else {
         return;
     };
     let claimed = number_claimed(&inquiry);
     if let Some(answer) = asker.ask(&inquiry) {
-        take_answer(house, place, claimed, answer);
+        take_answer(shared, place, claimed, answer);
     }
 }
 
@@ -273,17 +281,17 @@ impl<
 > Job for ReportJob<R, C, A> {
     fn run(self) {
         let ReportJob {
-            house,
+            shared,
             place,
             mut asker,
         } = self;
-        let beat = house.identity.beat();
+        let beat = shared.identity.beat();
         let mut presence = Presence::Unseen;
-        for _ in house.rt.forever() {
-            let has_answered = report_to(&*house, place, &mut asker);
-            watch(&*house, place, &mut presence, has_answered);
-            seek(&*house, place, &mut asker);
-            rest(&house.rt, beat);
+        for _ in shared.rt.forever() {
+            let has_answered = report_to(&*shared, place, &mut asker);
+            watch(&*shared, place, &mut presence, has_answered);
+            seek(&*shared, place, &mut asker);
+            rest(&shared.rt, beat);
         }
     }
 }

@@ -3,17 +3,17 @@
 #![tactic(auto)]
 
 #[cfg(test)]
-mod houses;
-#[cfg(test)]
 mod identities;
 #[cfg(test)]
-mod inboxes;
+mod mailboxes;
 #[cfg(test)]
 mod notices;
 #[cfg(test)]
 mod outside;
 #[cfg(test)]
 mod seeking;
+#[cfg(test)]
+mod shared_states;
 #[cfg(test)]
 mod standings;
 #[cfg(test)]

@@ -1,7 +1,7 @@
 //! Managers that are asked.
 
 use crate::outside::{
-    FakeDialer, OTHER, Reached, Seen, SetClock, TICKET, dialer, greeting_of, hello, house, joined,
+    FakeDialer, OTHER, Reached, Seen, SetClock, TICKET, dialer, greeting_of, hello, joined, shared,
 };
 use hk_base::Actor;
 use hk_hello::{Party, Purpose};
@@ -56,7 +56,7 @@ fn asker<R: Wait + Abort + Copy + Send + Drop + 'static>(
         let somebody = Reached::Somebody { bytes, writes: 9 };
         reached.push_back(somebody).expect(&rt, "memory");
     }
-    Asker::new(house(rt, alloc, None), dialer(rt, alloc, seen, reached), 1)
+    Asker::new(shared(rt, alloc, None), dialer(rt, alloc, seen, reached), 1)
 }
 
 // Whether it is answered Yes.

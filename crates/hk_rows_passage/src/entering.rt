@@ -1,11 +1,11 @@
 //! Connections that others made.
 
-use crate::outside::{ASKED, OTHER, Seen, SeenConnection, greeting_of, hello, house, joined};
+use crate::outside::{ASKED, OTHER, Seen, SeenConnection, greeting_of, hello, joined, shared};
 use hk_accept::LooseSpawner;
 use hk_base::{Actor, NodeId};
 use hk_hello::{Party, Purpose};
 use hk_hosts::FakeRandom;
-use hk_house::{Coming, House, rest};
+use hk_house::{Coming, SharedState, rest};
 use hk_inside::Response;
 use hk_link::{Inlet, Outlet, link};
 use hk_outside::{Clock, MemoryDoors, Source};
@@ -92,7 +92,7 @@ fn enter<
 >(
     rt: R,
     alloc: Global,
-    house: &Arc<House<R, C>>,
+    shared: &Arc<SharedState<R, C>>,
     entry: &Arc<Entry<R>>,
     seen: &Arc<Seen>,
     bytes: Vec<u8>,
@@ -106,7 +106,7 @@ fn enter<
     let doors = MemoryDoors::new(conns, false);
     let mut spawner = LooseSpawner::new(rt);
     let random = FakeRandom::new(drawn);
-    start_inside(house, entry, doors, random, &mut spawner).expect(&rt, "threads");
+    start_inside(shared, entry, doors, random, &mut spawner).expect(&rt, "threads");
 }
 
 // The epoch of the next letter that is put, if one is within some seconds.
@@ -124,7 +124,7 @@ fn next_epoch<R: Wait>(rt: &R, inlet: &mut Inlet) -> Option<u64> {
 fn letters_of_who_greeted_alone_are_put(rt: HostRuntime) {
     let alloc = rt.alloc();
     let (outlet, mut inlet) = link(alloc, 8).expect(&rt, "memory");
-    let house = house(rt, alloc, Some(outlet));
+    let shared = shared(rt, alloc, Some(outlet));
     let seen = Arc::new(alloc, Seen::new(alloc)).expect(&rt, "memory");
     let from = Party::Actor(Actor::Manager(1));
     let to = Party::Actor(Actor::Manager(0));
@@ -144,7 +144,14 @@ fn letters_of_who_greeted_alone_are_put(rt: HostRuntime) {
             &letter(4, 1, 0),
         ],
     );
-    enter(rt, alloc, &house, &new_entry(rt, alloc, None), &seen, bytes);
+    enter(
+        rt,
+        alloc,
+        &shared,
+        &new_entry(rt, alloc, None),
+        &seen,
+        bytes,
+    );
     assert_eq!(rt; next_epoch(&rt, &mut inlet), Some(1));
     assert_eq!(rt; next_epoch(&rt, &mut inlet), Some(4));
     assert!(rt;
@@ -159,7 +166,7 @@ fn letters_of_who_greeted_alone_are_put(rt: HostRuntime) {
 fn letters_to_the_node_go_in_by_its_entry(rt: HostRuntime) {
     let alloc = rt.alloc();
     let (outlet, mut inlet) = link(alloc, 8).expect(&rt, "memory");
-    let house = house(rt, alloc, None);
+    let shared = shared(rt, alloc, None);
     let seen = Arc::new(alloc, Seen::new(alloc)).expect(&rt, "memory");
     let from = Party::Actor(Actor::Manager(1));
     let to = Party::Actor(Actor::Node(NodeId(0)));
@@ -172,7 +179,7 @@ fn letters_to_the_node_go_in_by_its_entry(rt: HostRuntime) {
     to_node[17] = 0;
     let bytes = joined(&rt, alloc, &[&parts.dialled, &to_node]);
     let entry = new_entry(rt, alloc, Some(outlet));
-    enter(rt, alloc, &house, &entry, &seen, bytes);
+    enter(rt, alloc, &shared, &entry, &seen, bytes);
     assert_eq!(rt; next_epoch(&rt, &mut inlet), Some(5));
     let mut takes = 0;
     for _ in 0..500 {
@@ -186,9 +193,9 @@ fn letters_to_the_node_go_in_by_its_entry(rt: HostRuntime) {
 }
 
 // Answers the next request, if one comes within some seconds.
-fn answer_next<R: Wait + Drop, C: Drop>(rt: &R, house: &House<R, C>) -> bool {
+fn answer_next<R: Wait + Drop, C: Drop>(rt: &R, shared: &SharedState<R, C>) -> bool {
     for _ in 0..500 {
-        if let Some(Coming::Asked { slot, .. }) = house.inbox.take(rt) {
+        if let Some(Coming::Asked { slot, .. }) = shared.mailbox.take(rt) {
             slot.leave(rt, Response::Yes);
             return true;
         }
@@ -211,7 +218,7 @@ fn is_written<R: Wait>(rt: &R, seen: &Seen, bytes: &[u8]) -> bool {
 #[test]
 fn requests_are_answered_by_the_manager(rt: HostRuntime) {
     let alloc = rt.alloc();
-    let house = house(rt, alloc, None);
+    let shared = shared(rt, alloc, None);
     let seen = Arc::new(alloc, Seen::new(alloc)).expect(&rt, "memory");
     let to = Party::Actor(Actor::Manager(0));
     let parts = greeting_of(
@@ -221,9 +228,16 @@ fn requests_are_answered_by_the_manager(rt: HostRuntime) {
     );
     let status = [0, 0, 0, 1, 7];
     let bytes = joined(&rt, alloc, &[&parts.dialled, &status, &status]);
-    enter(rt, alloc, &house, &new_entry(rt, alloc, None), &seen, bytes);
-    assert!(rt; answer_next(&rt, &*house));
-    assert!(rt; answer_next(&rt, &*house));
+    enter(
+        rt,
+        alloc,
+        &shared,
+        &new_entry(rt, alloc, None),
+        &seen,
+        bytes,
+    );
+    assert!(rt; answer_next(&rt, &*shared));
+    assert!(rt; answer_next(&rt, &*shared));
     let yes = [0, 0, 0, 1, 128];
     let said = joined(&rt, alloc, &[&parts.challenge, &parts.welcome, &yes, &yes]);
     assert!(rt; is_written(&rt, &seen, &said));
@@ -232,7 +246,7 @@ fn requests_are_answered_by_the_manager(rt: HostRuntime) {
 #[test]
 fn who_knows_another_secret_is_told_so_and_nothing_is_taken(rt: HostRuntime) {
     let alloc = rt.alloc();
-    let house = house(rt, alloc, None);
+    let shared = shared(rt, alloc, None);
     let seen = Arc::new(alloc, Seen::new(alloc)).expect(&rt, "memory");
     let to = Party::Actor(Actor::Manager(0));
     let parts = greeting_of(
@@ -244,8 +258,15 @@ fn who_knows_another_secret_is_told_so_and_nothing_is_taken(rt: HostRuntime) {
     // a bit of the proof
     let last = parts.dialled.len().saturating_sub(1);
     *bytes.get_mut(last).expect(&rt, "a byte") ^= 1;
-    enter(rt, alloc, &house, &new_entry(rt, alloc, None), &seen, bytes);
+    enter(
+        rt,
+        alloc,
+        &shared,
+        &new_entry(rt, alloc, None),
+        &seen,
+        bytes,
+    );
     let said = joined(&rt, alloc, &[&parts.challenge, &[1]]);
     assert!(rt; is_written(&rt, &seen, &said));
-    assert!(rt; house.inbox.take(&rt).is_none());
+    assert!(rt; shared.mailbox.take(&rt).is_none());
 }

@@ -5,12 +5,12 @@
 #[cfg(test)]
 mod asking;
 #[cfg(test)]
-mod callers;
+mod channels;
 #[cfg(test)]
 mod entering;
 #[cfg(test)]
-mod outside;
+mod incoming_conns;
 #[cfg(test)]
-mod passages;
+mod outside;
 #[cfg(test)]
 mod retries;

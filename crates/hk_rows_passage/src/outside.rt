@@ -10,7 +10,7 @@ use hk_hello::{
 };
 use hk_host_words::{GroupWords, NodeWords, Verbosity};
 use hk_hosts::{Address, DialAt, Ender, Patient, read_address, read_hosts};
-use hk_house::{House, Identity, Inbox, Standing, Telling};
+use hk_house::{Identity, Mailbox, SharedState, Standing, Telling};
 use hk_link::Outlet;
 use hk_outside::{Clock, Connection, Failed, MemorySource, Sink, Source};
 use std::alloc::Global;
@@ -100,13 +100,13 @@ fn standing(rt: &impl Abort, alloc: Global) -> Standing {
     standing
 }
 
-pub fn house<R: Wait + Abort + Copy + Drop>(
+pub fn shared<R: Wait + Abort + Copy + Drop>(
     rt: R,
     alloc: Global,
     manager: Option<Outlet>,
-) -> Arc<House<R, SetClock>> {
+) -> Arc<SharedState<R, SetClock>> {
     let clock = Arc::new(alloc, SetClock::new()).expect(&rt, "memory");
-    let house = House {
+    let shared = SharedState {
         rt,
         alloc,
         clock,
@@ -117,11 +117,11 @@ pub fn house<R: Wait + Abort + Copy + Drop>(
         },
         standing: Mutex::new(standing(&rt, alloc)),
         manager: Mutex::new(manager),
-        inbox: Inbox::new(alloc).expect(&rt, "memory"),
+        mailbox: Mailbox::new(alloc).expect(&rt, "memory"),
         is_out: AtomicBool::new(false),
         is_leaving: AtomicBool::new(false),
     };
-    Arc::new(alloc, house).expect(&rt, "memory")
+    Arc::new(alloc, shared).expect(&rt, "memory")
 }
 
 /// What others saw: how often somebody was dialled, and all that was written.

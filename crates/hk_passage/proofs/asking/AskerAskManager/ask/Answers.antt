@@ -16,9 +16,9 @@ returns-clause-asked g c =
       none_came = ap (λ (s : Standing). s.unread) c.new-conn.ensures;
     } in
     let none : c.args.self.now.conn ≡ None = search rules in
-    let said : Says (arc_value c.args.self.now.house).identity c.speaker_of-speaker.result.purpose c.speaker_of-speaker.result.from c.args.self.now.approach.to c.in_ok-call.call.hello = search rules in
-    let knocked : Knocks (Ok tt) (arc_value c.args.self.now.house).identity.secret c.in_ok-call.call.hello c.new-conn.result c.greet.new.conn = search rules in
+    let said : Says (arc_value c.args.self.now.shared).identity c.speaker_of-speaker.result.purpose c.speaker_of-speaker.result.from c.args.self.now.approach.to c.in_ok-call.call.hello = search rules in
+    let knocked : Knocks (Ok tt) (arc_value c.args.self.now.shared).identity.secret c.in_ok-call.call.hello c.new-conn.result c.greet.new.conn = search rules in
     let asked : Asks (Ok c.in_ok-answer.answer) c.args.inquiry.now c.greet.new.conn c.answer_on.new.conn = search rules in
-    let for_requests = says_requests (arc_value c.args.self.now.house).identity c.speaker_of-speaker.result.purpose c.speaker_of-speaker.result.from c.args.self.now.approach.to c.in_ok-call.call.hello c.speaker_of-speaker.ensures.purpose said in
-    let greeted = welcomed (arc_value c.args.self.now.house).identity.secret (SaysForRequests (arc_value c.args.self.now.house).identity c.args.self.now.approach.to) c.in_ok-call.call.hello c.new-conn.result c.greet.new.conn fresh for_requests knocked in
-    first_answer (arc_value c.args.self.now.house).identity.secret (SaysForRequests (arc_value c.args.self.now.house).identity c.args.self.now.approach.to) c.args.inquiry.now c.in_ok-answer.answer c.args.self.now.conn c.greet.new.conn c.answer_on.new.conn none greeted asked
+    let for_requests = says_requests (arc_value c.args.self.now.shared).identity c.speaker_of-speaker.result.purpose c.speaker_of-speaker.result.from c.args.self.now.approach.to c.in_ok-call.call.hello c.speaker_of-speaker.ensures.purpose said in
+    let greeted = welcomed (arc_value c.args.self.now.shared).identity.secret (SaysForRequests (arc_value c.args.self.now.shared).identity c.args.self.now.approach.to) c.in_ok-call.call.hello c.new-conn.result c.greet.new.conn fresh for_requests knocked in
+    first_answer (arc_value c.args.self.now.shared).identity.secret (SaysForRequests (arc_value c.args.self.now.shared).identity c.args.self.now.approach.to) c.args.inquiry.now c.in_ok-answer.answer c.args.self.now.conn c.greet.new.conn c.answer_on.new.conn none greeted asked

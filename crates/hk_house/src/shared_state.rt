@@ -5,7 +5,7 @@ ghost use Rattle.hk_house.specs.Identities.{ours_of};
 ghost use Rattle.hk_house.specs.Standings.{IsOwnTicket, IsLookedUp, IsReachedThen};
 
 use crate::identity::Identity;
-use crate::inbox::Inbox;
+use crate::mailbox::Mailbox;
 use crate::standing::Standing;
 use crate::telling::Telling;
 use hk_base::{Actor, Memory};
@@ -20,7 +20,7 @@ use std::sync::{Arc, Mutex, Wait};
 
 /// What the threads of a process share.
 #[derive(Drop)]
-pub struct House<R: Wait + Drop, C: Drop> {
+pub struct SharedState<R: Wait + Drop, C: Drop> {
     pub rt: R,
     pub alloc: Global,
     pub clock: Arc<C>,
@@ -33,14 +33,14 @@ pub struct House<R: Wait + Drop, C: Drop> {
     /// Where letters to its manager go in, once this is open. It is split for each connection that brings some.
     pub manager: Mutex<Option<Outlet>>,
     /// What comes to the loop of its manager.
-    pub inbox: Inbox,
+    pub mailbox: Mailbox,
     /// Whether the process is to end, since its node was left out.
     pub is_out: AtomicBool,
     /// Whether its node is leaving the group.
     pub is_leaving: AtomicBool,
 }
 
-impl<R: Wait + Drop, C: Drop> House<R, C> {
+impl<R: Wait + Drop, C: Drop> SharedState<R, C> {
     /// The number of the founding, 0 unless it is open.
     pub fn founding(&self) -> u64 {
         let guard = self.standing.lock(&self.rt);
@@ -75,7 +75,7 @@ impl<R: Wait + Drop, C: Drop> House<R, C> {
     }
 
     /// One outlet more to the manager of this process, if it takes letters and there is memory for it. Which place it has is for
-    /// [`House::look_up`] to tell.
+    /// [`SharedState::look_up`] to tell.
     pub fn manager_outlet(&self) -> Option<Outlet> {
         let mut guard = self.manager.lock(&self.rt);
         match &mut *guard {
@@ -129,12 +129,12 @@ impl<R: Wait + Drop, C: Drop> House<R, C> {
     }
 }
 
-impl<R: Wait + Drop, C: Drop> LookUp for House<R, C> {
+impl<R: Wait + Drop, C: Drop> LookUp for SharedState<R, C> {
     ghost use Rattle.hk_house.specs.Standings.{IsLookedUp};
 
-    ghost finds = { λ house. IsLookedUp house.identity };
+    ghost finds = { λ shared. IsLookedUp shared.identity };
 
     fn look_up(&self, hello: &Hello) -> LookedUp {
-        House::look_up(self, hello)
+        SharedState::look_up(self, hello)
     }
 }

@@ -7,14 +7,14 @@ ghost use Rattle.hk_link.specs.Ends.{IsSameLink};
 ghost use Rattle.hk_peer.specs.Serving.{Serves};
 ghost use Rattle.hk_passage.specs.Answering.{Answers, AreAnswered, EndsBehind};
 
-use crate::callers::{CallerWay, Callers};
 use crate::entry::NodeEntry;
+use crate::incoming_conns::{ConnUse, IncomingConns};
 use crate::ranges::is_in_range;
 use hk_base::Actor;
 use hk_greet::{Buffered, HearFault, RespondFault, admit, next_inquiry, respond};
 use hk_hello::{Challenge, Hello, Party, Purpose};
 use hk_hosts::{Ender, Patient};
-use hk_house::{Coming, House, Slot};
+use hk_house::{Coming, SharedState, Slot};
 use hk_inside::{Inquiry, Response};
 use hk_link::Outlet;
 use hk_outside::Clock;
@@ -46,13 +46,18 @@ pub enum RequestsEnd {
 }
 
 // What the manager answers, if it does within a lease.
-fn answer_of<R: Wait + Drop, C: Drop>(house: &House<R, C>, inquiry: Inquiry) -> Option<Response>
+fn answer_of<R: Wait + Drop, C: Drop>(
+    shared: &SharedState<R, C>,
+    inquiry: Inquiry,
+) -> Option<Response>
     ensures { IfSome result (λ response. IsResponseInRange response) }
 {
-    let slot = Arc::new(house.alloc, Slot::new()).ok()?;
+    let slot = Arc::new(shared.alloc, Slot::new()).ok()?;
     let own = Arc::try_clone(&slot).ok()?;
-    house.inbox.put(&house.rt, Coming::Asked { inquiry, slot });
-    let response = own.wait(&house.rt, u64::from(house.identity.lease))?;
+    shared
+        .mailbox
+        .put(&shared.rt, Coming::Asked { inquiry, slot });
+    let response = own.wait(&shared.rt, u64::from(shared.identity.lease))?;
     if is_in_range(&response) {
         Some(response)
     } else {
@@ -62,20 +67,20 @@ fn answer_of<R: Wait + Drop, C: Drop>(house: &House<R, C>, inquiry: Inquiry) -> 
 
 // Answers the next request of a connection.
 fn answer_next<R: Wait + Drop, C: Drop, N: Patient>(
-    house: &House<R, C>,
+    shared: &SharedState<R, C>,
     conn: &mut Buffered<N>,
 ) -> Result<(), RequestsEnd>
     ensures { Answers result conn.old conn.new }
 {
-    let inquiry = match next_inquiry(house.alloc, conn) {
+    let inquiry = match next_inquiry(shared.alloc, conn) {
         Ok(Some(inquiry)) => inquiry,
         Ok(None) => return Err(RequestsEnd::Over),
         Err(fault) => return Err(RequestsEnd::Unheard(fault)),
     };
-    let Some(response) = answer_of(house, inquiry) else {
+    let Some(response) = answer_of(shared, inquiry) else {
         return Err(RequestsEnd::Unanswered);
     };
-    match respond(house.alloc, conn, &response) {
+    match respond(shared.alloc, conn, &response) {
         Ok(()) => Ok(()),
         Err(fault) => Err(RequestsEnd::Unsent(fault)),
     }
@@ -84,13 +89,13 @@ fn answer_next<R: Wait + Drop, C: Drop, N: Patient>(
 // Answers the requests of a connection, to its end.
 #[tactic(auto, using(crate::proofs::Answered::none_answered, crate::proofs::Answered::ends_behind))]
 fn answer_requests<R: Wait + Drop, C: Drop, N: Patient>(
-    house: &House<R, C>,
+    shared: &SharedState<R, C>,
     conn: &mut Buffered<N>,
 ) -> RequestsEnd
     ensures { EndsBehind result conn.old conn.new }
 {
-    for _ in house.rt.forever() {
-        match answer_next(house, conn) {
+    for _ in shared.rt.forever() {
+        match answer_next(shared, conn) {
             Ok(()) => {}
             Err(end) => return end,
         }
@@ -100,7 +105,7 @@ fn answer_requests<R: Wait + Drop, C: Drop, N: Patient>(
 
 // Puts the letters of a connection from one actor to the manager of this process, to its end.
 fn take_letters<R: Wait + Drop, C: Drop, N: Patient>(
-    house: &House<R, C>,
+    shared: &SharedState<R, C>,
     conn: &mut Buffered<N>,
     from: Actor,
     to: Actor,
@@ -113,12 +118,19 @@ fn take_letters<R: Wait + Drop, C: Drop, N: Patient>(
         from: Some(from),
         to,
     };
-    serve_peer(&house.rt, house.alloc, conn, course, outlet, &mut Elsewhere)
+    serve_peer(
+        &shared.rt,
+        shared.alloc,
+        conn,
+        course,
+        outlet,
+        &mut Elsewhere,
+    )
 }
 
 // Serves a connection for letters, to its end, where this process has the actor to which they go.
 fn serve_letters<R: Wait + Drop, C: Drop, E: NodeEntry, N: Patient>(
-    house: &House<R, C>,
+    shared: &SharedState<R, C>,
     entry: &E,
     conn: &mut Buffered<N>,
     from: Actor,
@@ -126,8 +138,8 @@ fn serve_letters<R: Wait + Drop, C: Drop, E: NodeEntry, N: Patient>(
 ) {
     match to {
         Actor::Manager(_) => {
-            if let Some(mut outlet) = house.manager_outlet() {
-                take_letters(house, conn, from, to, &mut outlet);
+            if let Some(mut outlet) = shared.manager_outlet() {
+                take_letters(shared, conn, from, to, &mut outlet);
             }
         }
         Actor::Node(_) => {
@@ -142,20 +154,20 @@ fn serve_letters<R: Wait + Drop, C: Drop, E: NodeEntry, N: Patient>(
 
 // Serves a connection whose hello was taken.
 fn serve_welcome<R: Wait + Drop, C: Clock + Drop, E: NodeEntry, N: Patient>(
-    house: &House<R, C>,
+    shared: &SharedState<R, C>,
     entry: &E,
     conn: &mut Buffered<N>,
     hello: &Hello,
 ) {
-    let lease = u64::from(house.identity.lease);
+    let lease = u64::from(shared.identity.lease);
     match (hello.purpose, hello.from, hello.to) {
         (Purpose::Requests, _, _) => {
             conn.wait_at_most(SILENT_REQUESTS, lease);
-            answer_requests(house, conn);
+            answer_requests(shared, conn);
         }
         (Purpose::Letters, Party::Actor(from), Party::Actor(to)) => {
             conn.wait_at_most(SILENT_LETTERS, lease);
-            serve_letters(house, entry, conn, from, to);
+            serve_letters(shared, entry, conn, from, to);
         }
         _ => {}
     }
@@ -164,49 +176,49 @@ fn serve_welcome<R: Wait + Drop, C: Clock + Drop, E: NodeEntry, N: Patient>(
 // Whether the connection of this number is to be served, whose hello was taken. Earlier ones for the same are ended.
 fn is_welcome<R: Wait>(
     rt: &R,
-    callers: &Mutex<Callers>,
+    incoming: &Mutex<IncomingConns>,
     number: u64,
     hello: &Hello,
     ender: Ender,
 ) -> bool {
-    let way = CallerWay {
+    let conn_use = ConnUse {
         purpose: hello.purpose,
         from: hello.from,
         to: hello.to,
     };
-    let mut guard = callers.lock(rt);
-    let callers = &mut *guard;
-    callers.welcome(number, way, ender).unwrap_or(false)
+    let mut guard = incoming.lock(rt);
+    let incoming = &mut *guard;
+    incoming.welcome(number, conn_use, ender).unwrap_or(false)
 }
 
 /// Greets who made the connection of this number, and serves it to its end.
 pub fn serve<R: Wait + Drop, C: Clock + Drop, E: NodeEntry, N: Patient + Drop>(
-    house: &House<R, C>,
+    shared: &SharedState<R, C>,
     entry: &E,
     challenge: Challenge,
-    callers: &Mutex<Callers>,
+    incoming: &Mutex<IncomingConns>,
     number: u64,
     conn: N,
 ) {
-    let Ok(ours) = house.ours() else {
+    let Ok(ours) = shared.ours() else {
         return;
     };
     let Ok(ender) = conn.ender() else {
         return;
     };
-    let mut conn = Buffered::new(house.alloc, conn);
+    let mut conn = Buffered::new(shared.alloc, conn);
     let admitted = admit(
-        house.alloc,
-        &*house.clock,
+        shared.alloc,
+        &*shared.clock,
         &mut conn,
         challenge,
         &ours,
-        house,
+        shared,
     );
     let Ok(hello) = admitted else {
         return;
     };
-    if is_welcome(&house.rt, callers, number, &hello, ender) {
-        serve_welcome(house, entry, &mut conn, &hello);
+    if is_welcome(&shared.rt, incoming, number, &hello, ender) {
+        serve_welcome(shared, entry, &mut conn, &hello);
     }
 }

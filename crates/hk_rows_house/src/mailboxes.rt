@@ -1,6 +1,6 @@
 //! What waits for a manager's loop, and where answers are left.
 
-use hk_house::{Coming, Inbox, Slot};
+use hk_house::{Coming, Mailbox, Slot};
 use hk_inside::Response;
 use std::sync::Wait;
 
@@ -14,9 +14,9 @@ fn place_of(coming: Option<Coming>) -> Option<u8> {
 }
 
 // How many are taken until nothing waits, up to 2,000.
-fn count<R: Wait>(rt: &R, inbox: &Inbox) -> u32 {
+fn count<R: Wait>(rt: &R, mailbox: &Mailbox) -> u32 {
     for taken in 0..2_000 {
-        if inbox.take(rt).is_none() {
+        if mailbox.take(rt).is_none() {
             return taken;
         }
     }
@@ -25,23 +25,23 @@ fn count<R: Wait>(rt: &R, inbox: &Inbox) -> u32 {
 
 #[test]
 fn what_waited_longest_is_taken(rt: HostRuntime) {
-    let inbox = Inbox::new(rt.alloc()).expect(&rt, "memory");
-    inbox.put(&rt, Coming::Told { place: 4 });
-    inbox.put(&rt, Coming::Told { place: 2 });
-    assert_eq!(rt; inbox.bell.rings(), 2);
-    assert_eq!(rt; place_of(inbox.take(&rt)), Some(4));
-    assert_eq!(rt; place_of(inbox.take(&rt)), Some(2));
-    assert_eq!(rt; place_of(inbox.take(&rt)), None);
+    let mailbox = Mailbox::new(rt.alloc()).expect(&rt, "memory");
+    mailbox.put(&rt, Coming::Told { place: 4 });
+    mailbox.put(&rt, Coming::Told { place: 2 });
+    assert_eq!(rt; mailbox.bell.rings(), 2);
+    assert_eq!(rt; place_of(mailbox.take(&rt)), Some(4));
+    assert_eq!(rt; place_of(mailbox.take(&rt)), Some(2));
+    assert_eq!(rt; place_of(mailbox.take(&rt)), None);
 }
 
 #[test]
 fn no_more_wait_than_may(rt: HostRuntime) {
-    let inbox = Inbox::new(rt.alloc()).expect(&rt, "memory");
+    let mailbox = Mailbox::new(rt.alloc()).expect(&rt, "memory");
     for _turn in 0..1_025 {
-        inbox.put(&rt, Coming::Told { place: 1 });
+        mailbox.put(&rt, Coming::Told { place: 1 });
     }
-    assert_eq!(rt; inbox.bell.rings(), 1_024);
-    assert_eq!(rt; count(&rt, &inbox), 1_024);
+    assert_eq!(rt; mailbox.bell.rings(), 1_024);
+    assert_eq!(rt; count(&rt, &mailbox), 1_024);
 }
 
 #[test]

@@ -1,5 +1,5 @@
 use Rattle.hk_passage.proofs.Answered.{one_more}
-use Rattle.hk_passage.proofs.caller.answer_requests.Goals as goal
+use Rattle.hk_passage.proofs.serving.answer_requests.Goals as goal
 
 pub loop-preserved : goal.loop-preserved
 loop-preserved g c =

@@ -13,7 +13,7 @@ use hk_base::Actor;
 use hk_greet::Buffered;
 use hk_hello::{Party, Purpose};
 use hk_hosts::{DialAt, Patient};
-use hk_house::House;
+use hk_house::SharedState;
 use hk_link::Parcel;
 use hk_outside::Clock;
 use hk_peer::{Carrier, PromptCarrier, Prompted, SendFault, send_parcels};
@@ -24,22 +24,27 @@ use std::sync::{Arc, Wait};
 /// Leads from an actor of this process to another one. It dials and greets where it has no connection, and drops one on
 /// which writing failed.
 #[derive(Drop)]
-pub struct Passage<R: Wait + Drop, C: Drop, D: DialAt + Drop> {
-    house: Arc<House<R, C>>,
+pub struct Channel<R: Wait + Drop, C: Drop, D: DialAt + Drop> {
+    shared: Arc<SharedState<R, C>>,
     dialer: D,
     from: Actor,
     approach: Approach,
     conn: Option<Buffered<D::Conn>>,
 }
 
-impl<R: Wait + Drop, C: Drop, D: DialAt + Drop> Passage<R, C, D> {
+impl<R: Wait + Drop, C: Drop, D: DialAt + Drop> Channel<R, C, D> {
     /// No connection was made yet.
-    pub fn new(house: Arc<House<R, C>>, dialer: D, from: Actor, to: Actor) -> Passage<R, C, D>
+    pub fn new(
+        shared: Arc<SharedState<R, C>>,
+        dialer: D,
+        from: Actor,
+        to: Actor,
+    ) -> Channel<R, C, D>
         ensures { result.conn ≡ None }
     {
-        let pause = house.identity.beat();
-        Passage {
-            house,
+        let pause = shared.identity.beat();
+        Channel {
+            shared,
             dialer,
             from,
             approach: Approach::new(to, pause),
@@ -49,12 +54,12 @@ impl<R: Wait + Drop, C: Drop, D: DialAt + Drop> Passage<R, C, D> {
 }
 
 // What an actor says where it dials for letters, if it is one of this process.
-fn speaker_of<R: Wait + Drop, C: Drop>(house: &House<R, C>, from: Actor) -> Option<Speaker>
+fn speaker_of<R: Wait + Drop, C: Drop>(shared: &SharedState<R, C>, from: Actor) -> Option<Speaker>
     ensures purpose { IfSome result (λ speaker. speaker.purpose ≡ Purpose.Letters) }
     ensures from_actor { IfSome result (λ speaker. speaker.from ≡ Party.Actor from) }
-    ensures own { IfSome result (λ speaker. IsOwn house.now.identity speaker.from speaker.ticket) }
+    ensures own { IfSome result (λ speaker. IsOwn shared.now.identity speaker.from speaker.ticket) }
 {
-    let ticket = house.own_ticket(from)?;
+    let ticket = shared.own_ticket(from)?;
     Some(Speaker {
         purpose: Purpose::Letters,
         from: Party::Actor(from),
@@ -86,34 +91,34 @@ fn send_patiently<N: Patient>(alloc: Global, conn: &mut Buffered<N>, batch: &[Pa
     conn.catch_up().is_ok()
 }
 
-impl<R: Wait + Eprint + Drop, C: Clock + Drop, D: DialAt + Drop> Carrier for Passage<R, C, D> {
+impl<R: Wait + Eprint + Drop, C: Clock + Drop, D: DialAt + Drop> Carrier for Channel<R, C, D> {
     fn forward(&mut self, batch: &[Parcel])
-        ensures whole { HasWhole (arc_value self.old.house).identity.secret (SaysForLetters (arc_value self.old.house).identity self.old.from self.old.approach.to) (frames_of batch.now) self.old.conn self.new.conn }
-        ensures dials { Redials (arc_value self.old.house).identity self.old.approach.to (λ now. IfSome (C.reading (arc_value (arc_value self.old.house).clock)) (λ time. now ≡ time)) self.old.conn self.new.conn self.old.approach.retry self.new.approach.retry (D.addresses self.old.dialer) (D.addresses self.new.dialer) }
+        ensures whole { HasWhole (arc_value self.old.shared).identity.secret (SaysForLetters (arc_value self.old.shared).identity self.old.from self.old.approach.to) (frames_of batch.now) self.old.conn self.new.conn }
+        ensures dials { Redials (arc_value self.old.shared).identity self.old.approach.to (λ now. IfSome (C.reading (arc_value (arc_value self.old.shared).clock)) (λ time. now ≡ time)) self.old.conn self.new.conn self.old.approach.retry self.new.approach.retry (D.addresses self.old.dialer) (D.addresses self.new.dialer) }
     {
         if let Some(conn) = &mut self.conn {
-            if !send_patiently(self.house.alloc, conn, batch) {
+            if !send_patiently(self.shared.alloc, conn, batch) {
                 self.conn = None;
             }
             return;
         }
-        let Some(speaker) = speaker_of(&*self.house, self.from) else {
+        let Some(speaker) = speaker_of(&*self.shared, self.from) else {
             return;
         };
-        let Some(call) = self.approach.begin(&*self.house, speaker) else {
+        let Some(call) = self.approach.begin(&*self.shared, speaker) else {
             return;
         };
         let Ok(dialled) = self.dialer.dial(&call.address, DIAL_MILLIS) else {
             self.approach.unreached();
             return;
         };
-        let mut conn = Buffered::new(self.house.alloc, dialled);
-        let Ok(()) = self.approach.greet(&*self.house, call.hello, &mut conn) else {
+        let mut conn = Buffered::new(self.shared.alloc, dialled);
+        let Ok(()) = self.approach.greet(&*self.shared, call.hello, &mut conn) else {
             return;
         };
-        conn.wait_at_most(0, u64::from(self.house.identity.lease));
+        conn.wait_at_most(0, u64::from(self.shared.identity.lease));
         conn.write_promptly();
-        if send_patiently(self.house.alloc, &mut conn, batch) {
+        if send_patiently(self.shared.alloc, &mut conn, batch) {
             self.approach.retry.went_well();
             self.conn = Some(conn);
         }
@@ -147,9 +152,9 @@ fn send_now<N: Patient + Drop>(
 }
 
 impl<R: Wait + Eprint + Drop, C: Clock + Drop, D: DialAt + Drop> PromptCarrier
-    for Passage<R, C, D> {
+    for Channel<R, C, D> {
     fn forward_now(&mut self, batch: &[Parcel]) -> Prompted {
-        send_now(self.house.alloc, &mut self.conn, batch)
+        send_now(self.shared.alloc, &mut self.conn, batch)
     }
 }
 
@@ -159,17 +164,17 @@ pub trait AimedCarrier: PromptCarrier {
     fn aim(&mut self, to: Actor);
 }
 
-impl<R: Wait + Eprint + Drop, C: Clock + Drop, D: DialAt + Drop> AimedCarrier for Passage<R, C, D> {
+impl<R: Wait + Eprint + Drop, C: Clock + Drop, D: DialAt + Drop> AimedCarrier for Channel<R, C, D> {
     // It is as if it were made anew.
     fn aim(&mut self, to: Actor)
         ensures to { self.new.approach.to ≡ to }
-        ensures retry { self.new.approach.retry ≡ at_once (max ((arc_value self.old.house).identity.lease / 16) 10) }
+        ensures retry { self.new.approach.retry ≡ at_once (max ((arc_value self.old.shared).identity.lease / 16) 10) }
         ensures conn { self.new.conn ≡ None }
         ensures from { self.new.from ≡ self.old.from }
-        ensures house { self.new.house ≡ self.old.house }
+        ensures shared { self.new.shared ≡ self.old.shared }
         ensures dialer { self.new.dialer ≡ self.old.dialer }
     {
-        let pause = self.house.identity.beat();
+        let pause = self.shared.identity.beat();
         self.approach = Approach::new(to, pause);
         self.conn = None;
     }

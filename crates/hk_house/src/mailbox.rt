@@ -99,18 +99,18 @@ impl Waiting {
 
 /// What waits for a manager's loop, in its order: 1,024 at most.
 #[derive(Drop)]
-pub struct Inbox {
+pub struct Mailbox {
     waiting: Mutex<Waiting>,
     /// Rung for each; letters to the manager ring it too.
     pub bell: Arc<Bell>,
 }
 
-impl Inbox {
+impl Mailbox {
     /// Nothing waits.
-    pub fn new(alloc: Global) -> Result<Inbox, Memory> {
+    pub fn new(alloc: Global) -> Result<Mailbox, Memory> {
         let bell = Arc::new(alloc, Bell::new())?;
         let queue = VecDeque::new(alloc);
-        Ok(Inbox {
+        Ok(Mailbox {
             waiting: Mutex::new(Waiting { queue }),
             bell,
         })

@@ -8,21 +8,21 @@ use Rattle.hk_hello.specs.declared.hello.Purpose.{Purpose}
 use Rattle.hk_hello.specs.declared.hello.Purpose.TheVariants.{Letters, Requests}
 use Rattle.hk_hosts.specs.declared.ender.Ender.{Ender}
 use Rattle.hk_base.specs.declared.memory.Memory.{Memory}
-use Rattle.hk_passage.specs.declared.callers.Newcomer.{Newcomer}
-use Rattle.hk_passage.specs.declared.callers.Welcomed.{Welcomed}
-use Rattle.hk_passage.specs.declared.callers.CallerWay.{CallerWay}
-use Rattle.hk_passage.specs.declared.callers.Callers.{Callers}
-use Rattle.hk_passage.specs.declared.callers.TheConstants.{MOST_GREETINGS}
+use Rattle.hk_passage.specs.declared.incoming_conns.HalfOpen.{HalfOpen}
+use Rattle.hk_passage.specs.declared.incoming_conns.Welcomed.{Welcomed}
+use Rattle.hk_passage.specs.declared.incoming_conns.ConnUse.{ConnUse}
+use Rattle.hk_passage.specs.declared.incoming_conns.IncomingConns.{IncomingConns}
+use Rattle.hk_passage.specs.declared.incoming_conns.TheConstants.{MOST_GREETINGS}
 
 -- Where so many greetings are unfinished the oldest is ended.
-abbrev pub with_room : List Newcomer → List Newcomer
+abbrev pub with_room : List HalfOpen → List HalfOpen
 with_room greeting = if nat_le MOST_GREETINGS (length greeting) then drop 1 greeting else greeting
 
-abbrev pub is_newcomer : ℕ → Newcomer → Bool
-is_newcomer number other = other.number == number
+abbrev pub is_half_open : ℕ → HalfOpen → Bool
+is_half_open number other = other.number == number
 
-abbrev pub other_newcomers : ℕ → List Newcomer → List Newcomer
-other_newcomers number greeting = filter (λ other. not (is_newcomer number other)) greeting
+abbrev pub others_half_open : ℕ → List HalfOpen → List HalfOpen
+others_half_open number greeting = filter (λ other. not (is_half_open number other)) greeting
 
 abbrev pub is_welcomed : ℕ → Welcomed → Bool
 is_welcomed number other = other.number == number
@@ -46,30 +46,30 @@ same_purpose Requests Letters = false
 same_purpose Requests Requests = true
 
 -- a connection for the same, from the same actor and to the same one
-abbrev pub is_same_way : CallerWay → Welcomed → Bool
-is_same_way way other = same_purpose way.purpose other.way.purpose && same_end way.from other.way.from && same_end way.to other.way.to
+abbrev pub is_same_use : ConnUse → Welcomed → Bool
+is_same_use conn_use other = same_purpose conn_use.purpose other.conn_use.purpose && same_end conn_use.from other.conn_use.from && same_end conn_use.to other.conn_use.to
 
-abbrev pub other_ways : CallerWay → List Welcomed → List Welcomed
-other_ways way welcomed = filter (λ other. not (is_same_way way other)) welcomed
+abbrev pub other_uses : ConnUse → List Welcomed → List Welcomed
+other_uses conn_use welcomed = filter (λ other. not (is_same_use conn_use other)) welcomed
 
--- the hello of a connection was taken: it is no newcomer any more, and earlier ones for the same are ended
-pub record TakesOver (number : ℕ) (way : CallerWay) (ender : Ender) (c c' : Callers) : Type 0 where
-  pub newcomer : list_any (is_newcomer number) c.greeting.items ≡ true
-  pub greeting : c'.greeting.items ≡ other_newcomers number c.greeting.items
-  pub welcomed : c'.welcomed.items ≡ other_ways way c.welcomed.items ++ (record { number = number; way = way; ender = ender }) ∷ []
+-- the hello of a connection was taken: it is half-open no more, and earlier ones for the same are ended
+pub record TakesOver (number : ℕ) (conn_use : ConnUse) (ender : Ender) (c c' : IncomingConns) : Type 0 where
+  pub newcomer : list_any (is_half_open number) c.greeting.items ≡ true
+  pub greeting : c'.greeting.items ≡ others_half_open number c.greeting.items
+  pub welcomed : c'.welcomed.items ≡ other_uses conn_use c.welcomed.items ++ (record { number = number; conn_use = conn_use; ender = ender }) ∷ []
 
 -- it was ended meanwhile
-pub record IsEnded (number : ℕ) (c c' : Callers) : Type 0 where
-  pub gone : list_any (is_newcomer number) c.greeting.items ≡ false
+pub record IsEnded (number : ℕ) (c c' : IncomingConns) : Type 0 where
+  pub gone : list_any (is_half_open number) c.greeting.items ≡ false
   pub greeting : c'.greeting.items ≡ c.greeting.items
   pub welcomed : c'.welcomed.items ≡ c.welcomed.items
 
 -- where memory is wanting, all stays as it was
-pub record Stays (c c' : Callers) : Type 0 where
+pub record Stays (c c' : IncomingConns) : Type 0 where
   pub greeting : c'.greeting.items ≡ c.greeting.items
   pub welcomed : c'.welcomed.items ≡ c.welcomed.items
 
-abbrev pub Welcomes : Result Bool Memory → ℕ → CallerWay → Ender → Callers → Callers → Type 0
-Welcomes (Ok true) number way ender c c' = TakesOver number way ender c c'
-Welcomes (Ok false) number way ender c c' = IsEnded number c c'
-Welcomes (Err memory) number way ender c c' = Stays c c'
+abbrev pub Welcomes : Result Bool Memory → ℕ → ConnUse → Ender → IncomingConns → IncomingConns → Type 0
+Welcomes (Ok true) number conn_use ender c c' = TakesOver number conn_use ender c c'
+Welcomes (Ok false) number conn_use ender c c' = IsEnded number c c'
+Welcomes (Err memory) number conn_use ender c c' = Stays c c'

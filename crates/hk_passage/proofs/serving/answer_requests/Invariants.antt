@@ -1,5 +1,5 @@
 use Rattle.hk_passage.proofs.Answered.{SomeAnswered}
-use Rattle.hk_passage.proofs.caller.answer_requests.Given as goal
+use Rattle.hk_passage.proofs.serving.answer_requests.Given as goal
 
 abbrev pub invariant-loop : goal.invariant-loop
 invariant-loop g l =

@@ -2,7 +2,7 @@
 
 ghost use Rattle.std.specs.Prelude.{◌≡◌, ◌≤◌, ◌++◌, ◌∷◌, [], vec_len, vec_capacity, IfOk, OnOk, OnErr};
 ghost use Rattle.std.specs.List.{list_any};
-ghost use Rattle.hk_passage.specs.Callers.{with_room, is_newcomer, other_newcomers, others_welcomed, same_end, same_purpose, is_same_way, other_ways, Welcomes};
+ghost use Rattle.hk_passage.specs.Incoming.{with_room, is_half_open, others_half_open, others_welcomed, same_end, same_purpose, is_same_use, other_uses, Welcomes};
 
 use hk_base::{Actor, Memory};
 use hk_hello::{Party, Purpose};
@@ -14,14 +14,14 @@ const MOST_GREETINGS: usize = 64;
 
 /// A connection whose greeting is unfinished.
 #[derive(Drop)]
-pub struct Newcomer {
+pub struct HalfOpen {
     pub number: u64,
     pub ender: Ender,
 }
 
 /// For what a connection is, and from whom to whom.
 #[derive(Clone, Copy, Debug, PartialEq, Eq)]
-pub struct CallerWay {
+pub struct ConnUse {
     pub purpose: Purpose,
     pub from: Party,
     pub to: Party,
@@ -31,15 +31,15 @@ pub struct CallerWay {
 #[derive(Drop)]
 pub struct Welcomed {
     pub number: u64,
-    pub way: CallerWay,
+    pub conn_use: ConnUse,
     pub ender: Ender,
 }
 
 /// The connections that other processes made: those whose greeting is unfinished, the oldest in front, and the others.
 #[derive(Drop)]
-pub struct Callers {
+pub struct IncomingConns {
     next: u64,
-    greeting: Vec<Newcomer>,
+    greeting: Vec<HalfOpen>,
     welcomed: Vec<Welcomed>,
 }
 
@@ -81,16 +81,16 @@ fn same_purpose(one: Purpose, other: Purpose) -> bool
 }
 
 // Whether a connection is for the same, from the same actor and to the same one.
-fn is_same_way(way: CallerWay, other: &Welcomed) -> bool
-    ensures { result ≡ is_same_way way other.now }
+fn is_same_use(conn_use: ConnUse, other: &Welcomed) -> bool
+    ensures { result ≡ is_same_use conn_use other.now }
 {
-    same_purpose(way.purpose, other.way.purpose)
-        && same_end(way.from, other.way.from)
-        && same_end(way.to, other.way.to)
+    same_purpose(conn_use.purpose, other.conn_use.purpose)
+        && same_end(conn_use.from, other.conn_use.from)
+        && same_end(conn_use.to, other.conn_use.to)
 }
 
 // Ends the oldest greeting where so many are unfinished.
-fn make_room(greeting: &mut Vec<Newcomer>)
+fn make_room(greeting: &mut Vec<HalfOpen>)
     ensures items { greeting.new.items ≡ with_room greeting.old.items }
     ensures few { vec_len greeting.new ≤ vec_len greeting.old }
     ensures capacity { vec_capacity greeting.new ≡ vec_capacity greeting.old }
@@ -101,8 +101,8 @@ fn make_room(greeting: &mut Vec<Newcomer>)
     }
 }
 
-fn forget_newcomer(greeting: &mut Vec<Newcomer>, number: u64)
-    ensures items { greeting.new.items ≡ other_newcomers number greeting.old.items }
+fn forget_half_open(greeting: &mut Vec<HalfOpen>, number: u64)
+    ensures items { greeting.new.items ≡ others_half_open number greeting.old.items }
     ensures few { vec_len greeting.new ≤ vec_len greeting.old }
     ensures capacity { vec_capacity greeting.new ≡ vec_capacity greeting.old }
 {
@@ -118,26 +118,26 @@ fn forget_welcomed(welcomed: &mut Vec<Welcomed>, number: u64)
 }
 
 // Ends those that are for the same, from the same actor and to the same one.
-fn end_earlier(welcomed: &mut Vec<Welcomed>, way: CallerWay)
-    ensures items { welcomed.new.items ≡ other_ways way welcomed.old.items }
+fn end_earlier(welcomed: &mut Vec<Welcomed>, conn_use: ConnUse)
+    ensures items { welcomed.new.items ≡ other_uses conn_use welcomed.old.items }
     ensures few { vec_len welcomed.new ≤ vec_len welcomed.old }
     ensures capacity { vec_capacity welcomed.new ≡ vec_capacity welcomed.old }
 {
     for earlier in welcomed.iter() {
-        if is_same_way(way, earlier) {
+        if is_same_use(conn_use, earlier) {
             earlier.ender.end();
         }
     }
-    welcomed.retain(|other| !is_same_way(way, other));
+    welcomed.retain(|other| !is_same_use(conn_use, other));
 }
 
-impl Callers {
+impl IncomingConns {
     /// Nobody came yet.
-    pub fn new(alloc: Global) -> Callers
+    pub fn new(alloc: Global) -> IncomingConns
         ensures greeting { result.greeting.items ≡ [] }
         ensures welcomed { result.welcomed.items ≡ [] }
     {
-        Callers {
+        IncomingConns {
             next: 0,
             greeting: Vec::new(alloc),
             welcomed: Vec::new(alloc),
@@ -154,39 +154,43 @@ impl Callers {
         self.greeting.reserve(1)?;
         let number = self.next;
         make_room(&mut self.greeting);
-        self.greeting.push_reserved(Newcomer { number, ender });
+        self.greeting.push_reserved(HalfOpen { number, ender });
         self.next = self.next.wrapping_add(1);
         Ok(number)
     }
 
     // Whether the greeting of this number is unfinished.
     fn is_greeting(&self, number: u64) -> bool
-        ensures { result ≡ list_any (is_newcomer number) self.now.greeting.items }
+        ensures { result ≡ list_any (is_half_open number) self.now.greeting.items }
     {
         self.greeting.iter().any(|other| other.number == number)
     }
 
     /// The hello of the connection of this number was taken, and is for this. Earlier ones for the same, from the same actor and
     /// to the same one, are ended. It is false, and the connection not to be served, where it was ended meanwhile.
-    pub fn welcome(&mut self, number: u64, way: CallerWay, ender: Ender) -> Result<bool, Memory>
-        ensures { Welcomes result number way ender self.old self.new }
+    pub fn welcome(&mut self, number: u64, conn_use: ConnUse, ender: Ender) -> Result<bool, Memory>
+        ensures { Welcomes result number conn_use ender self.old self.new }
     {
         self.welcomed.reserve(1)?;
         if !self.is_greeting(number) {
             return Ok(false);
         }
-        forget_newcomer(&mut self.greeting, number);
-        end_earlier(&mut self.welcomed, way);
-        self.welcomed.push_reserved(Welcomed { number, way, ender });
+        forget_half_open(&mut self.greeting, number);
+        end_earlier(&mut self.welcomed, conn_use);
+        self.welcomed.push_reserved(Welcomed {
+            number,
+            conn_use,
+            ender,
+        });
         Ok(true)
     }
 
     /// The connection of this number has ended.
     pub fn forget(&mut self, number: u64)
-        ensures greeting { self.new.greeting.items ≡ other_newcomers number self.old.greeting.items }
+        ensures greeting { self.new.greeting.items ≡ others_half_open number self.old.greeting.items }
         ensures welcomed { self.new.welcomed.items ≡ others_welcomed number self.old.welcomed.items }
     {
-        forget_newcomer(&mut self.greeting, number);
+        forget_half_open(&mut self.greeting, number);
         forget_welcomed(&mut self.welcomed, number);
     }
 }

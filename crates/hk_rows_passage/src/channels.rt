@@ -1,14 +1,14 @@
 //! Passages for letters.
 
 use crate::outside::{
-    FakeDialer, Reached, Seen, SetClock, TICKET, dialer, greeting_of, hello, house, joined,
+    FakeDialer, Reached, Seen, SetClock, TICKET, dialer, greeting_of, hello, joined, shared,
 };
 use hk_base::{Actor, Body, Key, Letter, NodeId, Stamp};
 use hk_frame::print_letter;
 use hk_hello::{Party, Purpose};
-use hk_house::House;
+use hk_house::SharedState;
 use hk_link::Parcel;
-use hk_passage::{AimedCarrier, Passage};
+use hk_passage::{AimedCarrier, Channel};
 use hk_peer::Carrier;
 use std::alloc::Global;
 use std::collections::VecDeque;
@@ -46,7 +46,7 @@ fn frame_of(rt: &impl Abort, alloc: Global, parcel: &Parcel) -> Vec<u8> {
     frame
 }
 
-// What a passage says first, and what its acceptor says where it takes that.
+// What a channel says first, and what its acceptor says where it takes that.
 #[derive(Drop)]
 struct Talk {
     hello: Vec<u8>,
@@ -72,53 +72,53 @@ fn make_talk(rt: &impl Abort, alloc: Global) -> Talk {
     }
 }
 
-// A passage over these dials, and what is seen of it.
-fn passage<R: Wait + Abort + Copy + Send + Drop + 'static>(
+// A channel over these dials, and what is seen of it.
+fn channel<R: Wait + Abort + Copy + Send + Drop + 'static>(
     rt: R,
     alloc: Global,
-    house: &Arc<House<R, SetClock>>,
+    shared: &Arc<SharedState<R, SetClock>>,
     seen: &Arc<Seen>,
     reached: VecDeque<Reached>,
-) -> Passage<R, SetClock, FakeDialer<R>> {
-    let house = Arc::try_clone(house).expect(&rt, "memory");
-    Passage::new(house, dialer(rt, alloc, seen, reached), FROM, TO)
+) -> Channel<R, SetClock, FakeDialer<R>> {
+    let shared = Arc::try_clone(shared).expect(&rt, "memory");
+    Channel::new(shared, dialer(rt, alloc, seen, reached), FROM, TO)
 }
 
 #[test]
 fn who_is_not_reached_is_dialled_again_behind_a_pause(rt: HostRuntime) {
     let alloc = rt.alloc();
-    let house = house(rt, alloc, None);
+    let shared = shared(rt, alloc, None);
     let seen = Arc::new(alloc, Seen::new(alloc)).expect(&rt, "memory");
-    let mut passage = passage(rt, alloc, &house, &seen, VecDeque::new(alloc));
+    let mut channel = channel(rt, alloc, &shared, &seen, VecDeque::new(alloc));
     let batch = [letter(&rt, alloc)];
     for (at, dials) in [(0, 1), (61, 1), (62, 2), (185, 2), (186, 3)] {
-        house.clock.set(at);
-        passage.forward(&batch);
+        shared.clock.set(at);
+        channel.forward(&batch);
         assert_eq!(rt; seen.dials(), dials, "{at}");
-        assert!(rt; !passage.is_connected(), "{at}");
+        assert!(rt; !channel.is_connected(), "{at}");
     }
     assert!(rt; seen.is(&rt, b""));
 }
 
 #[test]
-fn a_passage_that_is_aimed_anew_dials_at_once(rt: HostRuntime) {
+fn a_channel_that_is_aimed_anew_dials_at_once(rt: HostRuntime) {
     let alloc = rt.alloc();
-    let house = house(rt, alloc, None);
+    let shared = shared(rt, alloc, None);
     let seen = Arc::new(alloc, Seen::new(alloc)).expect(&rt, "memory");
-    let mut passage = passage(rt, alloc, &house, &seen, VecDeque::new(alloc));
+    let mut channel = channel(rt, alloc, &shared, &seen, VecDeque::new(alloc));
     let batch = [letter(&rt, alloc)];
-    passage.forward(&batch);
-    passage.forward(&batch);
+    channel.forward(&batch);
+    channel.forward(&batch);
     assert_eq!(rt; seen.dials(), 1);
-    passage.aim(TO);
-    passage.forward(&batch);
+    channel.aim(TO);
+    channel.forward(&batch);
     assert_eq!(rt; seen.dials(), 2);
 }
 
 #[test]
 fn letters_stand_behind_the_welcome(rt: HostRuntime) {
     let alloc = rt.alloc();
-    let house = house(rt, alloc, None);
+    let shared = shared(rt, alloc, None);
     let seen = Arc::new(alloc, Seen::new(alloc)).expect(&rt, "memory");
     let talk = make_talk(&rt, alloc);
     let batch = [letter(&rt, alloc)];
@@ -130,23 +130,23 @@ fn letters_stand_behind_the_welcome(rt: HostRuntime) {
         writes: 3,
     };
     reached.push_back(first).expect(&rt, "memory");
-    let mut passage = passage(rt, alloc, &house, &seen, reached);
-    passage.forward(&batch);
-    passage.forward(&batch);
-    assert!(rt; passage.is_connected());
+    let mut channel = channel(rt, alloc, &shared, &seen, reached);
+    channel.forward(&batch);
+    channel.forward(&batch);
+    assert!(rt; channel.is_connected());
     assert!(rt; seen.is(&rt, &said));
     // A write fails: the connection is dropped, and the next letter dials at once.
-    passage.forward(&batch);
-    assert!(rt; !passage.is_connected());
+    channel.forward(&batch);
+    assert!(rt; !channel.is_connected());
     assert_eq!(rt; seen.dials(), 1);
-    passage.forward(&batch);
+    channel.forward(&batch);
     assert_eq!(rt; seen.dials(), 2);
 }
 
 #[test]
 fn nothing_but_the_hello_is_written_where_it_is_refused(rt: HostRuntime) {
     let alloc = rt.alloc();
-    let house = house(rt, alloc, None);
+    let shared = shared(rt, alloc, None);
     let seen = Arc::new(alloc, Seen::new(alloc)).expect(&rt, "memory");
     let talk = make_talk(&rt, alloc);
     // no such actor
@@ -157,11 +157,11 @@ fn nothing_but_the_hello_is_written_where_it_is_refused(rt: HostRuntime) {
         writes: 9,
     };
     reached.push_back(first).expect(&rt, "memory");
-    let mut passage = passage(rt, alloc, &house, &seen, reached);
+    let mut channel = channel(rt, alloc, &shared, &seen, reached);
     let batch = [letter(&rt, alloc)];
-    passage.forward(&batch);
-    passage.forward(&batch);
-    assert!(rt; !passage.is_connected());
+    channel.forward(&batch);
+    channel.forward(&batch);
+    assert!(rt; !channel.is_connected());
     assert!(rt; seen.is(&rt, &talk.hello));
     assert_eq!(rt; seen.dials(), 1);
 }
