@@ -246,14 +246,14 @@ class Hosts:
             raise Fault(f"{command.args[1]} does not end in {FOUNDING} s") from None
         return command.returncode, told, error
 
-    def found(self):
-        """Founds the group, and waits until each node serves clients. Gives the founding."""
+    def found(self, places=None):
+        """Founds the group, and waits until each node, or each of these places, serves clients. Gives the founding."""
         status, told, error = self.command("init")
         expect((status, error), (0, ""), "init")
         founding = FOUNDED.fullmatch(told)
         if not founding:
             raise Fault(f"init tells {told!r}")
-        for place in range(self.count):
+        for place in range(self.count) if places is None else places:
             self.wait_ready(place)
         return founding[1]
 

@@ -6,8 +6,9 @@ ghost use Rattle.hk_outside.specs.Causes.{Rose};
 use hk_accept::{Desks, MakeJob};
 use hk_base::Memory;
 use hk_hosts::{Address, DoorsAt};
-use hk_house::{SharedState, rest};
-use hk_outside::{Connection, Doors, Failed, Job, NoDialer};
+use hk_house::{Notice, SharedState, rest};
+use hk_outside::{Clock, Connection, Doors, Failed, Job, NoDialer};
+use std::io::Eprint;
 use std::sync::{Arc, Wait};
 
 // So long, in milliseconds, it is waited until a port is tried again that could not be opened.
@@ -65,20 +66,26 @@ pub(crate) fn can_open<D: DoorsAt>(doors: &mut D, address: &Address) -> bool
 }
 
 /// Opens the port of an address, as often as it takes, unless the process is to end: then it gives false. Whoever has it lets it go one day; until then the node serves its
-/// group, and clients at other hosts.
-pub(crate) fn open_in_time<R: Wait + Drop, C: Drop, D: DoorsAt>(
+/// group, and clients at other hosts. The operator is told that it is open, and once before that it is not.
+pub(crate) fn open_in_time<R: Wait + Eprint + Drop, C: Clock + Drop, D: DoorsAt>(
     shared: &SharedState<R, C>,
     doors: &mut D,
     address: &Address,
 ) -> bool
     ensures { D.left doors.new ≡ D.left doors.old }
 {
+    let mut is_told = false;
     for _ in shared.rt.forever() {
         if shared.is_out() {
             return false;
         }
         if doors.open(address).is_ok() {
+            shared.tell(&Notice::Listens { address });
             return true;
+        }
+        if !is_told {
+            shared.tell(&Notice::Shut { address });
+            is_told = true;
         }
         rest(&shared.rt, REST_MILLIS);
     }

@@ -8,6 +8,7 @@ use crate::shared_state::SharedState;
 use hk_base::{Actor, NodeId};
 use hk_hello::HelloRefusal;
 use hk_host_words::Verbosity;
+use hk_hosts::Address;
 use hk_outside::Clock;
 use std::fmt;
 use std::fmt::{Display, Formatter, Write};
@@ -67,7 +68,7 @@ impl Telling {
 }
 
 /// What a process tells its operator.
-#[derive(Clone, Copy, Debug)]
+#[derive(Clone, Copy)]
 pub enum Notice<'a> {
     /// The hellos are refused that are sent to an actor.
     Refused { to: Actor, refusal: HelloRefusal },
@@ -89,6 +90,10 @@ pub enum Notice<'a> {
     Copying { node: NodeId },
     /// The node serves clients.
     Ready { node: NodeId },
+    /// The port for clients is open.
+    Listens { address: &'a Address },
+    /// The port for clients can't be opened, and is tried again.
+    Shut { address: &'a Address },
     /// The node leaves the group, and serves no clients any more.
     Leaving { node: NodeId },
     /// The lease of the node is over, so it answers nothing.
@@ -102,13 +107,15 @@ impl<'a> Notice<'a> {
     pub fn level(&self) -> Level {
         match self {
             Notice::LogEnded | Notice::NoManager { .. } => Level::Error,
-            Notice::Refused { .. } | Notice::Gone { .. } | Notice::LeaseOver { .. } => {
-                Level::Warning
-            }
+            Notice::Refused { .. }
+            | Notice::Gone { .. }
+            | Notice::Shut { .. }
+            | Notice::LeaseOver { .. } => Level::Warning,
             Notice::Open { .. }
             | Notice::Begins { .. }
             | Notice::Back { .. }
             | Notice::Ready { .. }
+            | Notice::Listens { .. }
             | Notice::Leaving { .. }
             | Notice::LeaseBack { .. } => Level::Info,
             Notice::Seated { .. } | Notice::Copying { .. } => Level::Debug,
@@ -124,6 +131,13 @@ fn write_numbers<W: Write>(f: &mut Formatter<W>, nodes: &[NodeId]) -> fmt::Resul
         between = ", ";
     }
     Ok(())
+}
+
+fn write_address<W: Write>(f: &mut Formatter<W>, address: &Address) -> fmt::Result {
+    if let Ok(host) = str::from_utf8(address.host.as_slice()) {
+        f.write_str(host)?;
+    }
+    write!(f, ":{}", address.port)
 }
 
 fn write_refused<W: Write>(f: &mut Formatter<W>, to: Actor, refusal: HelloRefusal) -> fmt::Result {
@@ -156,6 +170,14 @@ impl<'a> Display for Notice<'a> {
             Notice::Seated { node } => write!(f, "node {} is seated", node.0),
             Notice::Copying { node } => write!(f, "node {} copies", node.0),
             Notice::Ready { node } => write!(f, "node {} is ready", node.0),
+            Notice::Listens { address } => {
+                f.write_str("clients are served at ")?;
+                write_address(f, address)
+            }
+            Notice::Shut { address } => {
+                write_address(f, address)?;
+                f.write_str(" can't be opened, and is tried again each second")
+            }
             Notice::Leaving { node } => write!(f, "node {} leaves", node.0),
             Notice::LeaseOver { node } => write!(f, "the lease of node {} is over", node.0),
             Notice::LeaseBack { node } => write!(f, "node {} has a lease again", node.0),

@@ -3,6 +3,7 @@
 use hk_base::{Actor, NodeId};
 use hk_hello::HelloRefusal;
 use hk_host_words::Verbosity;
+use hk_hosts::read_address;
 use hk_house::{Level, Moment, Notice, Telling};
 use std::alloc::Global;
 use std::process::Abort;
@@ -94,6 +95,20 @@ fn what_an_operator_must_know_has_its_text(rt: HostRuntime) {
     assert_eq!(rt;
         text(&rt, alloc, &Notice::Copying { node: NODE }).as_str(),
         "debug: node 3 copies"
+    );
+}
+
+#[test]
+fn where_clients_are_served_is_told(rt: HostRuntime) {
+    let alloc = rt.alloc();
+    let address = &read_address(alloc, "host-a:11212", 1).expect(&rt, "an address");
+    assert_eq!(rt;
+        text(&rt, alloc, &Notice::Listens { address }).as_str(),
+        "info: clients are served at host-a:11212"
+    );
+    assert_eq!(rt;
+        text(&rt, alloc, &Notice::Shut { address }).as_str(),
+        "warning: host-a:11212 can't be opened, and is tried again each second"
     );
 }
 
