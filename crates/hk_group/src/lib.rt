@@ -12,8 +12,8 @@
 //! no processor; who waits for an answer sleeps with one (`hk_worker`).
 //!
 //! A [`Member`] is one node alone, for a process whose group has its other nodes, and its managers, in other programs: its
-//! workers, what makes the desks of its clients, the link that leads to it, and a [`Way`] to each other node and each
-//! manager; or to managers alone, where others come and go ([`Member::among_managers`]): ways to nodes are put into its routes
+//! workers, what makes the desks of its clients, the link that leads to it, and a [`SendQueue`] to each other node and each
+//! manager; or to managers alone, where others come and go ([`Member::among_managers`]): queues to nodes are put into its routes
 //! then. [`found_node`] gives it the leases that `serve` gives, and [`found_without_lease`] some that are over: the managers
 //! have to grant it others first. [`found_joiner`] gives it no view and no rows: a [`Copier`] for each shard asks other members
 //! for these. A [`NodeWatch`] looks how the node stands.
@@ -26,12 +26,12 @@
 //! object's count rose (`door_fault`, `spawn_fault`). The list of names has the cells of each node (`AreNamed`), and
 //! there are as many as the group has (`found_nodes`). What the desk of a connection tells is what a post is told that is
 //! asked by a clock (`GroupDesk`: `told`). Before an ask its post may be led by other outlets, which changes nothing else
-//! (`AsksLed`, `BeginsLed`). A call that is told that the lease may be over may be asked again (`AsksAgain`, `BeginsAgain`). A [`Member`] has the stated number of workers, and of ways one for each node and manager but itself, or one for
-//! each manager (`workers`, `ways`). What `found_without_lease` gives are shards of a founder of the first view whose
+//! (`AsksLed`, `BeginsLed`). A call that is told that the lease may be over may be asked again (`AsksAgain`, `BeginsAgain`). A [`Member`] has the stated number of workers, and of queues one for each node and manager but itself, or one for
+//! each manager (`workers`, `queues`). What `found_without_lease` gives are shards of a founder of the first view whose
 //! first leases end at 0 (`founders`), and what `found_joiner` gives are new ones of a joiner (`joiners`).
 //!
 //! What no clause says: that the nodes of `serve` are the founders of the first view, which the code asks of
-//! `Shards::founders`; to whom a way leads; what a copier asks for, and how a node stands that is looked at; at which node a
+//! `Shards::founders`; to whom a queue leads; what a copier asks for, and how a node stands that is looked at; at which node a
 //! connection is served, that workers and managers run and how often they ring, when journals begin anew, and when and how
 //! often a call is asked again.
 #![tactic(auto)]
@@ -63,7 +63,7 @@ pub use desks::GroupDesks;
 pub use founding::{first_view, found_joiner, found_node, found_without_lease};
 pub use gate::Ending;
 pub use group::Group;
-pub use member::{Member, Running, Way};
+pub use member::{Member, Running, SendQueue};
 pub use reader::Reader;
 pub use server::{serve, start_each};
 pub use standing::NodeWatch;

@@ -20,9 +20,9 @@ use hk_worker::{Founded, Waits};
 use std::alloc::Global;
 use std::sync::{Arc, Wait};
 
-/// The way of parcels from the node to another one, or to a manager.
+/// The queue of parcels from the node to another one, or to a manager.
 #[derive(Drop)]
-pub struct Way {
+pub struct SendQueue {
     pub to: Actor,
     pub inlet: Inlet,
     /// What is put rings it.
@@ -38,8 +38,8 @@ pub struct Member<R: Wait + Drop, C: Drop, P: Places> {
     /// Leads to the node. Its workers take what is put.
     pub outlet: Outlet,
     /// One to each other node of which it knew as it was made, in the order of their numbers, and then one to each manager.
-    pub ways: Vec<Way>,
-    /// The outlets from the node, those of its ways at first. Its workers and its desks follow them.
+    pub queues: Vec<SendQueue>,
+    /// The outlets from the node, those of its queues at first. Its workers and its desks follow them.
     pub routes: Arc<Routes>,
     pub running: Running,
 }
@@ -66,55 +66,60 @@ impl Running {
     }
 }
 
-// The way to this actor.
-fn new_way(alloc: Global, to: Actor, lines: &mut Lines) -> Result<Way, Memory> {
+// The queue to this actor.
+fn new_queue(alloc: Global, to: Actor, lines: &mut Lines) -> Result<SendQueue, Memory> {
     let bell = Arc::new(alloc, Bell::new())?;
     let inlet = lines.add(alloc, to, &bell)?;
-    Ok(Way { to, inlet, bell })
+    Ok(SendQueue { to, inlet, bell })
 }
 
-// A way more to each node from one number on and below another.
-fn add_ways(
+// A queue more to each node from one number on and below another.
+fn add_queues(
     alloc: Global,
-    ways: &mut Vec<Way>,
+    queues: &mut Vec<SendQueue>,
     from: u8,
     end: u8,
     lines: &mut Lines,
 ) -> Result<(), Memory>
     requires { from ≤ end }
-    ensures { OnOk result (length ways.new.items + from ≡ length ways.old.items + end) }
+    ensures { OnOk result (length queues.new.items + from ≡ length queues.old.items + end) }
 {
     for number in from..end {
-        ways.push(new_way(alloc, Actor::Node(NodeId(u16::from(number))), lines)?)?;
+        queues.push(new_queue(alloc, Actor::Node(NodeId(u16::from(number))), lines)?)?;
     }
     Ok(())
 }
 
-// A way more to each of so many managers.
-fn add_manager_ways(
+// A queue more to each of so many managers.
+fn add_manager_queues(
     alloc: Global,
-    ways: &mut Vec<Way>,
+    queues: &mut Vec<SendQueue>,
     managers: u8,
     lines: &mut Lines,
 ) -> Result<(), Memory>
-    ensures { OnOk result (length ways.new.items ≡ length ways.old.items + managers) }
+    ensures { OnOk result (length queues.new.items ≡ length queues.old.items + managers) }
 {
     for number in 0..managers {
-        ways.push(new_way(alloc, Actor::Manager(number), lines)?)?;
+        queues.push(new_queue(alloc, Actor::Manager(number), lines)?)?;
     }
     Ok(())
 }
 
-// A way to each node of the group but the one of this number, and to each manager.
-fn new_ways(alloc: Global, number: u8, group: &Group, lines: &mut Lines) -> Result<Vec<Way>, Memory>
+// A queue to each node of the group but the one of this number, and to each manager.
+fn new_queues(
+    alloc: Global,
+    number: u8,
+    group: &Group,
+    lines: &mut Lines,
+) -> Result<Vec<SendQueue>, Memory>
     requires { number < group.now.nodes }
-    ensures { IfOk result (λ ways. length ways.items + 1 ≡ group.now.nodes + group.now.managers) }
+    ensures { IfOk result (λ queues. length queues.items + 1 ≡ group.now.nodes + group.now.managers) }
 {
-    let mut ways = Vec::new(alloc);
-    add_ways(alloc, &mut ways, 0, number, lines)?;
-    add_ways(alloc, &mut ways, number + 1, group.nodes, lines)?;
-    add_manager_ways(alloc, &mut ways, group.managers, lines)?;
-    Ok(ways)
+    let mut queues = Vec::new(alloc);
+    add_queues(alloc, &mut queues, 0, number, lines)?;
+    add_queues(alloc, &mut queues, number + 1, group.nodes, lines)?;
+    add_manager_queues(alloc, &mut queues, group.managers, lines)?;
+    Ok(queues)
 }
 
 // How long those wait who ask at a node of this group: where managers replace members, two lengths of a lease for a row and eight for an answer, in which the others
@@ -150,13 +155,17 @@ fn new_staff<
     Ok((workers, desks))
 }
 
-// A way to each manager of the group.
-fn ways_to_managers(alloc: Global, group: &Group, lines: &mut Lines) -> Result<Vec<Way>, Memory>
-    ensures { IfOk result (λ ways. length ways.items ≡ group.now.managers) }
+// A queue to each manager of the group.
+fn queues_to_managers(
+    alloc: Global,
+    group: &Group,
+    lines: &mut Lines,
+) -> Result<Vec<SendQueue>, Memory>
+    ensures { IfOk result (λ queues. length queues.items ≡ group.now.managers) }
 {
-    let mut ways = Vec::new(alloc);
-    add_manager_ways(alloc, &mut ways, group.managers, lines)?;
-    Ok(ways)
+    let mut queues = Vec::new(alloc);
+    add_manager_queues(alloc, &mut queues, group.managers, lines)?;
+    Ok(queues)
 }
 
 impl<
@@ -176,17 +185,17 @@ impl<
         requires named { node_names P.places founded.node ≡ names_of founded }
         requires number { number < group.now.nodes }
         ensures workers { IfOk result (λ member. length member.workers.items ≡ group.now.workers) }
-        ensures ways { IfOk result (λ member. length member.ways.items + 1 ≡ group.now.nodes + group.now.managers) }
+        ensures queues { IfOk result (λ member. length member.queues.items + 1 ≡ group.now.nodes + group.now.managers) }
     {
         let mut lines = Lines::new(alloc);
         let founded = founded.with_waits(waits_of(group));
         let ends = new_node_ends::<P>(alloc, founded, &mut lines)?;
         let shared = Shared::new(rt, alloc, clock)?;
-        let ways = new_ways(alloc, number, group, &mut lines)?;
-        Member::with_ways(shared, ends, ways, lines, EACH_READING, group)
+        let queues = new_queues(alloc, number, group, &mut lines)?;
+        Member::with_queues(shared, ends, queues, lines, EACH_READING, group)
     }
 
-    /// The same, but of the other nodes it does not know yet: ways to them are put into its routes as they come. Its workers raise its clock no sooner than `pause`
+    /// The same, but of the other nodes it does not know yet: queues to them are put into its routes as they come. Its workers raise its clock no sooner than `pause`
     /// milliseconds behind the last time.
     pub fn among_managers(
         rt: R,
@@ -198,27 +207,27 @@ impl<
     ) -> Result<Member<R, C, P>, Memory>
         requires named { node_names P.places founded.node ≡ names_of founded }
         ensures workers { IfOk result (λ member. length member.workers.items ≡ group.now.workers) }
-        ensures ways { IfOk result (λ member. length member.ways.items ≡ group.now.managers) }
+        ensures queues { IfOk result (λ member. length member.queues.items ≡ group.now.managers) }
     {
         let mut lines = Lines::new(alloc);
         let founded = founded.with_waits(waits_of(group));
         let ends = new_node_ends::<P>(alloc, founded, &mut lines)?;
         let shared = Shared::new(rt, alloc, clock)?;
-        let ways = ways_to_managers(alloc, group, &mut lines)?;
-        Member::with_ways(shared, ends, ways, lines, pause, group)
+        let queues = queues_to_managers(alloc, group, &mut lines)?;
+        Member::with_queues(shared, ends, queues, lines, pause, group)
     }
 
-    // The node with these ends, and these ways to others.
-    fn with_ways(
+    // The node with these ends, and these queues to others.
+    fn with_queues(
         shared: Shared<R, C>,
         ends: NodeEnds<P>,
-        ways: Vec<Way>,
+        queues: Vec<SendQueue>,
         mut lines: Lines,
         pause: u64,
         group: &Group,
     ) -> Result<Member<R, C, P>, Memory>
         ensures workers { IfOk result (λ member. length member.workers.items ≡ group.now.workers) }
-        ensures ways { IfOk result (λ member. member.ways ≡ ways) }
+        ensures queues { IfOk result (λ member. member.queues ≡ queues) }
     {
         let outlet = lines.split_first()?;
         let routes = lines.routes(shared.alloc)?;
@@ -228,7 +237,7 @@ impl<
             workers,
             desks,
             outlet,
-            ways,
+            queues,
             routes,
             running: Running {
                 ending,

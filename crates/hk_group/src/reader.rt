@@ -39,7 +39,7 @@ fn quiet(alloc: Global, outlets: Outlets) -> Result<Outlets, Memory> {
 }
 
 // A link, what takes from it, and the gate that lets a turn be made for each parcel.
-fn way_in(alloc: Global) -> Result<(Outlet, Inlet, Open), Memory> {
+fn gated_link(alloc: Global) -> Result<(Outlet, Inlet, Open), Memory> {
     let bell = Arc::new(alloc, Bell::new())?;
     let (outlet, inlet) = link(alloc, ROOM)?;
     let outlet = outlet.with_bell(Arc::try_clone(&bell)?);
@@ -59,7 +59,7 @@ impl<R: Wait + Drop, P: Places> Reader<R, P> {
         routes: Follower,
         outlets: Outlets,
     ) -> Result<(Outlet, Reader<R, P>), Memory> {
-        let (outlet, inlet, gate) = way_in(alloc)?;
+        let (outlet, inlet, gate) = gated_link(alloc)?;
         let mut inlets = Sequence::new(alloc);
         inlets.push(inlet)?;
         let load = Arc::try_clone(load)?;

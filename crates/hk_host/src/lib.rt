@@ -19,11 +19,11 @@ mod lanes;
 mod manager;
 mod metronome;
 mod node;
+mod queues;
 mod routing;
 mod sending;
 mod serve;
 mod watching;
-mod ways;
 
 pub use fault::ServeFault;
 pub use manager::{HostManager, Inside};

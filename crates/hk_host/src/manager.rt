@@ -7,9 +7,9 @@ ghost use Rattle.hk_host.specs.Starting.{Starts};
 use crate::fault::StartFault;
 use crate::lanes::start_lanes;
 use crate::metronome::BeatJob;
+use crate::queues::{ManagerQueues, rung_link};
 use crate::routing::RouteJob;
-use crate::sending::{Dialers, start_ways};
-use crate::ways::{ManagerWays, rung_link};
+use crate::sending::{Dialers, start_queues};
 use hk_base::{Actor, Memory};
 use hk_disk::LogFile;
 use hk_hosts::{DoorsAt, Random};
@@ -69,8 +69,8 @@ fn new_routes(alloc: Global, outlets: Outlets) -> Result<Arc<Routes>, Memory> {
     Ok(Arc::new(alloc, Routes::new(outlets))?)
 }
 
-// Starts what sends for the manager of this place, and what opens ways to nodes. It gives the outlets from the manager.
-fn start_manager_ways<
+// Starts what sends for the manager of this place, and what opens lanes to nodes. It gives the outlets from the manager.
+fn start_manager_queues<
     R: Wait + Eprint + Copy + Send + Sync + Drop + 'static,
     C: Clock + Send + Sync + Drop + 'static,
     E: Dialers,
@@ -85,14 +85,14 @@ fn start_manager_ways<
     requires { place < length (arc_value shared.now).identity.hosts }
     ensures { Starts (S.faults spawner.old) (S.faults spawner.new) result }
 {
-    let ManagerWays { outlets, ways } = ManagerWays::new(
+    let ManagerQueues { outlets, queues } = ManagerQueues::new(
         shared.alloc,
         place,
         shared.identity.managers(),
     )?;
     let own = Actor::Manager(place);
     let routes = new_routes(shared.alloc, outlets)?;
-    start_ways(shared, dialers, sending, spawner, own, ways)?;
+    start_queues(shared, dialers, sending, spawner, own, queues)?;
     let pool = start_lanes(shared, dialers, spawner, own)?;
     spawner.start_made(RouteJob::new(shared, None, &routes, pool))?;
     Ok(routes)
@@ -115,7 +115,7 @@ fn start_manager<
     requires { manager.place < length (arc_value shared.now).identity.hosts }
     ensures { Starts (S.faults spawner.old) (S.faults spawner.new) result }
 {
-    let routes = start_manager_ways(shared, manager.place, dialers, sending, spawner)?;
+    let routes = start_manager_queues(shared, manager.place, dialers, sending, spawner)?;
     spawner.start_made(BeatJob::new(shared, &shared.mailbox.bell, Vec::new(shared.alloc)))?;
     spawner.start_made(manager_job(shared, manager, &routes))?;
     Ok(())

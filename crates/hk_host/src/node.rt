@@ -11,7 +11,7 @@ use crate::fault::StartFault;
 use crate::lanes::start_lanes;
 use crate::metronome::BeatJob;
 use crate::routing::RouteJob;
-use crate::sending::{Dialers, start_ways};
+use crate::sending::{Dialers, start_queues};
 use crate::watching::WatchJob;
 use hk_base::{Actor, Memory, NodeId};
 use hk_group::{Group, GroupDesks, Member, start_each};
@@ -95,7 +95,7 @@ pub(crate) fn new_member<
     Member::<R, C, P>::among_managers(shared.rt, shared.alloc, clock, founded, pause.max(1), group)
 }
 
-// Starts what opens ways to other nodes as they come, and gives the lanes of these.
+// Starts what opens lanes to other nodes as they come, and gives these lanes.
 fn start_routing<
     R: Wait + Eprint + Copy + Send + Sync + Drop + 'static,
     C: DeskClock + Send + Sync + Drop + 'static,
@@ -234,7 +234,7 @@ fn start_beat<
     Ok(())
 }
 
-/// Starts what keeps the node going: its workers, a loop for each way to a manager, what opens ways to other nodes, the beat, and what copies and watches. What is
+/// Starts what keeps the node going: its workers, a loop for each queue to a manager, what opens lanes to other nodes, the beat, and what copies and watches. What is
 /// given makes the desks of its clients, and takes its letters.
 pub(crate) fn start_node<
     P: Places + Send + Sync + 'static,
@@ -257,13 +257,13 @@ pub(crate) fn start_node<
         workers,
         desks,
         outlet,
-        ways,
+        queues,
         routes,
         running: _running,
     } = member;
     let node = part.number();
     start_each(workers, spawner)?;
-    start_ways(shared, dialers, sending, spawner, Actor::Node(node), ways)?;
+    start_queues(shared, dialers, sending, spawner, Actor::Node(node), queues)?;
     let lanes = start_routing(shared, dialers, spawner, node, &routes)?;
     start_beat(shared, spawner, &desks, &outlet)?;
     stand(&**shared, node);

@@ -1,7 +1,7 @@
-//! The job that keeps the ways from an actor to the nodes of its group.
+//! The job that keeps the lanes from an actor to the nodes of its group.
 
 use crate::lanes::LanePool;
-use crate::ways::rung_link;
+use crate::queues::rung_link;
 use hk_base::{Actor, Memory, NodeId};
 use hk_house::{SharedState, rest};
 use hk_lanes::Lane;
@@ -11,19 +11,19 @@ use hk_passage::AimedCarrier;
 use hk_routes::Routes;
 use std::sync::{Arc, Wait};
 
-// A way stays for so many leases behind the last board that told its node: a node that is to be left out is a member of the view before for as long as that lasts.
+// A lane stays open for so many leases behind the last board that told its node: a node that is to be left out is a member of the view before for as long as that lasts.
 const LEASES: u64 = 4;
 
-// A way to a node.
+// A lane that leads to a node.
 #[derive(Drop)]
-struct OpenWay<X: Drop> {
+struct OpenLane<X: Drop> {
     node: NodeId,
     lane: Arc<Lane<X>>,
     // The reading at which the boards told the node last.
     told: u64,
 }
 
-/// Opens a way to each node whose number has a holder, and ends those to others. It looks at each beat at what the boards tell.
+/// Opens a lane to each node whose number has a holder, and ends those to others. It looks at each beat at what the boards tell.
 #[derive(Drop)]
 pub(crate) struct RouteJob<R: Wait + Drop, C: Drop, X: Drop> {
     shared: Arc<SharedState<R, C>>,
@@ -31,7 +31,7 @@ pub(crate) struct RouteJob<R: Wait + Drop, C: Drop, X: Drop> {
     own: Option<NodeId>,
     routes: Arc<Routes>,
     pool: LanePool<X>,
-    ways: Vec<OpenWay<X>>,
+    open: Vec<OpenLane<X>>,
 }
 
 fn is_node(node: NodeId, other: Option<NodeId>) -> bool {
@@ -49,7 +49,7 @@ fn nodes_told<R: Wait + Drop, C: Drop>(shared: &SharedState<R, C>) -> Result<Vec
 }
 
 impl<R: Wait + Drop, C: Clock + Drop, X: AimedCarrier + Drop> RouteJob<R, C, X> {
-    /// No way is open yet. `own` is the node that sends, if it is one.
+    /// No lane is open yet. `own` is the node that sends, if it is one.
     pub(crate) fn new(
         shared: &Arc<SharedState<R, C>>,
         own: Option<NodeId>,
@@ -61,23 +61,23 @@ impl<R: Wait + Drop, C: Clock + Drop, X: AimedCarrier + Drop> RouteJob<R, C, X> 
             own,
             routes: Arc::try_clone(routes)?,
             pool,
-            ways: Vec::new(shared.alloc),
+            open: Vec::new(shared.alloc),
         })
     }
 
-    // The place of the way to a node, if one is open.
+    // The place of the lane to a node, if one is open.
     fn place_of(&self, node: NodeId) -> Option<usize> {
-        self.ways.iter().position(|way| way.node.0 == node.0)
+        self.open.iter().position(|lane| lane.node.0 == node.0)
     }
 
-    // Notes that the boards tell the node, and gives whether a way to it is open.
+    // Notes that the boards tell the node, and gives whether a lane to it is open.
     fn is_open(&mut self, node: NodeId, now: u64) -> bool {
         let Some(place) = self.place_of(node) else {
             return false;
         };
-        match self.ways.get_mut(place) {
-            Some(way) => {
-                way.told = now;
+        match self.open.get_mut(place) {
+            Some(lane) => {
+                lane.told = now;
                 true
             }
             None => false,
@@ -97,13 +97,13 @@ impl<R: Wait + Drop, C: Clock + Drop, X: AimedCarrier + Drop> RouteJob<R, C, X> 
     fn begin(&mut self, lane: Arc<Lane<X>>, node: NodeId, now: u64) -> Result<Outlet, Memory> {
         let alloc = self.shared.alloc;
         let (outlet, inlet) = rung_link(alloc, lane.bell())?;
-        self.ways.reserve(1)?;
+        self.open.reserve(1)?;
         let Some(mut carrier) = self.pool.spare.pop() else {
             return Err(Memory);
         };
         carrier.aim(Actor::Node(node));
         lane.begin(&self.shared.rt, alloc, inlet, carrier);
-        self.ways.push_reserved(OpenWay {
+        self.open.push_reserved(OpenLane {
             node,
             lane,
             told: now,
@@ -111,8 +111,8 @@ impl<R: Wait + Drop, C: Clock + Drop, X: AimedCarrier + Drop> RouteJob<R, C, X> 
         Ok(outlet)
     }
 
-    // Opens a way to a node, where a lane is free and there is memory for it. Else that is tried again at the next beat.
-    fn open_way(&mut self, node: NodeId, now: u64) {
+    // Opens a lane to a node, where a lane is free and there is memory for it. Else that is tried again at the next beat.
+    fn open_lane(&mut self, node: NodeId, now: u64) {
         let Some(lane) = self.free_lane() else {
             return;
         };
@@ -125,15 +125,15 @@ impl<R: Wait + Drop, C: Clock + Drop, X: AimedCarrier + Drop> RouteJob<R, C, X> 
         }
     }
 
-    // Ends the way at this place, if there is one.
+    // Ends the lane at this place, if there is one.
     fn close_at(&mut self, place: usize) {
-        if place >= self.ways.len() {
+        if place >= self.open.len() {
             return;
         }
-        let way = self.ways.swap_remove(place);
-        let to = Actor::Node(way.node);
+        let open = self.open.swap_remove(place);
+        let to = Actor::Node(open.node);
         self.routes.remove(&self.shared.rt, to);
-        if let Some(carrier) = way.lane.end(&self.shared.rt) {
+        if let Some(carrier) = open.lane.end(&self.shared.rt) {
             self.keep(carrier, to);
         }
     }
@@ -145,22 +145,22 @@ impl<R: Wait + Drop, C: Clock + Drop, X: AimedCarrier + Drop> RouteJob<R, C, X> 
         let _ = self.pool.spare.push(carrier);
     }
 
-    // Ends the way to a node.
+    // Ends the lane to a node.
     fn close(&mut self, node: NodeId) {
         if let Some(place) = self.place_of(node) {
             self.close_at(place);
         }
     }
 
-    // The place of a way whose node was not told for long.
+    // The place of a lane whose node was not told for long.
     fn outworn(&self, now: u64) -> Option<usize> {
         let lasts = u64::from(self.shared.identity.lease).saturating_mul(LEASES);
-        self.ways
+        self.open
             .iter()
-            .position(|way| lasts < now.saturating_sub(way.told))
+            .position(|lane| lasts < now.saturating_sub(lane.told))
     }
 
-    // Ends one way whose node was not told for long. One a beat is enough.
+    // Ends one lane whose node was not told for long. One a beat is enough.
     fn close_outworn(&mut self, now: u64) {
         if let Some(place) = self.outworn(now) {
             self.close_at(place);
@@ -176,7 +176,7 @@ impl<R: Wait + Drop, C: Clock + Drop, X: AimedCarrier + Drop> RouteJob<R, C, X> 
         for node in &nodes {
             let node = *node;
             if !is_node(node, self.own) && !self.is_open(node, now) {
-                self.open_way(node, now);
+                self.open_lane(node, now);
             }
         }
         self.close_outworn(now);

@@ -4,7 +4,7 @@ ghost use Rattle.hk_host.specs.Starting.{Starts};
 
 use crate::fault::StartFault;
 use hk_base::{Actor, Memory};
-use hk_group::{Way, start_each};
+use hk_group::{SendQueue, start_each};
 use hk_hosts::DialAt;
 use hk_house::SharedState;
 use hk_link::Parcel;
@@ -65,24 +65,24 @@ fn carrier_to<R: Wait + Copy + Drop, C: Drop, E: Dialers>(
     })
 }
 
-// A loop for each of these ways from an actor of this process.
+// A loop for each of these queues from an actor of this process.
 fn send_jobs<R: Wait + Copy + Drop, C: Drop, E: Dialers>(
     shared: &Arc<SharedState<R, C>>,
     dialers: &E,
     sending: &mut Sending,
     from: Actor,
-    ways: Vec<Way>,
+    queues: Vec<SendQueue>,
 ) -> Result<Vec<SendJob<R, ManagerCarrier<R, C, E::Dialer>>>, Memory> {
     let mut jobs = Vec::new(shared.alloc);
-    for way in ways {
-        let carrier = carrier_to(shared, dialers, from, way.to)?;
-        jobs.push(sending.job(shared.rt, shared.alloc, carrier, way)?)?;
+    for queue in queues {
+        let carrier = carrier_to(shared, dialers, from, queue.to)?;
+        jobs.push(sending.job(shared.rt, shared.alloc, carrier, queue)?)?;
     }
     Ok(jobs)
 }
 
-/// Starts a loop for each of these ways from an actor of this process to managers.
-pub(crate) fn start_ways<
+/// Starts a loop for each of these queues from an actor of this process to managers.
+pub(crate) fn start_queues<
     R: Wait + Eprint + Copy + Send + Sync + Drop + 'static,
     C: Clock + Send + Sync + Drop + 'static,
     E: Dialers,
@@ -93,11 +93,11 @@ pub(crate) fn start_ways<
     sending: &mut Sending,
     spawner: &mut S,
     from: Actor,
-    ways: Vec<Way>,
+    queues: Vec<SendQueue>,
 ) -> Result<(), StartFault>
     ensures { Starts (S.faults spawner.old) (S.faults spawner.new) result }
 {
-    let jobs = send_jobs(shared, dialers, sending, from, ways)?;
+    let jobs = send_jobs(shared, dialers, sending, from, queues)?;
     start_each(jobs, spawner)?;
     Ok(())
 }

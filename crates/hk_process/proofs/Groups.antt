@@ -9,8 +9,8 @@ pub is_below : (p : Process) (g : Group) → g ≡ group_of p → IsProcess p �
 is_below p g same is = subst (λ (h : Group). p.id < h.nodes) (sym same) is.id
 
 -- what holds of the group that it founds its node in, which has no managers, is said of the process
-pub of_group : (p : Process) (g : Group) (workers ways : ℕ) → g ≡ group_of p → workers ≡ g.workers → ways + 1 ≡ g.nodes + g.managers → (workers ≡ p.workers) × (ways + 1 ≡ p.nodes)
-of_group p g workers ways same hired paths =
+pub of_group : (p : Process) (g : Group) (workers queues : ℕ) → g ≡ group_of p → workers ≡ g.workers → queues + 1 ≡ g.nodes + g.managers → (workers ≡ p.workers) × (queues + 1 ≡ p.nodes)
+of_group p g workers queues same hired paths =
     let none : p.nodes + 0 ≡ p.nodes = omega arith in
     (hired ∙ ap (λ (h : Group). h.workers) same, paths ∙ (ap (λ (h : Group). h.nodes + h.managers) same ∙ none))
 

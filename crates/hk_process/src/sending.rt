@@ -2,7 +2,7 @@
 
 use crossbeam_utils::sync::WaitGroup;
 use hk_base::{Memory, frame_length};
-use hk_group::{Ending, Way};
+use hk_group::{Ending, SendQueue};
 use hk_link::{Bell, Inlet, Parcel};
 use hk_outside::Job;
 use hk_peer::Carrier;
@@ -14,11 +14,11 @@ const PARCELS: u32 = 256;
 
 const BYTES: usize = 65_536;
 
-/// The loops that send, one for each way, and what ends them once all that was put is sent.
+/// The loops that send, one for each queue, and what ends them once all that was put is sent.
 #[derive(Drop)]
 pub struct Sending {
     ending: Arc<Ending>,
-    // Those of the ways.
+    // Those of the queues.
     bells: Vec<Arc<Bell>>,
     // Held by each loop until it has ended.
     jobs: WaitGroup,
@@ -34,20 +34,20 @@ impl Sending {
         })
     }
 
-    /// The loop over a way: what is put there it gives to the carrier. It is started by whoever has the job run.
+    /// The loop over a queue: what is put there it gives to the carrier. It is started by whoever has the job run.
     pub fn job<R: Wait + Drop, C: Drop>(
         &mut self,
         rt: R,
         alloc: Global,
         carrier: C,
-        way: Way,
+        queue: SendQueue,
     ) -> Result<SendJob<R, C>, Memory> {
-        self.bells.push(Arc::try_clone(&way.bell)?)?;
+        self.bells.push(Arc::try_clone(&queue.bell)?)?;
         Ok(SendJob {
             rt,
             alloc,
             carrier,
-            way,
+            queue,
             ending: Arc::try_clone(&self.ending)?,
             jobs: self.jobs.clone()?,
         })
@@ -68,13 +68,13 @@ impl Sending {
     }
 }
 
-/// Sends what is put into one way, as long as its [`Sending`] has not ended. It sleeps while nothing is.
+/// Sends what is put into one queue, as long as its [`Sending`] has not ended. It sleeps while nothing is.
 #[derive(Drop)]
 pub struct SendJob<R: Wait + Drop, C: Drop> {
     rt: R,
     alloc: Global,
     carrier: C,
-    way: Way,
+    queue: SendQueue,
     ending: Arc<Ending>,
     // Left when the job is over.
     jobs: WaitGroup,
@@ -143,15 +143,15 @@ impl<R: Wait + Send + Drop + 'static, C: Carrier + Send + Drop + 'static> Job fo
             rt,
             alloc,
             mut carrier,
-            way,
+            queue,
             ending,
             jobs,
         } = self;
-        let Way {
+        let SendQueue {
             mut inlet,
             bell,
             ..
-        } = way;
+        } = queue;
         let mut batch = Vec::new(alloc);
         go_on(&rt, &mut carrier, &mut inlet, &bell, &ending, &mut batch);
         drop(carrier);

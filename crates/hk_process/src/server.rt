@@ -16,7 +16,7 @@ use crate::route::Route;
 use crate::sending::{SendJob, Sending};
 use hk_accept::Desks;
 use hk_base::{Actor, Memory, NodeId};
-use hk_group::{Member, Way, first_view, found_node, start_each};
+use hk_group::{Member, SendQueue, first_view, found_node, start_each};
 use hk_link::{Bell, Outlet};
 use hk_locked::Places;
 use hk_outside::{Doors, Job, Spawner, Status};
@@ -40,22 +40,22 @@ fn send_jobs<R: Wait + Copy + Drop, D: Doors>(
     alloc: Global,
     doors: &D,
     process: &Process,
-    ways: Vec<Way>,
+    queues: Vec<SendQueue>,
     sending: &mut Sending,
 ) -> Result<Vec<SendJob<R, Route<D::Dialer>>>, Memory>
-    requires { length ways.items + 1 ≡ process.now.nodes }
+    requires { length queues.items + 1 ≡ process.now.nodes }
     ensures { IfOk result (λ jobs. length jobs.items + 1 ≡ process.now.nodes) }
 {
     let mut jobs = Vec::new(alloc);
-    for way in ways {
-        let port = process.port.saturating_add(number_of(way.to));
+    for queue in queues {
+        let port = process.port.saturating_add(number_of(queue.to));
         let route = Route {
             alloc,
             dialer: doors.dialer(),
             port,
             conn: None,
         };
-        jobs.push(sending.job(rt, alloc, route, way)?)?;
+        jobs.push(sending.job(rt, alloc, route, queue)?)?;
     }
     Ok(jobs)
 }
@@ -198,14 +198,14 @@ fn serve_node<
     workers: Vec<W>,
     desks: K,
     outlet: Outlet,
-    ways: Vec<Way>,
+    queues: Vec<SendQueue>,
     sending: &mut Sending,
     process: &Process,
     doors: &mut D,
     spawner: &mut S,
 ) -> Status
     requires workers { length workers.items ≡ process.now.workers }
-    requires ways { length ways.items + 1 ≡ process.now.nodes }
+    requires queues { length queues.items + 1 ≡ process.now.nodes }
     ensures ends { EndsServe result }
     ensures done { result ≡ Status.Done → HasTakenBeside (process_jobs process.now) (D.left doors.old) (D.left doors.new) (S.taken spawner.old) (S.taken spawner.new) (S.faults spawner.old) (S.faults spawner.new) process.now.conns }
     ensures closed { result ≡ Status.Done → D.closed doors.new ≡ true }
@@ -214,7 +214,7 @@ fn serve_node<
 {
     let node = NodeId(u16::from(process.id));
     let limit = new_limit(doors, process);
-    let senders = send_jobs(rt, alloc, doors, process, ways, sending);
+    let senders = send_jobs(rt, alloc, doors, process, queues, sending);
     let server = new_server(rt, alloc, node, outlet, desks, limit);
     serve_where(
         &rt, alloc, process, workers, senders, server, doors, spawner,
@@ -238,7 +238,7 @@ fn serve_member<
     spawner: &mut S,
 ) -> Status
     requires workers { length member.workers.items ≡ process.now.workers }
-    requires ways { length member.ways.items + 1 ≡ process.now.nodes }
+    requires queues { length member.queues.items + 1 ≡ process.now.nodes }
     ensures ends { EndsServe result }
     ensures done { result ≡ Status.Done → HasTakenBeside (process_jobs process.now) (D.left doors.old) (D.left doors.new) (S.taken spawner.old) (S.taken spawner.new) (S.faults spawner.old) (S.faults spawner.new) process.now.conns }
     ensures closed { result ≡ Status.Done → D.closed doors.new ≡ true }
@@ -249,7 +249,7 @@ fn serve_member<
         workers,
         desks,
         outlet,
-        ways,
+        queues,
         routes: _routes,
         running,
     } = member;
@@ -260,7 +260,7 @@ fn serve_member<
         workers,
         desks,
         outlet,
-        ways,
+        queues,
         &mut sending,
         process,
         doors,
