@@ -6,8 +6,8 @@ ghost use Rattle.hk_outside.specs.Causes.{Rose};
 use hk_accept::{Desks, MakeJob};
 use hk_base::Memory;
 use hk_hosts::{Address, DoorsAt};
-use hk_house::{Notice, SharedState, rest};
 use hk_outside::{Clock, Connection, Doors, Failed, Job, NoDialer};
+use hk_shared_state::{Notice, SharedState, rest};
 use std::io::Eprint;
 use std::sync::{Arc, Wait};
 

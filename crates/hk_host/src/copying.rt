@@ -2,9 +2,9 @@
 
 use hk_base::{Memory, NodeId};
 use hk_group::Copier;
-use hk_house::{SharedState, rest};
 use hk_locked::Places;
 use hk_outside::{Clock, Job};
+use hk_shared_state::{SharedState, rest};
 use std::sync::{Arc, Wait};
 
 // Behind so many beats in which no rows came another member is asked.

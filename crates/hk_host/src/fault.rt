@@ -3,8 +3,8 @@
 ghost use Rattle.std.specs.Prelude.{◌≡◌};
 
 use hk_base::Memory;
-use hk_house::LostTail;
 use hk_outside::{Failed, Status};
+use hk_shared_state::LostTail;
 use thiserror::Error;
 
 /// Why the jobs of a process were not all started.

@@ -1,9 +1,9 @@
 //! The job that gives the beat.
 
 use hk_base::Memory;
-use hk_house::{SharedState, rest};
 use hk_link::Bell;
 use hk_outside::Job;
+use hk_shared_state::{SharedState, rest};
 use hk_snap::LeaseCell;
 use std::sync::{Arc, Wait};
 

@@ -3,12 +3,12 @@
 use crate::lanes::LanePool;
 use crate::queues::rung_link;
 use hk_base::{Actor, Memory, NodeId};
-use hk_house::{SharedState, rest};
+use hk_channel::AimedCarrier;
 use hk_lanes::Lane;
 use hk_link::Outlet;
 use hk_outside::{Clock, Job};
-use hk_passage::AimedCarrier;
 use hk_routes::Routes;
+use hk_shared_state::{SharedState, rest};
 use std::sync::{Arc, Wait};
 
 // A lane stays open for so many leases behind the last board that told its node: a node that is to be left out is a member of the view before for as long as that lasts.

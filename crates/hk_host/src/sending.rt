@@ -4,14 +4,14 @@ ghost use Rattle.hk_host.specs.Starting.{Starts};
 
 use crate::fault::StartFault;
 use hk_base::{Actor, Memory};
+use hk_channel::Channel;
 use hk_group::{SendQueue, start_each};
 use hk_hosts::DialAt;
-use hk_house::SharedState;
 use hk_link::Parcel;
 use hk_outside::{Clock, Spawner};
-use hk_passage::Channel;
 use hk_peer::Carrier;
 use hk_process::{SendJob, Sending};
+use hk_shared_state::SharedState;
 use std::io::Eprint;
 use std::sync::{Arc, Wait};
 

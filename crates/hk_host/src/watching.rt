@@ -3,11 +3,11 @@
 use hk_base::NodeId;
 use hk_group::NodeWatch;
 use hk_hosts::{Address, DialAt};
-use hk_house::{Notice, Presence, SharedState, rest};
 use hk_inside::{Counts, NodeState};
 use hk_lanes::Tallies;
 use hk_locked::Places;
 use hk_outside::{Clock, Job};
+use hk_shared_state::{Notice, Presence, SharedState, rest};
 use std::io::Eprint;
 use std::sync::{Arc, Wait};
 

@@ -1,9 +1,9 @@
 //! How a command of a group over hosts ends.
 
 use hk_base::Memory;
-use hk_house::IdentityFault;
 use hk_managing::BeginFault;
 use hk_outside::Status;
+use hk_shared_state::IdentityFault;
 use thiserror::Error;
 
 /// Why a command did not do what it is for. Its text is for the person who started it.

@@ -6,8 +6,8 @@ use Rattle.hk_fields.specs.declared.tickets.Ticket.{Ticket}
 use Rattle.hk_stage.specs.Opening.{takes_letters}
 use Rattle.hk_roll.specs.Boards.{names}
 use Rattle.hk_roll.specs.Rolls.{Entries, bound}
-use Rattle.hk_house.specs.declared.standing.Standing.{Standing}
-use Rattle.hk_house.specs.Seeking.{by_places}
+use Rattle.hk_shared_state.specs.declared.standing.Standing.{Standing}
+use Rattle.hk_shared_state.specs.Seeking.{by_places}
 use Rattle.hk_office.specs.declared.office.Office.{Office}
 use Rattle.hk_office.specs.Stages.{number_of}
 

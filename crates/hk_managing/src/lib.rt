@@ -14,7 +14,7 @@
 //! The manager *acts*, that is its cores take letters and send them, once it is open, and a majority of the managers, itself
 //! counted, has answered reports that tell so. An open one that does not act yet answers reports, and how the group stands,
 //! but binds no number. Where a manager was told of more records than the log has, this manager never acts, and
-//! [`hk_house::Standing`] tells whoever ends the process.
+//! [`hk_shared_state::Standing`] tells whoever ends the process.
 //!
 //! Letters come to the cores by a [`Relay`]: of each ask for a lease it notes who asks, and of which view. At each beat,
 //! once a majority of the managers has answered for long enough, the office is asked what it wishes, by what was noted and
@@ -44,7 +44,7 @@
 //!
 //! What no clause says: which faults of a file are told when; what is left at a slot, and that it is the answer to what
 //! was asked there, which the code does in one place ([`Gathered::ask`]); when others of the process are told
-//! ([`hk_house::Standing`]); when the manager acts, and when it wishes; that the cores took what the relay put; that the step
+//! ([`hk_shared_state::Standing`]); when the manager acts, and when it wishes; that the cores took what the relay put; that the step
 //! was made by which a view is told as begun, for which memory may have been wanting; and how many records the log has.
 #![tactic(auto)]
 

@@ -4,14 +4,14 @@ ghost use Rattle.std.specs.Prelude.{◌≡◌};
 ghost use Rattle.hk_base.specs.declared.letter.Actor.TheVariants.{Manager};
 ghost use Rattle.hk_roll.specs.Boards.{names};
 ghost use Rattle.hk_roll.specs.Rolls.{bound};
-ghost use Rattle.hk_house.specs.Seeking.{by_places};
+ghost use Rattle.hk_shared_state.specs.Seeking.{by_places};
 ghost use Rattle.hk_managing.specs.Standing.{manager_of, is_founder, stands_open, stands};
 
 use hk_base::{Actor, NodeId};
 use hk_fields::Ticket;
-use hk_house::Standing;
 use hk_office::Office;
 use hk_roll::Roll;
+use hk_shared_state::Standing;
 
 // Whether just this ticket is named.
 fn names(ticket: Ticket, named: Option<Ticket>) -> bool
