@@ -1,3 +1,4 @@
 pub mod Journals
 pub mod Merging
 pub mod Assembling
+pub mod Storming
