@@ -1,7 +1,7 @@
 //! The program: it makes the real objects of the outside, makes the call that its words name, and ends with its status.
 //!
-//! Standard input records what it gave, and standard output what it took, both from nothing on, so the clauses of
-//! `hk_cli::hermes` speak of the real program.
+//! Standard input records what it gave, and standard output what it took, both from nothing on, and the doors tell how
+//! many connections they still give, so the clauses of `hk_cli::hermes` speak of the real program.
 #![tactic(auto)]
 
 mod notices;
@@ -9,6 +9,7 @@ mod notices;
 use crate::notices::{tell_beginning, tell_end, tell_host_mistake, tell_mistake};
 use hk_accept::LooseSpawner;
 use hk_cli::{hermes, read_command};
+use hk_doors::CountedDoors;
 use hk_host_words::{CommandName, Verbosity, named_command, read_host_command, take_verbosity};
 use hk_hosting::perform;
 use hk_outside::{ReaderSource, SteadyClock, TcpDoors, WriterSink};
@@ -62,7 +63,7 @@ fn main(rt: HostRuntime) -> io::Result<ExitCode> {
     let mut source = ReaderSource::new(rt.reader());
     let mut sink = WriterSink::new(io::writer(&rt));
     let clock = Arc::new(alloc, SteadyClock::new(rt))?;
-    let mut doors = TcpDoors::new(rt);
+    let mut doors = CountedDoors::new(TcpDoors::new(rt));
     let mut spawner = LooseSpawner::new(rt);
     let status = hermes(
         rt,
