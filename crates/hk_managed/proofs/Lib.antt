@@ -19,6 +19,7 @@ pub mod Convening
 pub mod Ticking
 pub mod Councils
 pub mod Pacing
+mod Refusing
 pub mod Viewing
 pub mod Running
 mod Working

@@ -170,7 +170,7 @@ module _ (w : WorldState) (sound : IsWorld w) where
       ap (λ (c : ClockState). c.skew) by.2 ∙ skew_kept (clocks_of w) by.0) (goes_by event is)
 
 -- ---- one event after the other
-first_at : (w : WorldState) (events : List Event) → world_at w events 0 ≡ w
+pub first_at : (w : WorldState) (events : List Event) → world_at w events 0 ≡ w
 first_at w [] = refl
 first_at w (event ∷ events) = refl
 
@@ -182,19 +182,19 @@ module _ (steps : StepKeepsSound) where
       at (Ok a) e = steps w event a sound is e
       at (Err refused) e = sound
 
-  sound_at : (w : WorldState) → IsWorld w → (events : List Event) → AllByRecursion IsEvent events → (i : ℕ) → IsWorld (world_at w events i)
+  pub sound_at : (w : WorldState) → IsWorld w → (events : List Event) → AllByRecursion IsEvent events → (i : ℕ) → IsWorld (world_at w events i)
   sound_at w sound [] are i = sound
   sound_at w sound (event ∷ events) are zero = sound
   sound_at w sound (event ∷ events) are (suc i) = sound_at (after w (world_step w event)) (sound_after w sound event are.0) events are.1 i
 
-  follow_at : (w : WorldState) → IsWorld w → (events : List Event) → AllByRecursion IsEvent events → (i : ℕ) → i < length events → Follows (clocks_of (world_at w events i)) (clocks_of (world_at w events (suc i)))
+  pub follow_at : (w : WorldState) → IsWorld w → (events : List Event) → AllByRecursion IsEvent events → (i : ℕ) → i < length events → Follows (clocks_of (world_at w events i)) (clocks_of (world_at w events (suc i)))
   follow_at w sound [] are i low = absurd (omega (arith, low))
   follow_at w sound (event ∷ events) are zero low =
       let next = after w (world_step w event) in
       subst (λ (z : WorldState). Follows (clocks_of w) (clocks_of z)) (sym (first_at next events)) (follows_by w sound event are.0)
   follow_at w sound (event ∷ events) are (suc i) low = follow_at (after w (world_step w event)) (sound_after w sound event are.0) events are.1 i (omega (arith, low))
 
-  skew_at : (w : WorldState) → IsWorld w → (events : List Event) → AllByRecursion IsEvent events → (i : ℕ) → (world_at w events i).skew ≡ w.skew
+  pub skew_at : (w : WorldState) → IsWorld w → (events : List Event) → AllByRecursion IsEvent events → (i : ℕ) → (world_at w events i).skew ≡ w.skew
   skew_at w sound [] are i = refl
   skew_at w sound (event ∷ events) are zero = refl
   skew_at w sound (event ∷ events) are (suc i) = skew_at (after w (world_step w event)) (sound_after w sound event are.0) events are.1 i ∙ skew_by w sound event are.0
@@ -214,7 +214,7 @@ module _ (at same : ℕ → Moment) (live : (i : ℕ) (a : Actor) → (same i).l
   }
 
 -- ---- founders' clocks lead over nobody
-no_leads : (actors : List Actor) (a b : Actor) → leads_in (pace_of (founding_paces actors) a) b ≡ 0
+pub no_leads : (actors : List Actor) (a b : Actor) → leads_in (pace_of (founding_paces actors) a) b ≡ 0
 no_leads [] a b = refl
 no_leads (x ∷ actors) a b = at (is_at (by_actor a) x) (no_leads actors a b)
   where

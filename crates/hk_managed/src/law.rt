@@ -3,6 +3,7 @@
 ghost use Rattle.hk_managed.specs.Council.{WorldsAgree};
 ghost use Rattle.hk_managed.specs.Guarded.{Earned, Guarded, ViewsStay};
 ghost use Rattle.hk_managed.specs.Rate.{WorldsKeepTheRate};
+ghost use Rattle.hk_managed.specs.Refusing.{WorldsRefuseExactly};
 ghost use Rattle.hk_managed.specs.Worked.{WorkedRun};
 
 use hk_council::managers_agree;
@@ -12,6 +13,13 @@ use hk_world::worlds_stay_sound;
 /// ten and the skew at most.
 pub fn clocks_of_worlds_keep_the_rate()
     ensures { WorldsKeepTheRate }
+{
+    worlds_stay_sound();
+}
+
+/// A tick is refused for the rate just where it would not be kept, and the first live actor with which it would not is told.
+pub fn worlds_refuse_exactly()
+    ensures { WorldsRefuseExactly }
 {
     worlds_stay_sound();
 }
