@@ -24,6 +24,7 @@ use hk_locked::Places;
 use hk_outside::Spawner;
 use hk_process::Sending;
 use hk_routes::Routes;
+use hk_shard::SHARDS;
 use hk_shared_state::{Identity, SharedState, copy_of};
 use hk_worker::{DeskClock, Founded};
 use std::io::Eprint;
@@ -31,8 +32,6 @@ use std::sync::{Arc, Wait};
 
 // The workers of a node raise its clock so often in a beat at most.
 const READINGS: u64 = 4;
-
-const SHARDS: u8 = 8;
 
 /// What the node of a process is.
 #[derive(Clone, Copy)]

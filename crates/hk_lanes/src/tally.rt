@@ -39,7 +39,7 @@ fn count(counter: &AtomicU64) {
     counter.fetch_add(1, Ordering::SeqCst);
 }
 
-fn counted(counter: &AtomicU64) -> u64 {
+fn value_of(counter: &AtomicU64) -> u64 {
     counter.load(Ordering::SeqCst)
 }
 
@@ -94,11 +94,11 @@ impl Tally {
     // With what was counted there too.
     fn with(self, counters: &Counters) -> Tally {
         Tally {
-            gets: self.gets.wrapping_add(counted(&counters.gets)),
-            sets: self.sets.wrapping_add(counted(&counters.sets)),
-            busy: self.busy.wrapping_add(counted(&counters.busy)),
-            aborted: self.aborted.wrapping_add(counted(&counters.aborted)),
-            unknown: self.unknown.wrapping_add(counted(&counters.unknown)),
+            gets: self.gets.wrapping_add(value_of(&counters.gets)),
+            sets: self.sets.wrapping_add(value_of(&counters.sets)),
+            busy: self.busy.wrapping_add(value_of(&counters.busy)),
+            aborted: self.aborted.wrapping_add(value_of(&counters.aborted)),
+            unknown: self.unknown.wrapping_add(value_of(&counters.unknown)),
         }
     }
 }
