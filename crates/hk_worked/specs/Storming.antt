@@ -31,4 +31,5 @@ pub record WorkedStorm : Type 0 where
       (Some ((codes "storm " ++ decimal 2 ++ codes " " ++ decimal 1 ++ codes " " ++ decimal 2 ++ codes "\n") ++
       (codes "answered " ++ decimal 2 ++ codes " busy " ++ decimal 0 ++ codes " aborted " ++ decimal 0 ++ codes " open " ++ decimal 0 ++ codes " legal\n")))
   -- without the note the second call was drawn once, and made no time
-  pub unasked : IsConcluded Status.Gap opts (left []) (Some []) (Some (codes "gap calls " ++ decimal 2 ++ codes " " ++ decimal 1 ++ codes " " ++ decimal 0 ++ codes "\n"))
+  pub unasked : IsConcluded Status.Gap opts (left []) (Some [])
+      (Some (codes "gap calls " ++ decimal 2 ++ codes " " ++ decimal 1 ++ codes " " ++ decimal 0 ++ codes "\n"))
