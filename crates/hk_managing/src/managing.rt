@@ -542,9 +542,9 @@ impl<R: Wait + Eprint + Drop, C: Clock + Drop, F: LogFile + Drop> ManagerJob<R, 
         }
     }
 
-    // One turn: what came is gathered, then it is made sure, and only then is anything of it told. After an error nothing is told any more. It gives whether more letters may
-    // wait.
-    fn turn(&mut self) -> Result<bool, Unlogged> {
+    /// One turn: what came is gathered, then it is made sure, and only then is anything of it told. After an error nothing is told any more. It gives whether more letters
+    /// may wait.
+    pub fn turn(&mut self) -> Result<bool, Unlogged> {
         let was_open = self.office.takes_letters();
         let gathered = self.gather()?;
         let more = self.pass_letters();

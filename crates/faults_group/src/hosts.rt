@@ -1,0 +1,194 @@
+//! How processes begin and end, and what they do at each beat.
+
+use crate::clock::Pace;
+use crate::disk::{Disk, DiskLog};
+use crate::happening::Happening;
+use crate::identity::identity_of;
+use crate::manager::{HostShared, Manager};
+use crate::mistake::Mistake;
+use crate::node::NodeShard;
+use crate::process::{Process, new_shared};
+use crate::world::World;
+use hk_base::Memory;
+use hk_inside::HostTickets;
+use std::io::Eprint;
+use std::sync::{Arc, Mutex, Wait};
+
+impl<R: Wait + Eprint + Copy + Drop> World<R> {
+    /// The processes of all hosts are to begin.
+    pub fn start_all(&mut self) -> Result<(), Memory> {
+        for host in 0..self.terms.hosts {
+            self.schedule(0, Happening::Start(host))?;
+        }
+        Ok(())
+    }
+
+    // How the clock of a process goes that begins now.
+    fn draw_pace(&mut self, at: usize) -> Pace {
+        let mut pace = Pace::new(&mut self.draws, self.now);
+        if self.mistake == Mistake::HastyClocks && at <= usize::from(self.terms.managers) / 2 {
+            pace.hurry(3);
+        }
+        pace
+    }
+
+    /// A process begins at a host where none runs.
+    pub fn start(&mut self, at: usize) -> Result<(), Memory> {
+        let drawn = HostTickets {
+            manager: self.draws.ticket(),
+            node: self.draws.ticket(),
+        };
+        let pace = self.draw_pace(at);
+        let Some(host) = self.hosts.get_mut(at) else {
+            return Ok(());
+        };
+        if host.running.is_some() || host.is_down {
+            return Ok(());
+        }
+        host.lives = host.lives.saturating_add(1);
+        if self.mistake == Mistake::EmptyDisks {
+            host.disk = Arc::new(self.alloc, Mutex::new(Disk::new(self.alloc)))?;
+        }
+        let log = DiskLog::new(self.rt, Arc::try_clone(&host.disk)?);
+        let identity = identity_of(self.alloc, &self.terms, at, drawn.node)?;
+        let shared = new_shared(self.rt, self.alloc, identity)?;
+        shared.clock.rise(pace.reading(self.now));
+        let manager = Manager::begin(&shared, log, drawn);
+        self.run(at, pace, shared, manager)
+    }
+
+    // The process runs, with its manager.
+    fn run(
+        &mut self,
+        at: usize,
+        pace: Pace,
+        shared: Arc<HostShared<R>>,
+        manager: Result<Option<Manager<R>>, Memory>,
+    ) -> Result<(), Memory> {
+        let manager = match manager {
+            Ok(manager) => manager,
+            Err(memory) => return Err(memory),
+        };
+        let Some(host) = self.hosts.get_mut(at) else {
+            return Ok(());
+        };
+        let life = host.lives;
+        host.running = Some(Process::new(at, life, pace, shared, manager));
+        self.schedule(0, Happening::Beat { host: at, life })
+    }
+
+    fn stop_disk(&mut self, at: usize) {
+        if let Some(host) = self.hosts.get(at) {
+            let mut guard = host.disk.lock(&self.rt);
+            let disk = &mut *guard;
+            disk.stop(&mut self.draws);
+        }
+    }
+
+    /// The process of a host ends.
+    pub fn end(&mut self, at: usize) {
+        let Some(host) = self.hosts.get_mut(at) else {
+            return;
+        };
+        if let Some(process) = &host.running {
+            let ran = self.now.saturating_sub(process.pace.born);
+            self.counts.ran = self.counts.ran.saturating_add(ran);
+        }
+        host.running = None;
+        self.stop_disk(at);
+    }
+
+    /// All processes end, and the group with them.
+    pub fn end_all(&mut self) {
+        for host in 0..self.terms.hosts {
+            self.end(host);
+        }
+        self.counts.groups = self.counts.groups.saturating_add(1);
+    }
+
+    /// The process of a host ends, and another one begins within so many milliseconds.
+    pub fn restart(&mut self, at: usize, within: u64) -> Result<(), Memory> {
+        self.end(at);
+        let delay = self.draws.within(1, within);
+        self.schedule(delay, Happening::Start(at))
+    }
+
+    /// A process looks how it stands, reports, and renews its leases.
+    pub fn beat(&mut self, at: usize, life: u64) -> Result<(), Memory> {
+        let (now, lease) = (self.now, self.lease());
+        let is_greedy = self.mistake == Mistake::SharedNumbers;
+        let Some(process) = self.process(at, life) else {
+            return Ok(());
+        };
+        let beat = process.shared.identity.beat();
+        if !process.look(now) {
+            return self.restart(at, lease);
+        }
+        let is_made = process.make_node(is_greedy)?;
+        let sent = process.beat(now)?;
+        if is_made {
+            self.note_node(at)?;
+        }
+        self.send_all(at, sent)?;
+        self.copy(at);
+        self.schedule_turn(at)?;
+        let delay = beat.saturating_add(self.draws.below(2));
+        self.schedule(delay, Happening::Beat { host: at, life })
+    }
+
+    // Notes who holds a number, and the views that a founder begins with.
+    fn note_node(&mut self, at: usize) -> Result<(), Memory> {
+        let Some(host) = self.hosts.get(at) else {
+            return Ok(());
+        };
+        let Some(process) = &host.running else {
+            return Ok(());
+        };
+        let Some(node) = &process.node else {
+            return Ok(());
+        };
+        self.judge
+            .note_holder(node.number, process.shared.identity.ticket)?;
+        for (shard, held) in (0..8).zip(node.shards.iter()) {
+            if let Some(view) = &held.view {
+                self.judge.note_begun(self.alloc, shard, view)?;
+            }
+        }
+        self.numbers.push(node.number)?;
+        self.counts.nodes = self.counts.nodes.saturating_add(1);
+        Ok(())
+    }
+
+    // Whether some host has all rows of a shard, in the view that it has at this host.
+    fn can_copy(&self, at: usize, shard: usize) -> bool {
+        let Some(host) = self.hosts.get(at) else {
+            return false;
+        };
+        let Some(taker) = host.held(shard) else {
+            return false;
+        };
+        let epoch = taker.epoch();
+        self.hosts.iter().any(|host| match host.held(shard) {
+            Some(giver) => giver.is_whole && giver.epoch() == epoch && epoch > 0,
+            None => false,
+        })
+    }
+
+    fn shard_of(&mut self, at: usize, shard: usize) -> Option<&mut NodeShard> {
+        let process = self.running(at)?;
+        let Some(node) = &mut process.node else {
+            return None;
+        };
+        node.shards.get_mut(shard)
+    }
+
+    // Shards that have a view but not all rows copy them, for some beats.
+    fn copy(&mut self, at: usize) {
+        for shard in 0..8 {
+            let is_copied = self.draws.happens(200) && self.can_copy(at, shard);
+            if let Some(held) = self.shard_of(at, shard) {
+                held.is_whole = held.is_whole || is_copied;
+            }
+        }
+    }
+}

@@ -1,0 +1,233 @@
+//! The manager of a process: the real one, and the ends of its links.
+
+ghost use Rattle.std.specs.Prelude.{IfOk};
+ghost use Rattle.hk_base.specs.View.{IsView};
+
+use crate::clock::HostClock;
+use crate::disk::DiskLog;
+use crate::happening::{Asker, Happening};
+use hk_base::{Actor, MAX_TIME, Memory, NodeId, Sequence, View};
+use hk_shared_state::{Coming, SharedState, Slot};
+use hk_inside::{HostTickets, Inquiry};
+use hk_link::{Inlet, Outlet, Parcel, link};
+use hk_managing::{ManagerJob, ManagerStart, begin_manager};
+use hk_outside::Clock;
+use hk_overseer::Outlets;
+use hk_restore::Terms;
+use hk_routes::Routes;
+use std::alloc::Global;
+use std::io::Eprint;
+use std::mem;
+use std::sync::{Arc, Wait};
+
+// Room for all letters of a turn.
+const ROOM: usize = 1_024;
+
+/// What the parts of a process share.
+pub type HostShared<R> = SharedState<R, HostClock>;
+
+/// The loop of a manager.
+pub type Job<R> = ManagerJob<R, HostClock, DiskLog<R>>;
+
+// Where an answer will be left, and until when it is waited for.
+#[derive(Drop)]
+struct Waiting {
+    asker: Asker,
+    until: u64,
+    slot: Arc<Slot>,
+}
+
+/// The manager of a process.
+#[derive(Drop)]
+pub struct Manager<R: Wait + Drop> {
+    /// Its loop, of which this makes the turns.
+    pub job: Job<R>,
+    inward: Outlet,
+    // Split for each actor to whom it sends.
+    outward: Outlet,
+    wire: Inlet,
+    routes: Arc<Routes>,
+    // To how many nodes letters go.
+    routed: usize,
+    waiting: Vec<Waiting>,
+}
+
+/// The first view of a group of one, three or five hosts.
+pub fn first_view(alloc: Global, hosts: u8) -> Result<View, Memory>
+    ensures { IfOk result IsView }
+{
+    let (members, next) = match hosts {
+        1 => ([NodeId(0)].to_vec(alloc)?, 1),
+        3 => ([NodeId(0), NodeId(1), NodeId(2)].to_vec(alloc)?, 3),
+        _ => (
+            [NodeId(0), NodeId(1), NodeId(2), NodeId(3), NodeId(4)].to_vec(alloc)?,
+            5,
+        ),
+    };
+    Ok(View {
+        epoch: 1,
+        members: Sequence::from_vec(members),
+        next,
+    })
+}
+
+// One outlet to each manager.
+fn split_for(alloc: Global, outward: &mut Outlet, managers: u8) -> Result<Outlets, Memory> {
+    let mut outlets = Outlets::new(alloc);
+    for place in 0..managers {
+        let outlet = outward.split()?;
+        outlets.push((Actor::Manager(place), outlet))?;
+    }
+    Ok(outlets)
+}
+
+// The job of a manager that begins so.
+fn made_job<R: Wait + Eprint + Copy + Drop>(
+    shared: Arc<HostShared<R>>,
+    clock: Arc<HostClock>,
+    start: ManagerStart<DiskLog<R>>,
+    inlet: Inlet,
+    routes: &Arc<Routes>,
+) -> Result<Option<Job<R>>, Memory> {
+    match ManagerJob::new(shared, start, inlet, routes, clock) {
+        Ok(job) => Ok(Some(job)),
+        Err(memory) => Err(memory),
+    }
+}
+
+// Begins by what the log has. There is none where the host has none, or its log is not taken up.
+fn begin_job<R: Wait + Eprint + Copy + Drop>(
+    shared: &Arc<HostShared<R>>,
+    log: DiskLog<R>,
+    drawn: HostTickets,
+    routes: &Arc<Routes>,
+    inlet: Inlet,
+) -> Result<Option<Job<R>>, Memory> {
+    let own = Arc::try_clone(shared)?;
+    let clock = Arc::try_clone(&shared.clock)?;
+    let identity = &shared.identity;
+    let managers = identity.managers();
+    let first = first_view(shared.alloc, managers)?;
+    let now = shared.clock.now().min(MAX_TIME);
+    let Some(place) = identity.place else {
+        return Ok(None);
+    };
+    if place >= managers {
+        return Ok(None);
+    }
+    let terms = Terms {
+        place,
+        managers,
+        lease: identity.lease,
+        skew: identity.skew,
+    };
+    match begin_manager(shared.alloc, log, terms, drawn, &first, now) {
+        Ok(start) => made_job(own, clock, start, inlet, routes),
+        Err(_) => Ok(None),
+    }
+}
+
+impl<R: Wait + Eprint + Copy + Drop> Manager<R> {
+    /// The manager of this process, by what its log has. There is none where the host has none, or its log is not taken
+    /// up.
+    pub fn begin(
+        shared: &Arc<HostShared<R>>,
+        log: DiskLog<R>,
+        drawn: HostTickets,
+    ) -> Result<Option<Manager<R>>, Memory> {
+        let alloc = shared.alloc;
+        let (inward, inlet) = link(alloc, ROOM)?;
+        let (mut outward, wire) = link(alloc, ROOM)?;
+        let outlets = split_for(alloc, &mut outward, shared.identity.managers())?;
+        let routes = Arc::new(alloc, Routes::new(outlets))?;
+        let begun = match begin_job(shared, log, drawn, &routes, inlet) {
+            Ok(begun) => begun,
+            Err(memory) => return Err(memory),
+        };
+        match begun {
+            Some(job) => Ok(Some(Manager {
+                job,
+                inward,
+                outward,
+                wire,
+                routes,
+                routed: 0,
+                waiting: Vec::new(alloc),
+            })),
+            None => Ok(None),
+        }
+    }
+
+    /// Letters go to the nodes of these numbers too from now on.
+    pub fn lead(&mut self, rt: &R, numbers: &[NodeId]) -> Result<(), Memory> {
+        for number in numbers.iter().skip(self.routed) {
+            let outlet = self.outward.split()?;
+            self.routes.add(rt, Actor::Node(*number), outlet)?;
+        }
+        self.routed = numbers.len();
+        Ok(())
+    }
+
+    /// A letter comes. It is lost where there is no room.
+    pub fn put(&mut self, rt: &R, parcel: Parcel) {
+        let _ = self.inward.put_quietly(rt, parcel);
+    }
+
+    /// Somebody asks, and waits until then.
+    pub fn ask(
+        &mut self,
+        shared: &HostShared<R>,
+        asker: Asker,
+        until: u64,
+        inquiry: Inquiry,
+    ) -> Result<(), Memory> {
+        let left = Arc::new(shared.alloc, Slot::new())?;
+        let slot = Arc::try_clone(&left)?;
+        self.waiting.push(Waiting { asker, until, slot })?;
+        let slot = left;
+        shared.mailbox.put(&shared.rt, Coming::Asked { inquiry, slot });
+        Ok(())
+    }
+
+    /// Puts the answers that were left. Who waited for too long waits no more.
+    pub fn put_answers(
+        &mut self,
+        shared: &HostShared<R>,
+        place: u8,
+        now: u64,
+        sent: &mut Vec<Happening>,
+    ) -> Result<(), Memory> {
+        let waiting = mem::replace(&mut self.waiting, Vec::new(shared.alloc));
+        for one in waiting {
+            match one.slot.wait(&shared.rt, 0) {
+                Some(response) => sent.push(Happening::Answer {
+                    asker: one.asker,
+                    place,
+                    response,
+                })?,
+                None => {
+                    if now < one.until {
+                        self.waiting.push(one)?;
+                    }
+                }
+            }
+        }
+        Ok(())
+    }
+
+    /// Puts the letters that it sent.
+    pub fn put_letters(
+        &mut self,
+        shared: &HostShared<R>,
+        sent: &mut Vec<Happening>,
+    ) -> Result<(), Memory> {
+        let founding = shared.founding();
+        for _letter in 0..ROOM {
+            let Some(parcel) = self.wire.take(&shared.rt) else {
+                return Ok(());
+            };
+            sent.push(Happening::Letter { founding, parcel })?;
+        }
+        Ok(())
+    }
+}
