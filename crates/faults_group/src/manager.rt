@@ -6,7 +6,7 @@ ghost use Rattle.hk_base.specs.View.{IsView};
 use crate::clock::HostClock;
 use crate::disk::DiskLog;
 use crate::happening::{Asker, Happening};
-use hk_base::{Actor, MAX_TIME, Memory, NodeId, Sequence, View};
+use hk_base::{Actor, MAX_TIME, Memory, NodeId, View};
 use hk_shared_state::{Coming, SharedState, Slot};
 use hk_inside::{HostTickets, Inquiry};
 use hk_link::{Inlet, Outlet, Parcel, link};
@@ -52,25 +52,6 @@ pub struct Manager<R: Wait + Drop> {
     waiting: Vec<Waiting>,
 }
 
-/// The first view of a group of one, three or five hosts.
-pub fn first_view(alloc: Global, hosts: u8) -> Result<View, Memory>
-    ensures { IfOk result IsView }
-{
-    let (members, next) = match hosts {
-        1 => ([NodeId(0)].to_vec(alloc)?, 1),
-        3 => ([NodeId(0), NodeId(1), NodeId(2)].to_vec(alloc)?, 3),
-        _ => (
-            [NodeId(0), NodeId(1), NodeId(2), NodeId(3), NodeId(4)].to_vec(alloc)?,
-            5,
-        ),
-    };
-    Ok(View {
-        epoch: 1,
-        members: Sequence::from_vec(members),
-        next,
-    })
-}
-
 // One outlet to each manager.
 fn split_for(alloc: Global, outward: &mut Outlet, managers: u8) -> Result<Outlets, Memory> {
     let mut outlets = Outlets::new(alloc);
@@ -107,7 +88,7 @@ fn begin_job<R: Wait + Eprint + Copy + Drop>(
     let clock = Arc::try_clone(&shared.clock)?;
     let identity = &shared.identity;
     let managers = identity.managers();
-    let first = first_view(shared.alloc, managers)?;
+    let first = View::first(shared.alloc, managers)?;
     let now = shared.clock.now().min(MAX_TIME);
     let Some(place) = identity.place else {
         return Ok(None);

@@ -11,6 +11,9 @@ use crate::stamp::{Kind, NodeId, Stamp};
 use crate::view::{Ballot, View, Voted};
 use std::alloc::Global;
 
+/// How many shards a node has. Each has letters of its own.
+pub const SHARDS: u8 = 8;
+
 /// Whoever sends and takes letters.
 #[derive(Clone, Copy, Debug, PartialEq, Eq, PartialOrd, Ord)]
 pub enum Actor {

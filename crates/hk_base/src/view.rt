@@ -1,7 +1,7 @@
 //! Views, which say who the members of a group are, and the ballots by which managers agree on them.
 
-ghost use Rattle.std.specs.Prelude.{◌≡◌, IfOk};
-ghost use Rattle.hk_base.specs.View.{is_member};
+ghost use Rattle.std.specs.Prelude.{◌≡◌, ◌≤◌, IfOk};
+ghost use Rattle.hk_base.specs.View.{IsView, counted, first_view, is_member};
 
 use crate::memory::Memory;
 use crate::sequence::Sequence;
@@ -19,7 +19,32 @@ pub struct View {
     pub next: u32,
 }
 
+// So many numbers from 0 on.
+fn counted(alloc: Global, nodes: u8) -> Result<Vec<NodeId>, Memory>
+    ensures { IfOk result (λ ids. ids.items ≡ counted 0 nodes) }
+{
+    let mut ids = Vec::new(alloc);
+    for number in 0..nodes {
+        ids.push(NodeId(u16::from(number)))?;
+    }
+    Ok(ids)
+}
+
 impl View {
+    /// The first view of a group of so many nodes: they are numbered from 0 on, and all are members.
+    #[tactic(auto, using(crate::proofs::Counting::first_is_view))]
+    pub fn first(alloc: Global, nodes: u8) -> Result<View, Memory>
+        ensures exact { IfOk result (λ view. view ≡ first_view nodes) }
+        ensures is_view { 1 ≤ nodes → nodes ≤ 16 → IfOk result IsView }
+    {
+        let members = counted(alloc, nodes)?;
+        Ok(View {
+            epoch: 1,
+            members: Sequence::from_vec(members),
+            next: u32::from(nodes),
+        })
+    }
+
     /// An equal view.
     pub fn copy(&self, alloc: Global) -> Result<View, Memory>
         ensures { IfOk result (λ view. view ≡ self.now) }

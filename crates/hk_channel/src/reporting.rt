@@ -7,7 +7,7 @@ ghost use Rattle.hk_inside.specs.Messages.{IsInquiryInRange};
 ghost use Rattle.hk_channel.specs.Reporting.{number_told, manager_told, lease_left, shards_told, fits, nodes_told, report_of, IsReport, IsAskedThen};
 
 use crate::asking::AskManager;
-use hk_base::{Memory, NodeId, Sequence};
+use hk_base::{Memory, NodeId, SHARDS, Sequence};
 use hk_boards::HeardBoard;
 use hk_fields::Ticket;
 use hk_inside::{Board, Inquiry, NodeSeen, NodesSeen, Report, Response, ShardsTold};
@@ -37,9 +37,6 @@ const NO_AGE: u32 = u32::MAX;
 
 // A report tells of so many nodes at most.
 const MOST_NODES: usize = 255;
-
-// The shards of a node.
-const SHARDS: u8 = 8;
 
 // The number as it is reported.
 fn number_told(node: Option<NodeId>) -> Option<NodeId>

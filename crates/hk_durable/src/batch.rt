@@ -8,7 +8,7 @@ ghost use Rattle.hk_manager.specs.declared.event.ManagerEvent.TheVariants.{Recei
 ghost use Rattle.hk_durable.specs.Batches.{IsNote, IsUnsaid, IsGivenEvent, list_of, entries_of, may_begin, event_of, with_clocks, at_rest, IsMadeOrNot, TakeAll, IsFulfilled, FulfilFrom};
 
 use crate::managers::Managers;
-use hk_base::{Change, Letters, Memory};
+use hk_base::{Change, Letters, Memory, SHARDS};
 use hk_link::Parcel;
 use hk_log::{Entry, is_of_paxos};
 use hk_manager::ManagerEvent;
@@ -16,7 +16,6 @@ use std::alloc::Global;
 use std::marker::Model;
 use std::mem;
 
-const SHARDS: u8 = 8;
 
 /// What a manager is to do of itself.
 #[derive(Clone, Copy, Debug, PartialEq, Eq)]

@@ -10,13 +10,12 @@ ghost use Rattle.hk_manager.specs.Steps.{manager_step, manager_ticks};
 ghost use Rattle.hk_manager.specs.Outs.{IsStepOf};
 ghost use Rattle.hk_durable.specs.Batches.{ticked, may_begin, IsStepAt, IsRefusal};
 
-use hk_base::{Letters, Memory, View};
+use hk_base::{Letters, Memory, SHARDS, View};
 use hk_lease::wait;
 use hk_manager::{Manager, ManagerEvent, ManagerFault, ManagerOut, steps_keep_managers};
 use std::alloc::Global;
 use std::marker::Model;
 
-const SHARDS: usize = 8;
 
 /// The managers of one number, one for each of eight shards. Contracts see them in the order of their shards.
 #[derive(Drop)]

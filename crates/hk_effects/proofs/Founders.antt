@@ -5,7 +5,7 @@ use Rattle.std.specs.Ordering.{is_eq}
 use Rattle.std.proofs.lemmas.Bool.{false≢true}
 use Rattle.hk_base.specs.declared.stamp.NodeId.{NodeId}
 use Rattle.hk_base.specs.declared.view.View.{View}
-use Rattle.hk_base.specs.View.{member_numbers}
+use Rattle.hk_base.specs.View.{member_numbers, counted}
 use Rattle.hk_register.specs.Machine.{In, WaitingUpdate, Mark, RegisterState}
 use Rattle.hk_register.specs.Effects.{Has, row_mark}
 use Rattle.hk_register.specs.Runs.{founder, absent}
@@ -17,7 +17,7 @@ use Rattle.hk_event.specs.declared.event.Header.{Header}
 use Rattle.hk_world.specs.declared.process.Process.{Process}
 use Rattle.hk_world.specs.declared.process.ManagerProcess.{ManagerProcess}
 use Rattle.hk_world.specs.World.{process_at, manager_at, by_number, node_of, numbered}
-use Rattle.hk_world.specs.Start.{counted, founding_view, founding_process, founding_manager, start}
+use Rattle.hk_world.specs.Start.{founding_view, founding_process, founding_manager, start}
 use Rattle.hk_world.specs.Sound.{IsHeader, IsWorld}
 use Rattle.hk_effects.specs.Projection.{key_node, node_at, project}
 use Rattle.hk_effects.specs.Own.{IsOwn, IsTrace, Agrees}

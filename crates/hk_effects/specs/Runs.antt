@@ -6,7 +6,8 @@ use Rattle.hk_register.specs.Parts.{Parts}
 use Rattle.hk_register.specs.Calls.{CallParts}
 use Rattle.hk_event.specs.declared.event.Header.{Header}
 use Rattle.hk_event.specs.declared.event.Event.{Event}
-use Rattle.hk_world.specs.Start.{start, counted}
+use Rattle.hk_base.specs.View.{counted}
+use Rattle.hk_world.specs.Start.{start}
 use Rattle.hk_world.specs.Steps.{Accepted, world_step}
 use Rattle.hk_world.specs.Sound.{IsHeader, IsEvent}
 use Rattle.hk_effects.specs.Projection.{Trace, project, traced}

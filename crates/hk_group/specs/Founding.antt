@@ -1,9 +1,8 @@
 -- What a group is, and its founders.
-use Rattle.std.specs.Prelude.{◌≡◌, ℕ, zero, suc, ◌+◌, ◌≤◌, List, [], ◌∷◌}
+use Rattle.std.specs.Prelude.{◌≡◌, ℕ, ◌≤◌, List}
 use Rattle.std.specs.List.{AllByRecursion}
-use Rattle.hk_base.specs.declared.stamp.NodeId.{NodeId}
 use Rattle.hk_base.specs.declared.time.TheConstants.{MAX_TIME}
-use Rattle.hk_base.specs.declared.view.View.{View}
+use Rattle.hk_base.specs.View.{first_view}
 use Rattle.hk_node.specs.Made.{founder}
 use Rattle.hk_shard.specs.Shard.{ShardState, IsNew}
 use Rattle.hk_group.specs.declared.group.Group.{Group}
@@ -15,15 +14,6 @@ pub record IsGroup (g : Group) : Type 0 where
   pub few_managers : g.managers ≤ 9
   pub lease : g.lease ≤ MAX_TIME
   pub skew : g.skew ≤ MAX_TIME
-
--- so many numbers from n on
-abbrev pub counted : ℕ → ℕ → List NodeId
-counted n zero = []
-counted n (suc k) = record { 0 = n } ∷ counted (n + 1) k
-
--- the first view has all founders as its members
-abbrev pub first_view : ℕ → View
-first_view nodes = record { epoch = 1; members = counted 0 nodes; next = nodes }
 
 -- at each of these shards nothing has happened yet: its node is a founder of this number, in the first view, whose first leases end at `first_end`
 abbrev pub AreFounders : Group → ℕ → ℕ → List ShardState → Type 0

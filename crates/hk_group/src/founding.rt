@@ -6,36 +6,14 @@ ghost use Rattle.hk_base.specs.declared.time.TheConstants.{MAX_TIME};
 ghost use Rattle.hk_node.specs.Made.{joiner};
 ghost use Rattle.hk_shard.specs.Shard.{IsNew};
 ghost use Rattle.hk_worker.specs.Founding.{names_of, names_of_cells, AreNamed};
-ghost use Rattle.hk_group.specs.Founding.{AreFounders, IsGroup, counted, first_view};
+ghost use Rattle.hk_base.specs.View.{first_view};
+ghost use Rattle.hk_group.specs.Founding.{AreFounders, IsGroup};
 
 use crate::group::Group;
-use hk_base::{MAX_TIME, Members, Memory, NodeId, View};
+use hk_base::{MAX_TIME, Memory, NodeId, View};
 use hk_worker::{Founded, NodeCells, Tickets};
 use std::alloc::Global;
 use std::sync::{Arc, Wait};
-
-// So many numbers from 0 on.
-fn counted(alloc: Global, nodes: u8) -> Result<Vec<NodeId>, Memory>
-    ensures { IfOk result (λ ids. ids.items ≡ counted 0 nodes) }
-{
-    let mut ids = Vec::new(alloc);
-    for number in 0..nodes {
-        ids.push(NodeId(u16::from(number)))?;
-    }
-    Ok(ids)
-}
-
-/// The first view of a group of so many nodes.
-pub fn first_view(alloc: Global, nodes: u8) -> Result<View, Memory>
-    ensures { IfOk result (λ view. view ≡ first_view nodes) }
-{
-    let members = counted(alloc, nodes)?;
-    Ok(View {
-        epoch: 1,
-        members: Members::from_vec(members),
-        next: u32::from(nodes),
-    })
-}
 
 // When the first leases end. With no managers they are never over.
 fn first_end(group: &Group) -> u64

@@ -60,7 +60,7 @@ mod working;
 pub use copying::Copier;
 pub use desk::GroupDesk;
 pub use desks::GroupDesks;
-pub use founding::{first_view, found_joiner, found_node, found_without_lease};
+pub use founding::{found_joiner, found_node, found_without_lease};
 pub use gate::Ending;
 pub use group::Group;
 pub use member::{Member, Running, SendQueue};

@@ -1,9 +1,9 @@
 //! All that a server has before it starts a thread.
 
 ghost use Rattle.hk_worker.specs.Founding.{names_of, AreNamed};
-ghost use Rattle.hk_base.specs.View.{IsView};
+ghost use Rattle.hk_base.specs.View.{IsView, first_view};
 ghost use Rattle.hk_locked.specs.Places.{node_names};
-ghost use Rattle.hk_group.specs.Founding.{IsGroup, first_view};
+ghost use Rattle.hk_group.specs.Founding.{IsGroup};
 ghost use Rattle.std.specs.Prelude.{◌≡◌, ◌<◌, ◌+◌, ◌*◌, length, IfOk, OnOk};
 
 use crate::completion::Unheard;

@@ -9,7 +9,7 @@ ghost use Rattle.hk_group.specs.Founding.{IsGroup};
 ghost use Rattle.hk_group.specs.Jobs.{HasStarted, HasServedBeside, own_jobs};
 
 use crate::desks::GroupDesks;
-use crate::founding::{first_view, found_nodes};
+use crate::founding::found_nodes;
 use crate::group::Group;
 use crate::managing::ManageJob;
 use crate::program::{Program, Shared, prepare};
@@ -145,7 +145,7 @@ pub fn serve<
     ensures door_fault { result ≡ Status.DoorFault → Rose (D.faults doors.old) (D.faults doors.new) }
     ensures spawn_fault { result ≡ Status.SpawnFault → Rose (S.faults spawner.old) (S.faults spawner.new) }
 {
-    let Ok(view) = first_view(alloc, group.nodes) else {
+    let Ok(view) = View::first(alloc, group.nodes) else {
         return Status::Memory;
     };
     let Ok(founded) = found_nodes(&rt, alloc, &view, group) else {

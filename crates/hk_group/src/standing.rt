@@ -3,8 +3,9 @@
 ghost use Rattle.std.specs.Prelude.{◌≤◌};
 
 use crate::completion::Unheard;
+use hk_base::SHARDS;
 use hk_locked::Places;
-use hk_shard::{Held, SHARDS};
+use hk_shard::Held;
 use hk_worker::Shards;
 use std::sync::{Arc, Wait};
 

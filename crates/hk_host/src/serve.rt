@@ -6,7 +6,8 @@ ghost use Rattle.hk_outside.specs.Causes.{Rose};
 ghost use Rattle.hk_accept.specs.Serving.{EndsServe};
 ghost use Rattle.hk_locked.specs.Places.{node_names};
 ghost use Rattle.hk_worker.specs.Founding.{names_of, names_of_cells, AreForAny};
-ghost use Rattle.hk_group.specs.Founding.{IsGroup, first_view};
+ghost use Rattle.hk_base.specs.View.{first_view};
+ghost use Rattle.hk_group.specs.Founding.{IsGroup};
 ghost use Rattle.hk_host.specs.Starting.{Starts};
 
 use crate::clients::{ClientDoors, ClientJobs, can_open, open_in_time};
@@ -19,7 +20,7 @@ use hk_accept::take_each;
 use hk_base::{Memory, NodeId, View};
 use hk_channel::Channel;
 use hk_disk::LogFile;
-use hk_group::{Group, Member, first_view, found_joiner, found_without_lease};
+use hk_group::{Group, Member, found_joiner, found_without_lease};
 use hk_hosts::{Address, DoorsAt, Random};
 use hk_inside::NodeState;
 use hk_lanes::LaneDesks;
@@ -432,7 +433,7 @@ fn new_tickets(alloc: Global) -> Result<Arc<Tickets>, Memory> {
 fn new_seed<R: Wait + Drop, C: Drop>(shared: &SharedState<R, C>) -> Result<Seed<C>, Memory>
     ensures { IfOk result (λ seed. seed.view ≡ first_view (length shared.now.identity.hosts)) }
 {
-    let view = first_view(shared.alloc, shared.identity.managers())?;
+    let view = View::first(shared.alloc, shared.identity.managers())?;
     let tickets = new_tickets(shared.alloc)?;
     let clock = Arc::try_clone(&shared.clock)?;
     Ok(Seed {

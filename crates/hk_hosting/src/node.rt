@@ -9,7 +9,6 @@ use hk_accept::LooseSpawner;
 use hk_base::{MAX_TIME, Memory, View};
 use hk_disk::DiskFile;
 use hk_fields::Ticket;
-use hk_group::first_view;
 use hk_host::{Dialers, HostManager, Inside, ServeFault, Serving, serve_host};
 use hk_host_words::{NodeWords, Verbosity};
 use hk_hosts::{Address, DoorsAt, HostDialer, HostDoors, Random, SystemRandom};
@@ -78,16 +77,6 @@ fn log_of<R: Files<File = File> + Eprint>(
     Ok((open_log(rt, folder, &path)?, path))
 }
 
-// The first view of a group with so many hosts.
-#[tactic(auto, using(crate::proofs::FirstView::is_first))]
-fn first_of(alloc: Global, hosts: u8) -> Result<View, Memory>
-    requires some { 1 ≤ hosts }
-    requires few { hosts ≤ 9 }
-    ensures { IfOk result IsView }
-{
-    first_view(alloc, hosts)
-}
-
 // By which terms the manager of this place goes, if there is one in a group of so many hosts.
 fn terms_of(words: &NodeWords, place: u8) -> Option<Terms>
     ensures few { IfSome result (λ terms. terms.managers ≤ 9) }
@@ -118,7 +107,7 @@ fn manager_of<R: Eprint>(
     requires few { terms.managers ≤ 9 }
     requires place { terms.place < terms.managers }
 {
-    let first = first_of(alloc, terms.managers)?;
+    let first = View::first(alloc, terms.managers)?;
     match begin_manager(alloc, file, terms, tickets, &first, now.min(MAX_TIME)) {
         Ok(start) => Ok(start),
         Err(fault) => {

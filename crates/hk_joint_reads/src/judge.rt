@@ -1,6 +1,6 @@
 //! The checks of a read of several keys, in their order.
 
-ghost use Rattle.std.specs.Prelude.{◌≡◌, ◌+◌, nat_lt, IfOk};
+ghost use Rattle.std.specs.Prelude.{◌≡◌, IfOk};
 ghost use Rattle.hk_joint_reads.specs.Reads.{elsewhere, moved, busy, shown_busy, large, large_by, first_told, snapshots, unfound, joint_of};
 ghost use Rattle.hk_joint_reads.specs.Checks.{told_by};
 ghost use Rattle.hk_snap.specs.Snapshots.{is_large};
@@ -8,7 +8,7 @@ ghost use Rattle.hk_snap.specs.Snapshots.{is_large};
 use crate::look::KeyLoads;
 use crate::read::{Joint, Snapshots};
 use hk_base::{Memory, State, Why};
-use hk_snap::{Shape, Snapshot};
+use hk_snap::{Shape, Snapshot, is_past};
 use std::alloc::Global;
 
 /// What is looked for in the loads of each key.
@@ -48,16 +48,6 @@ fn moved(look: &KeyLoads) -> Result<Option<Joint>, Memory>
         first,
         second: shown.ticket,
     }))
-}
-
-// Whether a lease that ends at `end` may be over.
-fn is_past(end: u64, now: u64, skew: u64) -> bool
-    ensures { result ≡ nat_lt end (now + skew) }
-{
-    match now.checked_add(skew) {
-        Some(latest) => end < latest,
-        None => true,
-    }
 }
 
 fn shown_busy(shown: &Option<Snapshot>) -> Option<Joint>

@@ -140,26 +140,11 @@ fn forget<F: Completion + Drop>(completions: &mut Callbacks<F>, asks: &mut Asks,
     asks.forget(call);
 }
 
-// The end of the lease of a node, 0 where it is not ready.
-fn lease_end(part: &Node) -> u64
-    ensures { result ≡ lease_end part.now }
-{
-    if part.ready() { part.granted() } else { 0 }
-}
-
 // What every shard keeps.
 fn keeps(shard: &Shard)
     ensures { IsShard shard.now }
 {
     shard.part();
-}
-
-fn call_event(call: CallNo, key: &Key, op: &Op) -> Result<NodeEvent, Memory>
-    ensures { IfOk result (λ event. event ≡ Call call key.now op.now) }
-{
-    let key = key.share()?;
-    let op = op.share()?;
-    Ok(NodeEvent::Call { call, key, op })
 }
 
 // An ask that waits.
@@ -211,7 +196,7 @@ fn make_call<F: Completion + Drop, R: Wait>(
     ensures unfollowed { OnErr result (keys.new ≡ keys.old) }
     ensures asks { OnErr result ((other : CallNo) → asks_in asks.new other ≡ asks_in asks.old other) }
 {
-    let event = call_event(call, key, op)?;
+    let event = NodeEvent::of_call(call, key, op)?;
     let ask = new_ask(key, ticket)?;
     keep(completions, asks, call, ask, tell)?;
     let Ok(out) = shard.step(rt, alloc, keys, ticket, event) else {
@@ -415,7 +400,7 @@ impl<F: Completion + Copy + Drop, P: Places> LockedShard<F, P> {
         self.meet(key, reader)?;
         self.meet_lease(rt, reader)?;
         let part = self.shard.part();
-        let end = lease_end(part);
+        let end = part.lease_end();
         let Some(answer) = told_by(part, key)? else {
             return Ok(None);
         };
@@ -531,7 +516,7 @@ impl<F: Completion + Copy + Drop, P: Places> LockedShard<F, P> {
         ensures { result ≡ is_short length skew (lease_end self.now.shard.part) self.now.shard.part.clock }
     {
         let part = self.shard.part();
-        let left = lease_end(part)
+        let left = part.lease_end()
             .saturating_sub(part.now())
             .saturating_sub(skew);
         left < length.saturating_sub(skew).saturating_sub(left)

@@ -5,7 +5,7 @@ use Rattle.std.proofs.lemmas.Bool.{false≢true, cases_lt, cases_eq, lt-ltb, ltb
 use Rattle.std.proofs.lemmas.List.FromFn.{length-map-range_with_len}
 use Rattle.hk_base.specs.declared.stamp.NodeId.{NodeId}
 use Rattle.hk_base.specs.declared.letter.Actor.TheVariants.{Node, Manager}
-use Rattle.hk_base.specs.View.{is_member}
+use Rattle.hk_base.specs.View.{is_member, counted}
 use Rattle.hk_lease.specs.Grants.{until_of, with_grant}
 use Rattle.hk_lease.specs.Wait.{wait}
 use Rattle.hk_clocks.specs.Clocks.{clock_of}
@@ -17,7 +17,7 @@ use Rattle.hk_earned.proofs.Places.{same_node}
 use Rattle.hk_event.specs.declared.event.Header.{Header}
 use Rattle.hk_world.specs.declared.process.ManagerProcess.{ManagerProcess}
 use Rattle.hk_world.specs.World.{WorldState, process_at, manager_at, clocks_of, node_clock, manager_clock}
-use Rattle.hk_world.specs.Start.{counted, founding_process, founding_manager, start}
+use Rattle.hk_world.specs.Start.{founding_process, founding_manager, start}
 use Rattle.hk_world.specs.Sound.{IsHeader, IsWorld}
 use Rattle.hk_managed.proofs.Places.{at_itself, at_other, mapped, replicated, index_replicated, length_replicated}
 use Rattle.hk_managed.proofs.Mirror.{NodeIn, ManagerIn, setting_of}

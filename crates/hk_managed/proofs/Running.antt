@@ -11,7 +11,8 @@ use Rattle.hk_event.specs.declared.event.Header.{Header}
 use Rattle.hk_event.specs.declared.event.Event.{Event}
 use Rattle.hk_world.specs.declared.process.ManagerProcess.{ManagerProcess}
 use Rattle.hk_world.specs.World.{WorldState, by_number, process_at, manager_at, numbered}
-use Rattle.hk_world.specs.Start.{counted, founding_view, founding_process, founding_manager, start}
+use Rattle.hk_base.specs.View.{counted}
+use Rattle.hk_world.specs.Start.{founding_view, founding_process, founding_manager, start}
 use Rattle.hk_world.specs.Steps.{Accepted, world_step}
 use Rattle.hk_world.specs.Sound.{IsHeader, IsEvent, IsWorld}
 use Rattle.hk_world.specs.Laws.{StartIsSound, StepKeepsSound}

@@ -19,7 +19,8 @@ use Rattle.hk_event.specs.declared.event.Event.TheVariants.{Call, Take, Resend, 
 use Rattle.hk_world.specs.declared.process.Process.{Process}
 use Rattle.hk_world.specs.declared.shown.Shown.{Shown}
 use Rattle.hk_world.specs.World.{WorldState, by_number, process_at, numbered}
-use Rattle.hk_world.specs.Start.{counted, founding_view, founding_process}
+use Rattle.hk_base.specs.View.{counted}
+use Rattle.hk_world.specs.Start.{founding_view, founding_process}
 use Rattle.hk_world.specs.Steps.{Accepted, live, live_at, live_actor, takes, acts, manager_acts, calls_at, world_step}
 use Rattle.hk_merge.specs.Aside.{LetterIsAside, IsAside, Runs, EventsKeepAside}
 use Rattle.hk_merge.specs.Merged.{Item, Step, LocalRead, IsEventOf, IsOf, tickets_after, Goes}

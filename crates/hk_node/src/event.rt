@@ -1,6 +1,8 @@
 //! What may happen at a node.
 
-use hk_base::{CallNo, Key, Letter, NodeId, Op, View};
+ghost use Rattle.std.specs.Prelude.{◌≡◌, IfOk};
+
+use hk_base::{CallNo, Key, Letter, Memory, NodeId, Op, View};
 
 /// An event of one node.
 #[derive(Drop)]
@@ -23,4 +25,15 @@ pub enum NodeEvent {
     Grant { end: u64 },
     /// A view is to be installed. It needs 1 to 16 members.
     Install(View),
+}
+
+impl NodeEvent {
+    /// A call, which shares the key and what the operation holds.
+    pub fn of_call(call: CallNo, key: &Key, op: &Op) -> Result<NodeEvent, Memory>
+        ensures { IfOk result (λ event. event ≡ NodeEvent.Call call key.now op.now) }
+    {
+        let key = key.share()?;
+        let op = op.share()?;
+        Ok(NodeEvent::Call { call, key, op })
+    }
 }

@@ -12,13 +12,12 @@ ghost use Rattle.hk_overseer.specs.Overseer.{founding};
 ghost use Rattle.hk_overseer.specs.Turns.{ticked, IsSteppedAt};
 
 use crate::outlets::Outlets;
-use hk_base::{Actor, Letter, Letters, Memory, View};
+use hk_base::{Actor, Letter, Letters, Memory, SHARDS, View};
 use hk_link::{Inlet, Outlet};
 use hk_manager::{Manager, ManagerOut, steps_keep_managers};
 use std::alloc::Global;
 use std::marker::Model;
 
-const SHARDS: usize = 8;
 
 /// The managers of a program with one number, one for each of eight shard numbers, and their links. Contracts see these.
 #[derive(Drop)]

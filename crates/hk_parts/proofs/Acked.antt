@@ -1,14 +1,13 @@
 -- ACKs in every run, and the stamp of no update, which is settled from the start.
 use Rattle.std.proofs.Common.{◌≡◌, ℕ, zero, suc, List, [], ◌∷◌, map, ◌≤◌, refl, ap, inl, inr, arith, le_refl, Ok}
 use Rattle.hk_base.specs.declared.stamp.NodeId.{NodeId}
-use Rattle.hk_base.specs.View.{member_numbers}
+use Rattle.hk_base.specs.View.{member_numbers, counted}
 use Rattle.hk_register.specs.Machine.{In, Marked}
 use Rattle.hk_register.specs.Facts.{Exact}
 use Rattle.hk_register.specs.Effects.{row_mark}
 use Rattle.hk_register.specs.Runs.{founder}
 use Rattle.hk_event.specs.declared.event.Event.{Event}
 use Rattle.hk_event.specs.declared.event.Header.{Header}
-use Rattle.hk_world.specs.Start.{counted}
 use Rattle.hk_world.specs.Steps.{Accepted, world_step}
 use Rattle.hk_world.specs.Sound.{IsHeader, IsEvent}
 use Rattle.hk_effects.specs.Projection.{Trace, project, traced}

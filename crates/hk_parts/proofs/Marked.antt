@@ -12,7 +12,7 @@ use Rattle.hk_node.specs.Rows.{Rows, row_at}
 use Rattle.hk_base.specs.Stamp.{tag_of}
 use Rattle.hk_event.specs.declared.event.Event.{Event}
 use Rattle.hk_event.specs.declared.event.Header.{Header}
-use Rattle.hk_world.specs.Start.{counted}
+use Rattle.hk_base.specs.View.{counted}
 use Rattle.hk_world.specs.Steps.{acting_of, Accepted, world_step}
 use Rattle.hk_world.specs.World.{WorldState}
 use Rattle.hk_effects.specs.Projection.{Trace, project, traced, traced_by, key_node, node_at, letters_of, step_marks}

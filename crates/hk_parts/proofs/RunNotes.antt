@@ -17,7 +17,8 @@ use Rattle.hk_node.specs.Rows.{Rows, row_at}
 use Rattle.hk_event.specs.declared.event.Event.{Event}
 use Rattle.hk_event.specs.declared.event.Header.{Header}
 use Rattle.hk_world.specs.declared.process.Process.{Process}
-use Rattle.hk_world.specs.Start.{counted, founding_process}
+use Rattle.hk_base.specs.View.{counted}
+use Rattle.hk_world.specs.Start.{founding_process}
 use Rattle.hk_world.specs.World.{WorldState, Processes, node_of}
 use Rattle.hk_world.specs.Steps.{acting_of, Accepted, world_step}
 use Rattle.hk_world.specs.Sound.{IsHeader, IsEvent}

@@ -15,8 +15,8 @@ use crate::process::Process;
 use crate::route::Route;
 use crate::sending::{SendJob, Sending};
 use hk_accept::Desks;
-use hk_base::{Actor, Memory, NodeId};
-use hk_group::{Member, SendQueue, first_view, found_node, start_each};
+use hk_base::{Actor, Memory, NodeId, View};
+use hk_group::{Member, SendQueue, found_node, start_each};
 use hk_link::{Bell, Outlet};
 use hk_locked::Places;
 use hk_outside::{Doors, Job, Spawner, Status};
@@ -332,7 +332,7 @@ pub fn serve_process<
     let Ok(tickets) = Arc::new(alloc, Tickets::new()) else {
         return Status::Memory;
     };
-    let Ok(view) = first_view(alloc, group.nodes) else {
+    let Ok(view) = View::first(alloc, group.nodes) else {
         return Status::Memory;
     };
     let Ok(sending) = Sending::new(alloc) else {

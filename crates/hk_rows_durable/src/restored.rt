@@ -4,7 +4,7 @@
 ghost use Rattle.std.specs.Prelude.{◌≡◌, ◌≤◌, length, IfSome};
 ghost use Rattle.hk_base.specs.View.{IsView};
 
-use hk_base::{Actor, Change, NodeId, Sequence, View};
+use hk_base::{Actor, Change, NodeId, View};
 use hk_disk::{FakeFile, recover};
 use hk_fields::Ticket;
 use hk_log::{
@@ -144,24 +144,9 @@ fn tell(restored: &Restored) -> Told {
     }
 }
 
-// The first view, of one host.
-fn first_view(alloc: Global) -> Option<View>
-    ensures { IfSome result IsView }
-{
-    let mut members = Vec::new(alloc);
-    if members.push(NodeId(0)).is_err() {
-        return None;
-    }
-    Some(View {
-        epoch: 1,
-        members: Sequence::from_vec(members),
-        next: 1,
-    })
-}
-
 // What the log of a file gives.
 fn given(alloc: Global, bytes: Vec<u8>) -> Option<Result<Told, RestoreFault>> {
-    let first = first_view(alloc)?;
+    let first = View::first(alloc, 1).ok()?;
     let recovered = recover(alloc, FakeFile::new(bytes, Vec::new(alloc), 0)).ok()?;
     let restored = restore(
         alloc,

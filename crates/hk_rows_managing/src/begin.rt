@@ -3,7 +3,7 @@
 ghost use Rattle.std.specs.Prelude.{◌≡◌, ◌≤◌, length, IfSome};
 ghost use Rattle.hk_base.specs.View.{IsView};
 
-use hk_base::{Actor, NodeId, Sequence, View};
+use hk_base::{Actor, NodeId, View};
 use hk_disk::FakeFile;
 use hk_fields::{FoundingHosts, HostTickets, Ticket};
 use hk_log::{Check, Entry, Founding, HEADER, PrintedRecord, print_record};
@@ -103,21 +103,6 @@ fn log_of(alloc: Global, words: &str) -> Option<Vec<u8>> {
     Some(bytes)
 }
 
-/// The first view, of one host.
-pub fn first_view(alloc: Global) -> Option<View>
-    ensures { IfSome result IsView }
-{
-    let mut members = Vec::new(alloc);
-    if members.push(NodeId(0)).is_err() {
-        return None;
-    }
-    Some(View {
-        epoch: 1,
-        members: Sequence::from_vec(members),
-        next: 1,
-    })
-}
-
 // With what a manager begins: the number of its founding, whether it is open, to whom manager 0 and node 1 are bound, and how many records there are.
 #[derive(Clone, Copy, Debug, PartialEq, Eq)]
 struct Told {
@@ -139,7 +124,7 @@ fn tell(begun: &Begun) -> Told {
 }
 
 fn begin(alloc: Global, bytes: Vec<u8>) -> Option<Result<Told, BeginFault>> {
-    let first = first_view(alloc)?;
+    let first = View::first(alloc, 1).ok()?;
     let file = FakeFile::new(bytes, Vec::new(alloc), 0);
     match begin_manager(alloc, file, TERMS, DRAWN, &first, 7) {
         Ok(start) => Some(Ok(tell(&start.begun))),

@@ -2,9 +2,8 @@
 
 ghost use Rattle.std.specs.Prelude.{◌<◌};
 
-use crate::begin::first_view;
 use crate::turns::{NewManager, new_manager};
-use hk_base::{Actor, Body, Letter, NodeId};
+use hk_base::{Actor, Body, Letter, NodeId, View};
 use hk_link::{Inlet, Outlet, Parcel, link};
 use hk_managing::Relay;
 use hk_office::Office;
@@ -42,7 +41,7 @@ fn next_shard<R: Wait>(rt: &R, inlet: &mut Inlet) -> Option<u8> {
 
 // How long ago node 0 asked last, in the shard where that is longest.
 fn age(rt: &impl Abort, alloc: Global, office: &Office, now: u64) -> Option<u32> {
-    let views = [first_view(alloc).expect(rt, "memory")];
+    let views = [View::first(alloc, 1).expect(rt, "memory")];
     let seen = office.asks_seen(alloc, now, &views).expect(rt, "memory");
     match seen.as_slice().first() {
         Some(seen) => seen.age_of_ask,

@@ -2,8 +2,8 @@
 
 ghost use Rattle.std.specs.Prelude.{◌≡◌, length};
 
-use crate::begin::{DRAWN, TERMS, first_view};
-use hk_base::{Actor, Sequence};
+use crate::begin::{DRAWN, TERMS};
+use hk_base::{Actor, Sequence, View};
 use hk_disk::FakeFile;
 use hk_durable::Late;
 use hk_fields::FoundingHosts;
@@ -28,7 +28,7 @@ pub struct NewManager {
 // The calls of its file of these numbers fail: reading the log and writing its header are the calls 0 to 3.
 pub fn new_manager(rt: &impl Abort, alloc: Global, fails: Vec<u64>) -> NewManager {
     let file = FakeFile::new(Vec::new(alloc), fails, 0);
-    let first = first_view(alloc).expect(rt, "memory");
+    let first = View::first(alloc, 1).expect(rt, "memory");
     let start = begin_manager(alloc, file, TERMS, DRAWN, &first, 7).expect(rt, "a manager");
     let ManagerStart { begun, writer } = start;
     let Begun {

@@ -5,7 +5,8 @@ use Rattle.hk_register.specs.Machine.{In, Mark}
 use Rattle.hk_register.specs.Effects.{row_mark}
 use Rattle.hk_register.specs.Runs.{founder}
 use Rattle.hk_event.specs.declared.event.Header.{Header}
-use Rattle.hk_world.specs.Start.{counted, start}
+use Rattle.hk_base.specs.View.{counted}
+use Rattle.hk_world.specs.Start.{start}
 use Rattle.hk_world.specs.Sound.{IsHeader}
 use Rattle.hk_effects.specs.Runs.{start_trace}
 use Rattle.hk_safety.specs.Run.{RunState, IsRun}

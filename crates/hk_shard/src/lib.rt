@@ -34,5 +34,5 @@ mod step;
 pub use cells::ShardCells;
 pub use held::Held;
 pub use laws::{cells_show_the_part, leases_never_fall, local_reads_are_reads};
-pub use shard::{SHARDS, Shard, shard_of};
+pub use shard::{Shard, shard_of};
 pub use step::ShardOut;

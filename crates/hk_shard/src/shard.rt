@@ -15,31 +15,17 @@ ghost use Rattle.hk_shard.specs.Shard.{shard_of};
 use crate::cells::ShardCells;
 use crate::held::Held;
 use crate::replaced::{Replaced, let_go};
-use crate::show::{call_of, lease_end, publish_rows, show_rows};
+use crate::show::{call_of, publish_rows, show_rows};
 use crate::step::{ShardOut, before_all, make, make_noted, move_in};
-use hk_base::{Key, Memory};
+use hk_base::{Key, Memory, SHARDS};
 use hk_due::OpenKeys;
 use hk_journal::Journal;
 use hk_node::{Node, NodeEvent, NodeOut};
-use hk_snap::{LeaseCell, LeaseKeeper, SnapReader, SnapWriter};
+use hk_snap::{LeaseCell, LeaseKeeper, SnapReader, SnapWriter, byte_sum};
 use std::alloc::Global;
 use std::marker::Model;
 use std::mem;
 use std::sync::Wait;
-
-/// How many shards a node has.
-pub const SHARDS: u8 = 8;
-
-fn byte_sum(bytes: &[u8]) -> u64
-    requires { length bytes.now ≤ 250 }
-    ensures { result ≡ sum bytes.now }
-{
-    let mut sum = 0u64;
-    for byte in bytes {
-        sum += u64::from(*byte);
-    }
-    sum
-}
 
 /// The shard of a key, 0 to 7: the sum of its bytes modulo 8.
 pub fn shard_of(key: &Key) -> u8
@@ -130,7 +116,7 @@ impl Shard {
             mut keeper,
             lease,
         } = cells;
-        let end = lease_end(&base);
+        let end = base.lease_end();
         let now = base.now();
         keeper.raise(rt, end, now);
         Ok(Shard {
@@ -183,7 +169,7 @@ impl Shard {
             rows,
         );
         self.keeper
-            .raise(rt, lease_end(&self.part), self.part.now());
+            .raise(rt, self.part.lease_end(), self.part.now());
         let_go(&mut self.spent);
         self.last = ticket;
         Ok(out)
@@ -223,7 +209,7 @@ impl Shard {
             rows,
         );
         self.keeper
-            .raise(rt, lease_end(&self.part), self.part.now());
+            .raise(rt, self.part.lease_end(), self.part.now());
         let_go(&mut self.spent);
         self.last = ticket;
         Ok(move_in(&mut self.replaced, out))

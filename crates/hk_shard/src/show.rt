@@ -5,7 +5,6 @@ ghost use Rattle.std.specs.Option.{IsSome};
 ghost use Rattle.std.specs.List.{AllByRecursion};
 ghost use Rattle.hk_node.specs.Rows.{find_row};
 ghost use Rattle.hk_node.specs.Copies.{is_valid};
-ghost use Rattle.hk_node.specs.Calls.{lease_end};
 ghost use Rattle.hk_due.specs.Keys.{AreNoted};
 ghost use Rattle.hk_journal.specs.Journal.{call_of};
 ghost use Rattle.hk_shard.specs.Publishing.{publications, with_all, MayBePublished};
@@ -26,13 +25,6 @@ pub(crate) fn call_of(event: &NodeEvent) -> Option<CallNo>
         NodeEvent::Call { call, .. } => Some(*call),
         _ => None,
     }
-}
-
-// The end of the node's lease: none while it is not ready.
-pub(crate) fn lease_end(node: &Node) -> u64
-    ensures { result ≡ lease_end node.now }
-{
-    if node.ready() { node.granted() } else { 0 }
 }
 
 // Publishes the present rows of these keys, by one store for each, and counts what they hold.

@@ -23,7 +23,8 @@ use std::sync::Wait;
 /// How many cells a shard has.
 pub const CELLS: usize = 32;
 
-fn byte_sum(bytes: &[u8]) -> u64
+/// The sum of a key's bytes, from which its shard and its cell come.
+pub fn byte_sum(bytes: &[u8]) -> u64
     requires { length bytes.now ≤ 250 }
     ensures { result ≡ sum bytes.now }
 {

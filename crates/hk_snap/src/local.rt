@@ -36,8 +36,8 @@ pub enum Local {
     Elsewhere,
 }
 
-// Whether a lease that ends at `end` may be over.
-fn is_past(end: u64, now: u64, skew: u64) -> bool
+/// Whether a lease that ends at `end` may be over.
+pub fn is_past(end: u64, now: u64, skew: u64) -> bool
     ensures { result ≡ nat_lt end (now + skew) }
 {
     match now.checked_add(skew) {

@@ -2,13 +2,13 @@
 
 ghost use Rattle.std.specs.Prelude.{◌≡◌, ◌<◌, ◌≤◌, ◌+◌, length, IfOk, OnOk};
 ghost use Rattle.hk_script.specs.Drawn.{group_of};
-ghost use Rattle.hk_world.specs.Start.{founding_view, counted};
+ghost use Rattle.hk_world.specs.Start.{founding_view};
 ghost use Rattle.hk_locked.specs.Places.{node_names};
 ghost use Rattle.hk_worker.specs.Founding.{names_of, AreNamed};
 ghost use Rattle.hk_storm.specs.Founding.{AreFounded};
 
 use crate::quiet::Quiet;
-use hk_base::{MAX_TIME, Members, Memory, NodeId, View};
+use hk_base::{MAX_TIME, Memory, NodeId, View};
 use hk_locked::Places;
 use hk_worker::{Founded, Shards, Tickets};
 use std::alloc::Global;
@@ -17,29 +17,6 @@ use std::sync::{Arc, Wait};
 
 /// The shards of a node, which its callers and workers share.
 pub(crate) type Node<P> = Arc<Shards<Quiet, P>>;
-
-// Node 0 and the others, so many in all.
-fn members(alloc: Global, nodes: u8) -> Result<Members, Memory>
-    ensures { IfOk result (λ members. members ≡ counted 0 nodes) }
-{
-    let mut ids = Vec::new(alloc);
-    for number in 0..nodes {
-        ids.push(NodeId(u16::from(number)))?;
-    }
-    Ok(Members::from_vec(ids))
-}
-
-// The first view of a group of so many nodes.
-fn first_view(alloc: Global, nodes: u8) -> Result<View, Memory>
-    ensures { IfOk result (λ view. view ≡ founding_view (group_of nodes)) }
-{
-    let members = members(alloc, nodes)?;
-    Ok(View {
-        epoch: 1,
-        members,
-        next: u32::from(nodes),
-    })
-}
 
 // The shards of a founder.
 fn found_one<R: Wait>(
@@ -90,7 +67,7 @@ pub(crate) fn found_all<R: Wait>(
     requires few { nodes ≤ 8 }
     ensures { IfOk result (λ founded. AreFounded founded.items) }
 {
-    let view = first_view(alloc, nodes)?;
+    let view = View::first(alloc, nodes)?;
     let mut all = Vec::new(alloc);
     for node in 0..nodes {
         put_founder(rt, alloc, &view, node, nodes, tickets, &mut all)?;

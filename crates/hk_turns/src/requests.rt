@@ -3,11 +3,9 @@
 ghost use Rattle.std.specs.Prelude.{◌≡◌, ◌<◌, length, None, MatchOption, IfOk, IfSome};
 ghost use Rattle.hk_turns.specs.Requests.{first_due, no_requests, raised, requests_in, IsTaken};
 
-use hk_base::Memory;
+use hk_base::{Memory, SHARDS};
 use std::alloc::Global;
 use std::marker::Model;
-
-const SHARDS: usize = 8;
 
 /// For each of a node's eight shards, to how many of the managers its request for a lease has still to go. Contracts see how many managers there are, and these
 /// numbers by shard.
@@ -40,7 +38,7 @@ impl LeaseRequests {
     pub fn new(alloc: Global, managers: u8) -> Result<LeaseRequests, Memory>
         ensures { IfOk result (λ made. made ≡ no_requests managers) }
     {
-        let left = vec![in alloc; 0u8; SHARDS]?;
+        let left = vec![in alloc; 0u8; usize::from(SHARDS)]?;
         Ok(LeaseRequests { managers, left })
     }
 
@@ -58,7 +56,7 @@ impl LeaseRequests {
         ensures { result ≡ requests_in self.now.left }
     {
         let mut due = 0;
-        for place in 0..SHARDS {
+        for place in 0..usize::from(SHARDS) {
             due += u64::from(self.left[place]);
         }
         due

@@ -6,13 +6,10 @@ ghost use Rattle.hk_turns.specs.Rounds.{resting, begun, behind_key, next_shard};
 ghost use Rattle.hk_turns.specs.Workers.{Walks};
 
 use crate::workplace::Workplace;
-use hk_base::{Key, Memory};
+use hk_base::{Key, Memory, SHARDS};
 use hk_due::Due;
 use std::marker::Model;
 use std::sync::Wait;
-
-// How many shards a node has.
-const SHARDS: u8 = 8;
 
 /// Where a worker is in its walk over the open keys of all shards. Contracts see the present shard, 8 where the walk is over, the last key of it, up to which
 /// ticket a key must have been open to be due, and the ticket at the present call of `work`.

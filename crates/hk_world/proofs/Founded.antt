@@ -23,10 +23,10 @@ use Rattle.hk_event.specs.declared.event.Header.{Header}
 use Rattle.hk_world.specs.declared.process.Process.{Process}
 use Rattle.hk_world.specs.declared.process.ManagerProcess.{ManagerProcess}
 use Rattle.hk_world.specs.World.{Processes, by_number}
-use Rattle.hk_world.specs.Start.{counted, founding_view, founding_process, founding_manager, founding_paces, first_pace}
+use Rattle.hk_world.specs.Start.{founding_view, founding_process, founding_manager, founding_paces, first_pace}
 use Rattle.hk_world.specs.Sound.{IsHeader}
 use Rattle.hk_base.specs.declared.view.View.{View}
-use Rattle.hk_base.specs.View.{IsView, is_member}
+use Rattle.hk_base.specs.View.{IsView, is_member, counted}
 use Rattle.hk_node.specs.Node.{NodeState}
 use Rattle.hk_node.specs.Made.{founder}
 use Rattle.hk_world.proofs.Starting.{counted_below, founder_keys, counted_has, founding_is_view}

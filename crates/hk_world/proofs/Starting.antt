@@ -15,7 +15,7 @@ use Rattle.hk_base.specs.declared.stamp.NodeId.{NodeId}
 use Rattle.hk_base.specs.declared.view.View.{View}
 use Rattle.hk_base.specs.declared.letter.Actor.{Actor}
 use Rattle.hk_base.specs.declared.letter.Actor.TheVariants.{Node, Manager}
-use Rattle.hk_base.specs.View.{IsView, member_numbers, is_member}
+use Rattle.hk_base.specs.View.{IsView, member_numbers, is_member, counted}
 use Rattle.hk_clocks.specs.declared.pace.Pace.{Pace}
 use Rattle.hk_clocks.specs.Clocks.{Paces, by_actor, clock_of, pace_of}
 use Rattle.hk_clocks.specs.Sound.{IsPace, AreClocks}
@@ -28,7 +28,7 @@ use Rattle.hk_event.specs.declared.event.Header.{Header}
 use Rattle.hk_world.specs.declared.process.ManagerProcess.{ManagerProcess}
 use Rattle.hk_world.specs.World.{Processes, by_number, numbered, process_at, manager_at, node_clock, manager_clock, live_clock}
 use Rattle.hk_world.specs.Steps.{was_member}
-use Rattle.hk_world.specs.Start.{start, counted, founding_view, founding_process, founding_manager, founding_actors, founding_paces, first_pace}
+use Rattle.hk_world.specs.Start.{start, founding_view, founding_process, founding_manager, founding_actors, founding_paces, first_pace}
 use Rattle.hk_world.specs.Sound.{IsHeader, IsWorld, IsProcess, IsManagerProcess, AreViews}
 use Rattle.hk_world.proofs.Viewed.{Rises, sorted_cons, sorted_nil, less_below}
 

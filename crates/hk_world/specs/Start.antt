@@ -3,6 +3,7 @@ use Rattle.std.specs.Prelude.{ℕ, zero, suc, ◌+◌, List, [], ◌∷◌, ◌+
 use Rattle.std.specs.List.{range_with_len}
 use Rattle.hk_base.specs.declared.stamp.NodeId.{NodeId}
 use Rattle.hk_base.specs.declared.view.View.{View}
+use Rattle.hk_base.specs.View.{counted, first_view}
 use Rattle.hk_base.specs.declared.letter.Actor.{Actor}
 use Rattle.hk_base.specs.declared.letter.Actor.TheVariants.{Node, Manager}
 use Rattle.hk_clocks.specs.declared.pace.Pace.{Pace}
@@ -14,14 +15,9 @@ use Rattle.hk_world.specs.declared.process.Process.{Process}
 use Rattle.hk_world.specs.declared.process.ManagerProcess.{ManagerProcess}
 use Rattle.hk_world.specs.World.{WorldState}
 
--- so many numbers from n on
-abbrev pub counted : ℕ → ℕ → List NodeId
-counted n zero = []
-counted n (suc k) = record { 0 = n } ∷ counted (n + 1) k
-
 -- the first view has the founders as its members
 abbrev pub founding_view : Header → View
-founding_view h = record { epoch = 1; members = counted 0 h.nodes; next = h.nodes }
+founding_view h = first_view h.nodes
 
 -- each has a lease, from every manager if there are any
 abbrev pub founding_process : Header → NodeId → Process

@@ -31,8 +31,8 @@ fn is_invalid(state: State) -> bool
 }
 
 impl Node {
-    // The end of the lease that it has: a node that is not ready has none.
-    fn lease_end(&self) -> u64
+    /// The end of the lease that it has: a node that is not ready has none, 0.
+    pub fn lease_end(&self) -> u64
         ensures { result ≡ lease_end self.now }
     {
         if self.ready { self.granted } else { 0 }

@@ -15,15 +15,6 @@ use hk_event::Refused;
 use hk_node::{Node, NodeEvent, steps_keep_nodes};
 use std::alloc::Global;
 
-// A call, as an event of its node.
-fn call_event(call: CallNo, key: &Key, op: &Op) -> Result<NodeEvent, Memory>
-    ensures { IfOk result (λ event. event ≡ NodeEvent.Call call key.now op.now) }
-{
-    let key = key.share()?;
-    let op = op.share()?;
-    Ok(NodeEvent::Call { call, key, op })
-}
-
 impl World {
     /// The node of this number, if it is there and has not crashed.
     pub(super) fn live(&self, id: NodeId) -> Result<&Node, Refused>
@@ -112,7 +103,7 @@ impl World {
         let Some(next) = self.calls.checked_add(1) else {
             return Err(WorldFault::Memory);
         };
-        let event = call_event(CallNo(next), key, op)?;
+        let event = NodeEvent::of_call(CallNo(next), key, op)?;
         self.count(alloc, id, next, &event)
     }
 }

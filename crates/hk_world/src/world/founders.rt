@@ -5,12 +5,13 @@ ghost use Rattle.std.specs.List.{range_with_len};
 ghost use Rattle.hk_base.specs.declared.letter.Actor.TheVariants.{Node as OfNode};
 ghost use Rattle.hk_clocks.specs.Steps.{clock_step};
 ghost use Rattle.hk_clocks.specs.Steps.ClockEvent.{Start as ClockStart};
-ghost use Rattle.hk_world.specs.Start.{counted, founding_actors, founding_manager, founding_paces, founding_process, founding_view};
+ghost use Rattle.hk_base.specs.View.{counted};
+ghost use Rattle.hk_world.specs.Start.{founding_actors, founding_manager, founding_paces, founding_process, founding_view};
 ghost use Rattle.hk_world.specs.Sound.{IsHeader};
 
 use super::start::put_in;
 use crate::process::{ManagerProcess, Process};
-use hk_base::{Actor, Members, Memory, NodeId, View};
+use hk_base::{Actor, Memory, NodeId, View};
 use hk_clocks::Clocks;
 use hk_event::Header;
 use hk_manager::Manager;
@@ -18,27 +19,11 @@ use hk_node::Node;
 use std::alloc::Global;
 use std::collections::BTreeMap;
 
-// So many numbers from 0 on.
-fn counted(alloc: Global, nodes: u8) -> Result<Vec<NodeId>, Memory>
-    ensures { IfOk result (λ ids. ids.items ≡ counted 0 nodes) }
-{
-    let mut ids = Vec::new(alloc);
-    for number in 0..nodes {
-        ids.push(NodeId(u16::from(number)))?;
-    }
-    Ok(ids)
-}
-
 /// The first view.
 pub(super) fn founding_view(alloc: Global, header: Header) -> Result<View, Memory>
     ensures { IfOk result (λ view. view ≡ founding_view header) }
 {
-    let members = counted(alloc, header.nodes)?;
-    Ok(View {
-        epoch: 1,
-        members: Members::from_vec(members),
-        next: u32::from(header.nodes),
-    })
+    View::first(alloc, header.nodes)
 }
 
 /// The founders, each in the first view.

@@ -1,5 +1,6 @@
 use Rattle.std.proofs.Common.{◌≡◌, map}
-use Rattle.hk_world.specs.Start.{counted, founding_process}
+use Rattle.hk_base.specs.View.{counted}
+use Rattle.hk_world.specs.Start.{founding_process}
 use Rattle.hk_world.proofs.world.founders.founders.Given as goal
 
 -- so far they are the founders so far

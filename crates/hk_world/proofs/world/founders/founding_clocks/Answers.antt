@@ -1,6 +1,6 @@
 use Rattle.std.proofs.Common.{map}
 use Rattle.hk_base.specs.declared.letter.Actor.TheVariants.{Node}
-use Rattle.hk_world.specs.Start.{counted}
+use Rattle.hk_base.specs.View.{counted}
 use Rattle.hk_world.proofs.Founded.{manager_clocks_begin, manager_clocks_next}
 use Rattle.hk_world.proofs.world.founders.founding_clocks.Goals as goal
 

@@ -1,7 +1,8 @@
 use Rattle.std.proofs.Common.{◌≡◌, ◌++◌, map}
 use Rattle.std.specs.List.{range_with_len}
 use Rattle.hk_base.specs.declared.letter.Actor.TheVariants.{Node, Manager}
-use Rattle.hk_world.specs.Start.{counted, founding_paces}
+use Rattle.hk_base.specs.View.{counted}
+use Rattle.hk_world.specs.Start.{founding_paces}
 use Rattle.hk_world.proofs.world.founders.founding_clocks.Given as goal
 
 -- so far they are those of the founders, and of the managers so far

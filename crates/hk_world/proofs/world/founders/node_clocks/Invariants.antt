@@ -1,6 +1,7 @@
 use Rattle.std.proofs.Common.{◌≡◌, map}
 use Rattle.hk_base.specs.declared.letter.Actor.TheVariants.{Node}
-use Rattle.hk_world.specs.Start.{counted, founding_paces}
+use Rattle.hk_base.specs.View.{counted}
+use Rattle.hk_world.specs.Start.{founding_paces}
 use Rattle.hk_world.proofs.world.founders.node_clocks.Given as goal
 
 -- so far they are the clocks so far

@@ -1,7 +1,7 @@
--- so far they are the numbers so far
 use Rattle.std.proofs.Common.{◌≡◌}
-use Rattle.hk_world.specs.Start.{counted}
-use Rattle.hk_storm.proofs.founding.members.Given as goal
+use Rattle.hk_base.specs.View.{counted}
+use Rattle.hk_base.proofs.view.counted.Given as goal
 
+-- so far they are the numbers so far
 abbrev pub invariant-loop-number : goal.invariant-loop-number
 invariant-loop-number l = l.ids.items ≡ counted 0 l.number

@@ -1,7 +1,0 @@
-use Rattle.std.proofs.Common.{◌≡◌}
-use Rattle.hk_world.specs.Start.{counted}
-use Rattle.hk_world.proofs.world.founders.counted.Given as goal
-
--- so far they are the numbers so far
-abbrev pub invariant-loop-number : goal.invariant-loop-number
-invariant-loop-number l = l.ids.items ≡ counted 0 l.number
