@@ -7,7 +7,6 @@ use crate::clock::HostClock;
 use crate::disk::DiskLog;
 use crate::happening::{Asker, Happening};
 use hk_base::{Actor, MAX_TIME, Memory, NodeId, View};
-use hk_shared_state::{Coming, SharedState, Slot};
 use hk_inside::{HostTickets, Inquiry};
 use hk_link::{Inlet, Outlet, Parcel, link};
 use hk_managing::{ManagerJob, ManagerStart, begin_manager};
@@ -15,6 +14,7 @@ use hk_outside::Clock;
 use hk_overseer::Outlets;
 use hk_restore::Terms;
 use hk_routes::Routes;
+use hk_shared_state::{Coming, SharedState, Slot};
 use std::alloc::Global;
 use std::io::Eprint;
 use std::mem;
@@ -166,7 +166,9 @@ impl<R: Wait + Eprint + Copy + Drop> Manager<R> {
         let slot = Arc::try_clone(&left)?;
         self.waiting.push(Waiting { asker, until, slot })?;
         let slot = left;
-        shared.mailbox.put(&shared.rt, Coming::Asked { inquiry, slot });
+        shared
+            .mailbox
+            .put(&shared.rt, Coming::Asked { inquiry, slot });
         Ok(())
     }
 

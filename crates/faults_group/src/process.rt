@@ -15,9 +15,9 @@ use crate::node::Node;
 use hk_base::{Memory, NodeId, Sequence, View};
 use hk_boards::HeardBoard;
 use hk_host_words::Verbosity;
-use hk_shared_state::{Coming, Identity, Mailbox, SharedState, Standing, Telling};
 use hk_inside::{Board, Inquiry, NodeState, Report, Response, ShardsTold};
 use hk_link::Parcel;
+use hk_shared_state::{Coming, Identity, Mailbox, SharedState, Standing, Telling};
 use std::alloc::Global;
 use std::io::Eprint;
 use std::sync::atomic::AtomicBool;
@@ -393,7 +393,9 @@ impl<R: Wait + Eprint + Copy + Drop> Process<R> {
         let came = self.read(now);
         self.hear(place, asked, came, board);
         if self.manager.is_some() {
-            self.shared.mailbox.put(&self.shared.rt, Coming::Told { place });
+            self.shared
+                .mailbox
+                .put(&self.shared.rt, Coming::Told { place });
         }
         self.seek(place, came)
     }

@@ -30,7 +30,7 @@ pub use call::{Answer, CallNo, Content, Op, Replies, Reply, State, Why, share_co
 pub use data::{Data, DataFault, MAX_DATA_LEN};
 pub use key::{Key, KeyFault, MAX_KEY_LEN, share_key};
 pub use length::{MAX_FRAME_LEN, frame_length};
-pub use letter::{SHARDS, Actor, Body, CopyItem, CopyItems, Letter, Letters};
+pub use letter::{Actor, Body, CopyItem, CopyItems, Letter, Letters, SHARDS};
 pub use memory::Memory;
 pub use sequence::Sequence;
 pub use stamp::{Kind, MAX_VERSION, NodeId, Stamp};

@@ -16,7 +16,6 @@ use std::alloc::Global;
 use std::marker::Model;
 use std::mem;
 
-
 /// What a manager is to do of itself.
 #[derive(Clone, Copy, Debug, PartialEq, Eq)]
 pub enum Intent {

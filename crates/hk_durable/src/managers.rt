@@ -16,7 +16,6 @@ use hk_manager::{Manager, ManagerEvent, ManagerFault, ManagerOut, steps_keep_man
 use std::alloc::Global;
 use std::marker::Model;
 
-
 /// The managers of one number, one for each of eight shards. Contracts see them in the order of their shards.
 #[derive(Drop)]
 pub struct Managers {

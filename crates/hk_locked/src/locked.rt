@@ -516,7 +516,8 @@ impl<F: Completion + Copy + Drop, P: Places> LockedShard<F, P> {
         ensures { result ≡ is_short length skew (lease_end self.now.shard.part) self.now.shard.part.clock }
     {
         let part = self.shard.part();
-        let left = part.lease_end()
+        let left = part
+            .lease_end()
             .saturating_sub(part.now())
             .saturating_sub(skew);
         left < length.saturating_sub(skew).saturating_sub(left)

@@ -18,7 +18,6 @@ use hk_manager::{Manager, ManagerOut, steps_keep_managers};
 use std::alloc::Global;
 use std::marker::Model;
 
-
 /// The managers of a program with one number, one for each of eight shard numbers, and their links. Contracts see these.
 #[derive(Drop)]
 pub struct ManagerPost {
