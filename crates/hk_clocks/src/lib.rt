@@ -14,8 +14,8 @@
 //! (`leads_decide`). The clocks of every run keep it (`run_paced`). What a rise is refused for is exactly what would
 //! not keep it, and the first actor that would be left behind is told (`refused_exactly`, `first_left_told`).
 //!
-//! What no clause says: that a world refuses a rise exactly where the rate would not be kept. A world's step makes a
-//! step of its clocks, and these keep the rate (`hk_managed`); the rest is said of [`Clocks`] alone.
+//! A world's step makes a step of its clocks. That the world keeps the rate, and that it refuses a rise exactly where the rate
+//! would not be kept, are laws of `hk_managed`.
 #![tactic(auto)]
 
 mod clocks;
