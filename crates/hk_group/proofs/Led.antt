@@ -52,6 +52,13 @@ asked_again was_read reading key op old mid new (Ok reply) result (late, last, c
     (late ++ mid ∷ [], mid, come_later was_read reading key op old late last mid come (reply, is, asks), more)
 asked_again was_read reading key op old mid new (Err e) result (late, last, come, asks) is more = absurd (false≢true is)
 
+-- by a clock that is still the same
+pub asked_later : {A : Type 0} (first clock : A) (was_read : A → ReaderState → ℕ → Type 0) (reading : A → Option ℕ) (key : List ℕ) (op : Op) (old mid new : PostState) (told result : Result DeskReply Memory)
+    → clock ≡ first → AsksAgain (was_read first) (reading first) key op old mid told → is_late told ≡ true → AsksLed (was_read clock) (reading clock) key op mid new result
+    → AsksAgain (was_read first) (reading first) key op old new result
+asked_later first clock was_read reading key op old mid new told result same before is more = asked_again (was_read first) (reading first) key op old mid new told result before is
+    (subst (λ c. AsksLed (was_read c) (reading c) key op mid new result) same more)
+
 pub begun_once : (was_read : ReaderState → ℕ → Type 0) (reading : Option ℕ) (key : List ℕ) (op : Op) (old new : PostState) (result : Result (Begun OpenAsk) Memory)
     → BeginsLed was_read reading key op old new result → BeginsAgain was_read reading key op old new result
 begun_once was_read reading key op old new result told = ([], old, refl, told)
@@ -62,3 +69,10 @@ begun_again was_read reading key op old mid new (Ok (opened.Told reply)) result 
     (late ++ mid ∷ [], mid, come_later was_read reading key op old late last mid come (reply, is, begins), more)
 begun_again was_read reading key op old mid new (Ok (opened.Waits w)) result (late, last, come, begins) is more = absurd (false≢true is)
 begun_again was_read reading key op old mid new (Err e) result (late, last, come, begins) is more = absurd (false≢true is)
+
+-- by a clock that is still the same
+pub begun_later : {A : Type 0} (first clock : A) (was_read : A → ReaderState → ℕ → Type 0) (reading : A → Option ℕ) (key : List ℕ) (op : Op) (old mid new : PostState) (told result : Result (Begun OpenAsk) Memory)
+    → clock ≡ first → BeginsAgain (was_read first) (reading first) key op old mid told → late_begun told ≡ true → BeginsLed (was_read clock) (reading clock) key op mid new result
+    → BeginsAgain (was_read first) (reading first) key op old new result
+begun_later first clock was_read reading key op old mid new told result same before is more = begun_again (was_read first) (reading first) key op old mid new told result before is
+    (subst (λ c. BeginsLed (was_read c) (reading c) key op mid new result) same more)

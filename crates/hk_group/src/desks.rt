@@ -4,8 +4,7 @@ ghost use Rattle.std.specs.Prelude.{◌≡◌, length, IfOk};
 
 use crate::completion::Unheard;
 use crate::copying::Copier;
-use crate::desk::GroupDesk;
-use crate::keeping::Upkeep;
+use crate::desk::{GroupDesk, Upkeep};
 use crate::leases::{LeaseTerms, Leases};
 use crate::load::Load;
 use crate::reader::Reader;

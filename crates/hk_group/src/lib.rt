@@ -43,7 +43,6 @@ mod desks;
 mod founding;
 mod gate;
 mod group;
-mod keeping;
 mod leases;
 mod lines;
 mod load;
