@@ -8,8 +8,7 @@ ghost use Rattle.hk_group.specs.Led.{IsLed, AsksLed, BeginsLed, AsksAgain, Begin
 
 use crate::completion::Unheard;
 use crate::leases::Leases;
-use crate::load::{Load, MAX_DATA, MAX_ENTRIES, data_in, empty_journals};
-use crate::reserve::Reserve;
+use crate::memory::{Load, MAX_DATA, MAX_ENTRIES, Reserve, data_in, empty_journals};
 use hk_base::{Answer, Key, Memory, Op, Why};
 use hk_link::Bell;
 use hk_locked::Places;

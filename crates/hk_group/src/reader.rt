@@ -3,7 +3,7 @@
 use crate::completion::Unheard;
 use crate::gate::{Ending, Open, Rings};
 use crate::lines::ROOM;
-use crate::load::{Load, Trimming};
+use crate::memory::{Load, Trimming};
 use crate::working::{TURNS, tend};
 use hk_base::{Actor, Memory, Sequence};
 use hk_link::{Bell, Inlet, Outlet, link};

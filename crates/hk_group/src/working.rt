@@ -2,9 +2,8 @@
 
 use crate::completion::Unheard;
 use crate::gate::Open;
-use crate::load::{Load, Trimming};
+use crate::memory::{Load, Trimming, begin_memory};
 use crate::notices::tell_doubt;
-use crate::reserve::begin_memory;
 use crossbeam_utils::sync::WaitGroup;
 use hk_locked::Places;
 use hk_outside::{Clock, Job};
