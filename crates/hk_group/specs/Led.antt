@@ -10,7 +10,7 @@ use Rattle.hk_outside.specs.declared.desk.Begun.TheVariants as opened
 use Rattle.hk_outside.specs.declared.desk.DeskReply.{DeskReply}
 use Rattle.hk_outside.specs.declared.desk.DeskReply.TheVariants.{Told}
 use Rattle.hk_locked.specs.Locked.{ReaderState}
-use Rattle.hk_worker.specs.declared.opening.OpenAsk.{OpenAsk}
+use Rattle.hk_worker.specs.declared.asking.OpenAsk.{OpenAsk}
 use Rattle.hk_worker.specs.Asking.{PostState}
 use Rattle.hk_worker.specs.Reading.{AsksByClock}
 use Rattle.hk_worker.specs.Opening.{BeginsByClock}

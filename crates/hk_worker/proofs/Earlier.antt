@@ -23,7 +23,7 @@ use Rattle.hk_worker.specs.Reading.{HasLooked, HasRisen, TellsByClock, TellsRead
 use Rattle.hk_worker.proofs.Freely.{looked_itself, looked_on}
 use Rattle.hk_base.specs.declared.memory.Memory.{Memory}
 use Rattle.hk_outside.specs.declared.desk.Begun.{Begun as DeskBegun}
-use Rattle.hk_worker.specs.declared.opening.OpenAsk.{OpenAsk}
+use Rattle.hk_worker.specs.declared.asking.OpenAsk.{OpenAsk}
 use Rattle.hk_outside.specs.declared.desk.Begun.TheVariants as opened
 use Rattle.hk_worker.specs.Opening.{BeginsAtPost, BeginsByClock}
 

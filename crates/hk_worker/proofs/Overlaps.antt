@@ -11,7 +11,7 @@ use Rattle.hk_snap.proofs.Prefixes.{prefix_self, prefix_trans}
 use Rattle.hk_told.proofs.Telling.{after_looks_is_shown, unknown_is_shown}
 use Rattle.hk_locked.specs.Locked.{ReaderState}
 use Rattle.hk_locked.specs.Steps.{end_at, StartsAt}
-use Rattle.hk_worker.specs.declared.opening.OpenAsk.{OpenAsk}
+use Rattle.hk_worker.specs.declared.asking.OpenAsk.{OpenAsk}
 use Rattle.hk_outside.specs.declared.desk.Begun.{Begun}
 use Rattle.hk_outside.specs.declared.desk.Begun.TheVariants as opened
 use Rattle.hk_worker.specs.Asking.{PostState, AsksAtPost, call_number, reader_of}

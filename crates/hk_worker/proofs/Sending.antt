@@ -22,7 +22,7 @@ use Rattle.hk_worker.specs.Moments.{WasCalled}
 use Rattle.hk_worker.specs.Asking.{Tells, PostState, no_reader, reader_of, IsReaderOf, AreReadersBelow, call_number}
 use Rattle.hk_worker.specs.Reading.{HasLooked}
 use Rattle.hk_outside.specs.declared.desk.Begun.{Begun}
-use Rattle.hk_worker.specs.declared.opening.OpenAsk.{OpenAsk}
+use Rattle.hk_worker.specs.declared.asking.OpenAsk.{OpenAsk}
 use Rattle.hk_outside.specs.declared.desk.Begun.TheVariants as opened
 use Rattle.hk_worker.specs.Opening.{OpensAt, BeginSends, BeginSendsByClock}
 use Rattle.hk_worker.specs.Sending.{SendsCall, SendsOrFails, SendsNextCall, Sends, SendsByClock}

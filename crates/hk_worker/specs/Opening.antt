@@ -14,7 +14,7 @@ use Rattle.hk_told.specs.Shown.{Shown, NotEnded}
 use Rattle.hk_locked.specs.Places.{NodeNames}
 use Rattle.hk_locked.specs.Locked.{ReaderState}
 use Rattle.hk_locked.specs.Steps.{StartsAt, LooksOften}
-use Rattle.hk_worker.specs.declared.opening.OpenAsk.{OpenAsk}
+use Rattle.hk_worker.specs.declared.asking.OpenAsk.{OpenAsk}
 use Rattle.hk_worker.specs.Asking.{PostState, Tells, HasAsked, AsksAtPost, call_number, reader_of}
 use Rattle.hk_worker.specs.Turns.{IsUnasked, seen_of, IsShownIn, Rise}
 use Rattle.hk_worker.specs.Reading.{HasLooked, HasRisen, AsksByClock, IsShownByClock}

@@ -1,17 +1,20 @@
-//! An ask of one operation at the shards of a node.
+//! An ask of one operation at the shards of a node, and an update that waits there.
 
-ghost use Rattle.std.specs.Prelude.{◌≡◌, ◌≤◌, ◌<◌, ℕ, None, IfOk, OnErr};
+ghost use Rattle.std.specs.Prelude.{◌≡◌, ◌≤◌, ◌<◌, ℕ, List, None, Ok, Err, IfOk, OnErr};
 ghost use Rattle.std.specs.List.{AllByRecursion};
 ghost use Rattle.hk_base.specs.Range.{IsLetter};
+ghost use Rattle.hk_base.specs.declared.memory.Memory.{Memory};
+ghost use Rattle.hk_base.specs.declared.call.CallNo.{CallNo};
+ghost use Rattle.hk_base.specs.declared.call.Op.{Op};
 ghost use Rattle.hk_outside.specs.Desk.{Suits};
+ghost use Rattle.hk_locked.specs.Locked.{ReaderState};
 ghost use Rattle.hk_locked.specs.Makes.{CallsAt};
 ghost use Rattle.hk_locked.specs.Steps.{IsGrown, IsLeft, StartsAt, LooksOften, LooksOftenFor};
 ghost use Rattle.hk_worker.specs.Moments.{WasCalled};
 ghost use Rattle.hk_worker.specs.Asking.{Tells};
-ghost use Rattle.hk_worker.specs.Opening.{FinishesAt, OpensAt, OpenedSuits};
+ghost use Rattle.hk_worker.specs.Opening.{FinishesAt, IsOpen, OpensAt, OpenedSuits};
 ghost use Rattle.hk_worker.specs.Sending.{SendsOrFails};
 
-use crate::opening::OpenAsk;
 use crate::shards::Shards;
 use crate::waiting::{Patience, wait_for};
 use hk_base::{Actor, Answer, CallNo, Key, Memory, Op};
@@ -29,6 +32,72 @@ pub const TURNS: u64 = 100_000;
 
 // Once the patience is over, so many looks follow under one lock.
 const BURST: u64 = 1_000;
+
+/// An update that waits at a post: its key and operation, the number of its call, the ticket of the call's step, and since when it waits, in milliseconds that asks of
+/// the post have waited.
+#[derive(Drop)]
+pub struct OpenAsk {
+    pub(crate) key: Key,
+    pub(crate) op: Op,
+    pub(crate) call: CallNo,
+    pub(crate) ticket: u64,
+    pub(crate) since: u64,
+}
+
+impl OpenAsk {
+    // One whose step is not made yet.
+    pub(crate) fn new(key: &Key, op: &Op, call: CallNo, since: u64) -> Result<OpenAsk, Memory>
+        ensures { IfOk result (λ waits. IsOpen call key.now op.now waits) }
+    {
+        let key = key.share()?;
+        let op = op.share()?;
+        Ok(OpenAsk {
+            key,
+            op,
+            call,
+            ticket: 0,
+            since,
+        })
+    }
+
+    // The same, under the ticket of its step.
+    fn under(self, ticket: u64) -> OpenAsk
+        ensures { (result.key ≡ self.key) × (result.op ≡ self.op) × (result.call ≡ self.call) × (result.ticket ≡ ticket) }
+    {
+        let OpenAsk {
+            key,
+            op,
+            call,
+            since,
+            ..
+        } = self;
+        OpenAsk {
+            key,
+            op,
+            call,
+            ticket,
+            since,
+        }
+    }
+
+    // What its step came to: it was answered at once, or waits.
+    pub(crate) fn begun(self, ticket: u64, answer: Option<Answer>) -> Begun<OpenAsk>
+        ensures opens { (call : CallNo) (key : List ℕ) (op : Op) (old new : ReaderState) → IsOpen call key op self → StartsAt old new call key ticket op answer → OpensAt call key op old new result }
+        ensures suits { (call : CallNo) (key : List ℕ) (op : Op) (old new : ReaderState) → IsOpen call key op self → StartsAt old new call key ticket op answer → OpenedSuits {E = Memory} op (Ok result) }
+    {
+        match answer {
+            Some(answer) => Begun::Told(DeskReply::Told(answer)),
+            None => Begun::Waits(self.under(ticket)),
+        }
+    }
+
+    // No memory was found for its step.
+    pub(crate) fn begun_in_vain(self, memory: Memory) -> Result<Begun<OpenAsk>, Memory>
+        ensures { result ≡ Err memory }
+    {
+        Err(memory)
+    }
+}
 
 // The shard's lock, where the key's row is Valid or there is none. That is waited for a while, since each time that it comes to be, another call may be first.
 fn lock_settled<'a, F: Completion + Copy + Drop, P: Places, R: Wait>(
@@ -99,8 +168,8 @@ fn look<F: Completion + Copy + Drop, P: Places>(
     Ok(look)
 }
 
-// Waits a while until the key is Valid, and makes the call, under the shard's lock.
-fn begin<F: Completion + Copy + Drop, P: Places, R: Wait>(
+/// Waits a while until the key is Valid, and makes the call, under the shard's lock.
+pub(crate) fn begin<F: Completion + Copy + Drop, P: Places, R: Wait>(
     rt: &R,
     alloc: Global,
     shards: &Shards<F, P>,
@@ -246,54 +315,6 @@ pub(crate) fn ask<F: Completion + Copy + Drop, P: Places, R: Wait>(
     }
     give_up(rt, shards, shard, call);
     Ok(DeskReply::Unknown { turns: TURNS })
-}
-
-/// Begins to ask an operation: waits a while until the key is Valid, makes the call and sends its letters. Where it waits, it waits since `since`, and its letters
-/// are not rung for yet.
-pub(crate) fn begin_ask<F: Completion + Copy + Drop, P: Places, R: Wait>(
-    rt: &R,
-    alloc: Global,
-    shards: &Shards<F, P>,
-    reader: &mut ShardReader<P>,
-    outlets: &mut Vec<(Actor, Outlet)>,
-    call: CallNo,
-    key: &Key,
-    op: &Op,
-    tell: F,
-    since: u64,
-) -> Result<Begun<OpenAsk>, Memory>
-    requires { reader.old.number < 8 }
-    ensures opens { IfOk result (λ opened. OpensAt call key.now op.now reader.old reader.new opened) }
-    ensures suits { OpenedSuits op.now result }
-    ensures sent { SendsOrFails P.places reader.old.node reader.old.number call key.now op.now reader.old reader.new outlets.old.items outlets.new.items result }
-    ensures grown { IsGrown key.now reader.old reader.new }
-{
-    let waits = OpenAsk::new(key, op, call, since)?;
-    let number = reader.number();
-    let started = begin(
-        rt,
-        alloc,
-        shards,
-        reader,
-        outlets.as_slice(),
-        call,
-        key,
-        op,
-        tell,
-    )?;
-    let Started {
-        ticket,
-        answer,
-        letters,
-    } = started;
-    send_all(rt, outlets, number, letters);
-    match answer {
-        Some(answer) => {
-            ring_all(rt, outlets.as_slice());
-            Ok(Begun::Told(DeskReply::Told(answer)))
-        }
-        None => Ok(Begun::Waits(waits.under(ticket))),
-    }
 }
 
 /// Rings for what was sent, and looks until an update that waits was told, or the patience is over.

@@ -17,9 +17,9 @@ ghost use Rattle.hk_worker.specs.Reading.{AsksByClock, HasLooked, HasRisen, Tell
 ghost use Rattle.hk_worker.specs.Sending.{Sends, SendsByClock};
 ghost use Rattle.hk_worker.specs.Opening.{BeginsAtPost, BeginsByClock, BeginSends, BeginSendsByClock, FinishesAtPost, OpenedSuits};
 
+use crate::asking::OpenAsk;
 use crate::desk::NodeDesk;
 use crate::desk_clock::DeskClock;
-use crate::opening::OpenAsk;
 use crate::post::Post;
 use crate::reading::{give, look, raise};
 use hk_base::{Answer, Key, MAX_TIME, Memory, Op};

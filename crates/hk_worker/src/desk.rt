@@ -7,8 +7,8 @@ ghost use Rattle.hk_worker.specs.Asking.{AsksAtPost};
 ghost use Rattle.hk_worker.specs.Reading.{AsksByClock};
 ghost use Rattle.hk_worker.specs.Sending.{Sends, SendsByClock};
 
+use crate::asking::OpenAsk;
 use crate::desk_clock::DeskClock;
-use crate::opening::OpenAsk;
 use crate::post::Post;
 use hk_base::{Key, Memory, Op};
 use hk_callback::Completion;

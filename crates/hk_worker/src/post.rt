@@ -10,15 +10,14 @@ ghost use Rattle.hk_worker.specs.Sending.{Sends};
 ghost use Rattle.hk_worker.specs.Opening.{BeginsAtPost, BeginSends, FinishesAtPost, OpenedSuits};
 ghost use Rattle.hk_worker.specs.Working.{HasWorked, WereQuietBelow};
 
-use crate::asking::{ask, begin_ask, finish_ask};
-use crate::opening::OpenAsk;
+use crate::asking::{OpenAsk, ask, begin, finish_ask};
 use crate::shards::Shards;
 use hk_base::{Actor, Answer, CallNo, Key, MAX_TIME, Memory, NodeId, Op, SHARDS};
 use hk_callback::Completion;
 use hk_link::Outlet;
-use hk_locked::{Doubt, Places, ShardReader};
+use hk_locked::{Doubt, Places, ShardReader, Started};
 use hk_outside::{Begun, DeskReply, suits};
-use hk_overseer::{Gate, Outlets, ring_all};
+use hk_overseer::{Gate, Outlets, ring_all, send_all};
 use hk_shard::shard_of;
 use hk_turns::{Inlets, Worker};
 use std::alloc::Global;
@@ -157,19 +156,32 @@ impl<F: Completion + Copy + Drop, P: Places> Post<F, P> {
         }
         self.asks += 1;
         let call = call_number(self.number, self.asks);
-        let shard = usize::from(shard_of(key));
-        begin_ask(
+        let waits = OpenAsk::new(key, op, call, self.waited)?;
+        let shard = shard_of(key);
+        let started = match begin(
             rt,
             self.alloc,
             &self.shards,
-            &mut self.readers[shard],
-            &mut self.outlets,
+            &mut self.readers[usize::from(shard)],
+            self.outlets.as_slice(),
             call,
             key,
             op,
             self.tell,
-            self.waited,
-        )
+        ) {
+            Ok(started) => started,
+            Err(memory) => return waits.begun_in_vain(memory),
+        };
+        let Started {
+            ticket,
+            answer,
+            letters,
+        } = started;
+        send_all(rt, &mut self.outlets, shard, letters);
+        if answer.is_some() {
+            ring_all(rt, self.outlets.as_slice());
+        }
+        Ok(waits.begun(ticket, answer))
     }
 
     /// Rings for all that was sent, and looks until an update that waits was told. What is told is shown by what the post's reader of the key's shard has seen. Nothing is sent.

@@ -1,6 +1,6 @@
 use Rattle.std.proofs.Common.{◌≡◌}
 use Rattle.hk_outside.specs.Desk.{BeginSuits}
-use Rattle.hk_worker.specs.declared.opening.OpenAsk.{OpenAsk}
+use Rattle.hk_worker.specs.declared.asking.OpenAsk.{OpenAsk}
 use Rattle.hk_group.specs.Led.{BeginsAgain}
 use Rattle.hk_group.proofs.desk.GroupDeskDesk.begin.Given as goal
 

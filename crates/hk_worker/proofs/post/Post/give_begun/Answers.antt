@@ -1,7 +1,7 @@
 use Rattle.std.proofs.Common.{rules, ◌≡◌, Ok, subst}
 use Rattle.hk_base.specs.declared.memory.Memory.{Memory}
 use Rattle.hk_outside.specs.declared.desk.Begun.{Begun}
-use Rattle.hk_worker.specs.declared.opening.OpenAsk.{OpenAsk}
+use Rattle.hk_worker.specs.declared.asking.OpenAsk.{OpenAsk}
 use Rattle.hk_worker.specs.Opening.{BeginsAtPost, BeginSends, OpenedSuits}
 use Rattle.hk_worker.proofs.Earlier.{asks_earlier, waits_by_clock}
 use Rattle.hk_worker.proofs.Sending.{begins_as_ask, ask_as_begins}
