@@ -8,7 +8,7 @@ use Rattle.hk_snap.specs.declared.rule.Publication.{Publication}
 use Rattle.hk_snap.specs.declared.snapshot.Snapshot.{Snapshot}
 use Rattle.hk_snap.specs.Snapshots.{last_shown, snapshot_of, IsBefore, IsRising}
 
-before_trans : (p q u : Publication) → IsBefore p q → IsBefore q u → IsBefore p u
+pub before_trans : (p q u : Publication) → IsBefore p q → IsBefore q u → IsBefore p u
 before_trans p q u (inl a) (inl b) = inl (omega (arith, a, b))
 before_trans p q u (inl a) (inr b) = (let e = b.0 in inl (omega (arith, a, e)))
 before_trans p q u (inr a) (inl b) = (let e = a.0 in inl (omega (arith, e, b)))
@@ -21,7 +21,7 @@ not_less : (k : List ℕ) → slice_cmp nat_cmp k k ≡ Less → ⊥
 not_less k e = clash (sym e ∙ nat_list_cmp_total.antisymm k k ∙ ap ordering_reverse e)
 
 -- a later one has another ticket, or another key
-not_before : (p u : Publication) → p.key ≡ u.key → p.ticket ≡ u.ticket → IsBefore p u → ⊥
+pub not_before : (p u : Publication) → p.key ≡ u.key → p.ticket ≡ u.ticket → IsBefore p u → ⊥
 not_before p u key ticket (inl less) = absurd (omega (arith, ticket, less))
 not_before p u key ticket (inr less) = not_less p.key (ap (slice_cmp nat_cmp p.key) key ∙ less.1)
 

@@ -24,7 +24,7 @@ use Rattle.hk_joint_reads.proofs.Latest.{none_behind}
 use Rattle.hk_joint_reads.proofs.Rounds.{each_long}
 
 -- ---- what was seen of a cell begins what is seen later
-abbrev AreBelow : Reader → List (List ℕ) → List (List Publication) → Type 0
+abbrev pub AreBelow : Reader → List (List ℕ) → List (List Publication) → Type 0
 AreBelow r [] lists = ⊤
 AreBelow r (key ∷ keys) [] = ⊤
 AreBelow r (key ∷ keys) (seen ∷ lists) = IsPrefix seen (seen_at r.ends (cell_of key)) × AreBelow r keys lists

@@ -1,2 +1,6 @@
 mod Noting
 mod Ordered
+mod Publishing
+mod Picking
+mod Cutting
+mod Showing

@@ -1,3 +1,4 @@
 pub mod Past
 pub mod Noted
 pub mod Place
+pub mod Cut

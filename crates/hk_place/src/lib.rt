@@ -13,12 +13,19 @@
 //! or none, and with both tickets (`place_of`). Of no snapshots the place is 0. `Changes` tells the same of each key
 //! and moment (`of`, `last_change`, `place`). The commands use these; [`place`] is run by tests alone.
 //!
-//! What no clause says here: that a cell shows under a ticket what the step of that ticket left. Tickets alone are
-//! compared; a shard keeps that of its cells (`IsShard`, `shows`).
+//! What a place means (`joint_reads_are_cuts`): whatever readers of a shard's cells were shown, each at any time, where it has a place by the shard's base and
+//! journal there is one state of the node, that behind the journal's steps up to the place, in which the row of each key is what its snapshot shows: a
+//! consistent cut. It is asked that the tickets of each cell rise, as `SnapReader::load` tells of what it has seen. A row that was published before the
+//! journal began has no place by it, since the journal does not have its step: a caller that keeps earlier journals may place by all of them, joined
+//! (`hk_journal`, `journals_are_joined`).
+//!
+//! What no clause says here: that the cells showed these rows at one moment.
 #![tactic(auto)]
 
 mod changes;
+mod laws;
 mod placing;
 
 pub use changes::Changes;
+pub use laws::joint_reads_are_cuts;
 pub use placing::{PlaceFault, place};
