@@ -1,9 +1,10 @@
 -- What is kept: calls, each with its completion, in rising order of their numbers; and what each operation makes of it.
-use Rattle.std.specs.Prelude.{◌≡◌, ◌≢◌, List, Option, None, Some, IsSome, Result, Ok, Err}
+use Rattle.std.specs.Prelude.{◌≡◌, ◌≢◌, List, Option, None, Some, IsSome, Bool, false, ◌==◌, Result, Ok, Err}
 use Rattle.std.specs.declared.cmp.Ordering.{Ordering}
 use Rattle.std.specs.Ordering.{nat_cmp}
 use Rattle.std.specs.BTreeMap.{is_at, insert_entry}
-use Rattle.std.specs.Map.{lookup, remove_entry}
+use Rattle.std.specs.List.Sorted.{IsStrictlySortedBy}
+use Rattle.std.specs.Map.{keys_of, lookup, remove_entry}
 use Rattle.hk_base.specs.declared.call.CallNo.{CallNo}
 use Rattle.hk_base.specs.declared.call.Answer.{Answer}
 use Rattle.hk_callback.specs.declared.completion.Delivery.{Delivery}
@@ -18,6 +19,27 @@ module _ {F : Type 0} where
   -- the completion of a call, if one is kept
   abbrev pub completion_of : List (CallNo × F) → CallNo → Option F
   completion_of kept call = lookup (is_at (by_number call)) kept
+
+  -- ---- the newest, which stands beside the map
+  -- it is that of the call
+  abbrev pub is_newest : Option (CallNo × F) → CallNo → Bool
+  is_newest None call = false
+  is_newest (Some entry) call = entry.0.0 == call.0
+
+  -- its completion
+  abbrev pub done_of : Option (CallNo × F) → Option F
+  done_of None = None
+  done_of (Some entry) = Some entry.1
+
+  -- both together
+  abbrev pub all_kept : Option (CallNo × F) → List (CallNo × F) → List (CallNo × F)
+  all_kept None kept = kept
+  all_kept (Some entry) kept = insert_entry by_number kept entry.0 entry.1
+
+  -- the map rises, and has nothing of the newest call
+  pub record AreBoth (newest : Option (CallNo × F)) (kept : List (CallNo × F)) : Type 0 where
+    pub rises : IsStrictlySortedBy by_number (keys_of kept)
+    pub apart : (entry : CallNo × F) → newest ≡ Some entry → completion_of kept entry.0 ≡ None
 
   -- the completion of the call is kept too
   abbrev pub kept_with : List (CallNo × F) → CallNo → F → List (CallNo × F)

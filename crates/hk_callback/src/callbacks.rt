@@ -1,7 +1,10 @@
 //! Completions by the number of their call.
 
 ghost use Rattle.std.specs.Prelude.{◌≡◌, [], Some, None, IsSome, OnOk, OnErr, IfOk};
-ghost use Rattle.hk_callback.specs.Kept.{completion_of, kept_without, AreOthersSame, IsKeep, IsFired};
+ghost use Rattle.std.specs.List.Sorted.{IsStrictlySortedBy};
+ghost use Rattle.std.specs.Map.{keys_of};
+ghost use Rattle.std.specs.Option.{option_copied};
+ghost use Rattle.hk_callback.specs.Kept.{by_number, completion_of, kept_without, all_kept, is_newest, done_of, AreOthersSame, IsKeep, IsFired};
 
 use crate::completion::{Completion, Delivery};
 use hk_base::{Answer, CallNo, Memory};
@@ -24,6 +27,8 @@ pub enum KeepFault<F> {
 /// The completions of calls that are not answered yet. Contracts see the calls, each with its completion, in rising order of the numbers.
 #[derive(Drop)]
 pub struct Callbacks<F: Completion + Drop> {
+    /// The newest stands beside the map until another one comes: most calls are answered at once, and theirs never come to the map.
+    newest: Option<(CallNo, F)>,
     kept: BTreeMap<CallNo, F>,
 }
 
@@ -33,7 +38,66 @@ impl<F: Completion + Drop> Model for Callbacks<F> {
 
     ghost Value = { List (CallNo × F) };
 
-    ghost view = { λ c. c.kept.entries };
+    ghost use Rattle.hk_callback.specs.Kept.{all_kept, AreBoth};
+
+    ghost view = { λ c. all_kept c.newest c.kept.entries };
+
+    ghost invariant = { λ c. AreBoth c.newest c.kept.entries };
+}
+
+// Whether this is the newest call.
+fn is_newest<F>(newest: &Option<(CallNo, F)>, call: CallNo) -> bool
+    ensures { result ≡ is_newest newest.now call }
+{
+    match newest {
+        Some(entry) => entry.0 == call,
+        None => false,
+    }
+}
+
+// The newest completion.
+fn done_of<F>(newest: &Option<(CallNo, F)>) -> Option<&F>
+    ensures { option_copied result ≡ done_of newest.now }
+{
+    match newest {
+        Some(entry) => Some(&entry.1),
+        None => None,
+    }
+}
+
+// Takes the newest completion out.
+fn take_newest<F: Drop>(newest: &mut Option<(CallNo, F)>) -> Option<F>
+    ensures done { result ≡ done_of newest.old }
+    ensures gone { newest.new ≡ None }
+{
+    match newest.take() {
+        Some(entry) => Some(entry.1),
+        None => None,
+    }
+}
+
+// Puts the newest into the map, if there is one.
+fn settle<F: Drop>(
+    newest: &mut Option<(CallNo, F)>,
+    kept: &mut BTreeMap<CallNo, F>,
+) -> Result<(), Memory>
+    requires { IsStrictlySortedBy by_number (keys_of kept.old.entries) }
+    ensures free { OnOk result (newest.new ≡ None) }
+    ensures put { OnOk result (kept.new.entries ≡ all_kept newest.old kept.old.entries) }
+    ensures rises { OnOk result (IsStrictlySortedBy by_number (keys_of kept.new.entries)) }
+    ensures same { OnErr result (newest.new ≡ newest.old) }
+    ensures err { OnErr result (kept.new.entries ≡ kept.old.entries) }
+{
+    let Some(entry) = newest.take() else {
+        return Ok(());
+    };
+    match kept.insert(entry.0, entry.1) {
+        Ok(_) => Ok(()),
+        Err(refused) => {
+            *newest = Some(refused.value);
+            Err(Memory)
+        }
+    }
 }
 
 impl<F: Completion + Drop> Callbacks<F> {
@@ -42,6 +106,7 @@ impl<F: Completion + Drop> Callbacks<F> {
         ensures { result ≡ [] }
     {
         Callbacks {
+            newest: None,
             kept: BTreeMap::new(alloc),
         }
     }
@@ -52,13 +117,26 @@ impl<F: Completion + Drop> Callbacks<F> {
         ensures kept { OnOk result (completion_of self.new call ≡ Some done) }
         ensures others { AreOthersSame self.old self.new call }
     {
-        if self.kept.contains_key(&call) {
+        if self.find(call).is_some() {
             return Err(KeepFault::Kept(done));
         }
-        match self.kept.insert(call, done) {
-            Ok(_) => Ok(()),
-            Err(refused) => Err(KeepFault::Memory(refused.value.1)),
+        match settle(&mut self.newest, &mut self.kept) {
+            Ok(()) => {
+                self.newest = Some((call, done));
+                Ok(())
+            }
+            Err(_) => Err(KeepFault::Memory(done)),
         }
+    }
+
+    // The completion of a call, if it has one.
+    fn find(&self, call: CallNo) -> Option<&F>
+        ensures { option_copied result ≡ completion_of self.now call }
+    {
+        if is_newest(&self.newest, call) {
+            return done_of(&self.newest);
+        }
+        self.kept.get(&call)
     }
 
     /// Calls the completion of a call with its answer. `None` comes exactly where the call has none. After a delivery it is gone, and after `Memory` it is
@@ -70,7 +148,7 @@ impl<F: Completion + Drop> Callbacks<F> {
         ensures err { OnErr result (self.new ≡ self.old) }
         ensures still_kept { OnErr result (IsSome (completion_of self.new call)) }
     {
-        let Some(done) = self.kept.get(&call) else {
+        let Some(done) = self.find(call) else {
             return Ok(None);
         };
         let delivery = done.deliver(call, answer)?;
@@ -85,6 +163,9 @@ impl<F: Completion + Drop> Callbacks<F> {
         ensures gone { completion_of self.new call ≡ None }
         ensures others { AreOthersSame self.old self.new call }
     {
+        if is_newest(&self.newest, call) {
+            return take_newest(&mut self.newest);
+        }
         self.kept.remove(&call)
     }
 }

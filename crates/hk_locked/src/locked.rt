@@ -1,6 +1,6 @@
 //! A shard under its lock.
 
-ghost use Rattle.std.specs.Prelude.{◌≡◌, ◌<◌, ◌≤◌, ◌∷◌, [], true, false, not, None, Some, IsTrue, IfOk, OnOk, OnErr, MatchOption};
+ghost use Rattle.std.specs.Prelude.{◌≡◌, ℕ, List, ◌<◌, ◌≤◌, ◌∷◌, [], true, false, not, None, Some, IsTrue, IfOk, OnOk, OnErr, MatchOption};
 ghost use Rattle.std.specs.Option.{option_copied, IfSome};
 ghost use Rattle.std.specs.List.{AllByRecursion};
 ghost use Rattle.hk_base.specs.Range.{IsLetter};
@@ -9,6 +9,7 @@ ghost use Rattle.hk_node.specs.Sound.{IsNodeEvent};
 ghost use Rattle.hk_node.specs.Laws.{IsNoCall};
 ghost use Rattle.hk_shard.specs.Shard.{IsShard, IsApplied};
 ghost use Rattle.hk_snap.specs.Ends.{names};
+ghost use Rattle.hk_snap.specs.Snapshots.{cell_of};
 ghost use Rattle.hk_told.specs.Held.{Delivers, IsNewAsk, IsWith};
 ghost use Rattle.hk_told.specs.Kept.{asks_in, AreOthersSame};
 ghost use Rattle.hk_base.specs.declared.call.Op.TheVariants.{Read};
@@ -363,11 +364,21 @@ impl<F: Completion + Copy + Drop, P: Places> LockedShard<F, P> {
         ensures met { OnOk result (Meets self.old key.now reader.old reader.new) }
         ensures err { OnErr result (reader.new ≡ reader.old) }
     {
+        self.meet_cell(cell_of(key), reader)
+    }
+
+    // The same of a cell, 0 to 31, and each key that is published there.
+    fn meet_cell(&mut self, cell: u8, reader: &mut ShardReader<P>) -> Result<(), Memory>
+        requires { cell < 32 }
+        ensures same { self.new ≡ self.old }
+        ensures met { OnOk result ((key : List ℕ) → cell ≡ cell_of key → Meets self.old key reader.old reader.new) }
+        ensures err { OnErr result (reader.new ≡ reader.old) }
+    {
         if !self.is_read_by(reader) {
             return Err(Memory);
         }
         keeps(&self.shard);
-        self.shard.see(cell_of(key), &mut reader.cells);
+        self.shard.see(cell, &mut reader.cells);
         Ok(())
     }
 
@@ -465,10 +476,11 @@ impl<F: Completion + Copy + Drop, P: Places> LockedShard<F, P> {
         ensures letters { IfOk result (λ started. AllByRecursion IsLetter started.letters) }
         ensures grown { IsGrown key.now reader.old reader.new }
     {
-        self.meet(key, reader)?;
+        let cell = cell_of(key);
+        self.meet_cell(cell, reader)?;
         self.meet_lease(rt, reader)?;
         let started = self.begin(rt, alloc, ticket, call, key, op, tell)?;
-        self.meet(key, reader)?;
+        self.meet_cell(cell, reader)?;
         Ok(started)
     }
 

@@ -54,7 +54,7 @@ abbrev pub Writes : CallNo → (Ask → Ask) → List (CallNo × Ask) → List (
 Writes call change kept new =
     ((ask : Ask) → asks_in kept call ≡ Some ask → new ≡ set_value (is_at (by_number call)) kept (change ask)) × (asks_in kept call ≡ None → new ≡ kept)
 
-written : (call : CallNo) (change : Ask → Ask) (kept new : List (CallNo × Ask)) → Writes call change kept new →
+pub written : (call : CallNo) (change : Ask → Ask) (kept new : List (CallNo × Ask)) → Writes call change kept new →
     (asks_in new call ≡ option_map change (asks_in kept call)) × ((other : CallNo) → other ≢ call → asks_in new other ≡ asks_in kept other)
 written call change kept new w = by (asks_in kept call) refl
   where

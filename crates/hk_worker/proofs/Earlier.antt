@@ -1,5 +1,5 @@
 -- What an ask tells is told too from before a look that came first.
-use Rattle.std.proofs.Common.{◌≡◌, ◌≢◌, inl, inr, ℕ, ◌+◌, ◌-◌, ◌≤◌, min, List, ◌∷◌, ◌++◌, Option, Some, None, true, Result, Ok, Err, refl, sym, ap, ◌∙◌, subst, arith, append_assoc, le_refl, le_trans}
+use Rattle.std.proofs.Common.{◌≡◌, ◌≢◌, inl, inr, ℕ, ◌+◌, ◌-◌, ◌≤◌, min, List, ◌∷◌, ◌++◌, Option, Some, None, true, false, Result, Ok, Err, refl, sym, ap, ◌∙◌, subst, arith, append_assoc, le_refl, le_trans}
 use Rattle.std.specs.Option.{IfSome}
 use mathlib.Core.List.{IsPrefix}
 use Rattle.hk_base.specs.declared.time.TheConstants.{MAX_TIME}
@@ -25,7 +25,7 @@ use Rattle.hk_base.specs.declared.memory.Memory.{Memory}
 use Rattle.hk_outside.specs.declared.desk.Begun.{Begun as DeskBegun}
 use Rattle.hk_worker.specs.declared.asking.OpenAsk.{OpenAsk}
 use Rattle.hk_outside.specs.declared.desk.Begun.TheVariants as opened
-use Rattle.hk_worker.specs.Opening.{BeginsAtPost, BeginsByClock}
+use Rattle.hk_worker.specs.Opening.{BeginsAtPost, BeginsByClock, begun_by_lease}
 
 -- ---- what is shown
 module _ (old first grown : List Publication) (call : CallNo) (key : List ℕ) (op : Op) where
@@ -215,6 +215,24 @@ module _ (reading : Option ℕ) (value : ℕ) (key : List ℕ) (mid : PostState)
   pub risen_begun : (op : Op) (new : PostState) (begun : DeskBegun OpenAsk) → BeginsAtPost {E = Memory} key op mid new (Ok begun) → HasRisen reading key new
   risen_begun op new (opened.Told reply) h = risen_asked {E = Memory} op new (Ok reply) h
   risen_begun op new (opened.Waits w) h = risen reading value (reader_of key mid).lease.now (reader_of key new).lease.now told above h.0.grown.lease.now
+
+-- what needs no lease is given as it is
+begun_as_it_is_at : (was_read : ReaderState → ℕ → Type 0) (reading : Option ℕ) (key : List ℕ) (op : Op) (old mid new : PostState) → HasLooked key old mid → HasRisen reading key mid → (begun : Result (DeskBegun OpenAsk) Memory)
+    → begun_by_lease begun ≡ false → ((b : DeskBegun OpenAsk) → BeginsAtPost {E = Memory} key op mid new (Ok b) → HasRisen reading key new) → BeginsAtPost key op mid new begun → BeginsByClock was_read reading key op old new begun
+begun_as_it_is_at was_read reading key op old mid new l rose (Ok (opened.Told (Told answer))) none later h =
+    asks_earlier was_read reading key op old mid new l {E = Memory} (Ok (Told answer)) (gives_answer was_read reading key op mid new new (looked_itself key new) (later (opened.Told (Told answer)) h) answer answer
+    (λ call o first tells. inl (none, tells)) h)
+begun_as_it_is_at was_read reading key op old mid new l rose (Ok (opened.Told (Unknown turns))) none later h =
+    asks_earlier was_read reading key op old mid new l {E = Memory} (Ok (Unknown turns)) (gives_unknown was_read reading key op mid new (Unknown turns) turns refl (later (opened.Told (Unknown turns)) h) h)
+begun_as_it_is_at was_read reading key op old mid new l rose (Ok (opened.Told (Spent asks))) none later h =
+    asks_earlier was_read reading key op old mid new l {E = Memory} (Ok (Spent asks)) (gives_spent was_read reading key op mid new (Spent asks) asks refl h)
+begun_as_it_is_at was_read reading key op old mid new l rose (Ok (opened.Waits w)) none later h = (mid, l, rose, h)
+begun_as_it_is_at was_read reading key op old mid new l rose (Err e) none later h = inr (asked_earlier key old mid new l h)
+
+pub begun_as_it_is : (was_read : ReaderState → ℕ → Type 0) (reading : Option ℕ) (value : ℕ) (key : List ℕ) (op : Op) (old mid new : PostState) → IfSome reading (λ time. value ≡ time) → min value MAX_TIME ≤ (reader_of key mid).lease.now
+    → HasLooked key old mid → (begun : Result (DeskBegun OpenAsk) Memory) → begun_by_lease begun ≡ false → BeginsAtPost key op mid new begun → BeginsByClock was_read reading key op old new begun
+begun_as_it_is was_read reading value key op old mid new told above l begun none h =
+    begun_as_it_is_at was_read reading key op old mid new l (risen_at reading value key mid told above) begun none (λ b began. risen_begun reading value key mid told above op new b began) h
 
 -- where no memory was found for the tick, or for the ask
 pub fails_by_clock : {E : Type 0} (was_read : ReaderState → ℕ → Type 0) (reading : Option ℕ) (key : List ℕ) (op : Op) (old new : PostState) (fault : E) (result : Result DeskReply E) → result ≡ Err fault

@@ -47,6 +47,12 @@ pub failed_sends_call : {A E : Type 0} (places : List NodeNames) (call : CallNo)
     → SendsOrFails places old.node old.number call key op old new before after result
 failed_sends_call places call key op old new before after fault result is sends = subst (SendsOrFails places old.node old.number call key op old new before after) (sym is) (inl sends)
 
+-- whatever came of it
+pub sends_or_fails : {A E : Type 0} (places : List NodeNames) (call : CallNo) (key : List ℕ) (op : Op) (old new : ReaderState) (before after : List (Actor × LinkEnd)) (result : Result A E)
+    → SendsCall places old.node old.number call key op old new before after → SendsOrFails places old.node old.number call key op old new before after result
+sends_or_fails places call key op old new before after (Ok reply) sends = sends
+sends_or_fails places call key op old new before after (Err e) sends = inl sends
+
 -- ---- at a post
 module _ (places : List NodeNames) (key : List ℕ) (op : Op) (call : CallNo) (old : PostState) (i : ℕ) (before r : ReaderState) (is : i ≡ shard_of key) (short : i < 8)
     (readers : AreReadersBelow 8 old.node old.readers) (value : before ≡ slice_index_or old.readers i before) (number : call ≡ call_number old.number (old.asks + 1)) where

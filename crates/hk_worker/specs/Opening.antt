@@ -1,5 +1,5 @@
 -- Asks of a post that begin, and are told later, with others asked between.
-use Rattle.std.specs.Prelude.{◌≡◌, ◌⊎◌, ⊤, ℕ, ◌+◌, ◌<◌, ◌==◌, if◌then◌else◌, List, [], ◌∷◌, ◌++◌, Option, Some, None, Result, Ok, Err}
+use Rattle.std.specs.Prelude.{◌≡◌, ◌⊎◌, ⊤, ℕ, ◌+◌, ◌<◌, ◌==◌, if◌then◌else◌, List, [], ◌∷◌, ◌++◌, Option, Some, None, Result, Ok, Err, Bool, false}
 use mathlib.Core.List.{IsPrefix}
 use Rattle.hk_base.specs.declared.memory.Memory.{Memory}
 use Rattle.hk_base.specs.declared.call.CallNo.{CallNo}
@@ -17,7 +17,7 @@ use Rattle.hk_locked.specs.Steps.{StartsAt, LooksOften}
 use Rattle.hk_worker.specs.declared.asking.OpenAsk.{OpenAsk}
 use Rattle.hk_worker.specs.Asking.{PostState, Tells, HasAsked, AsksAtPost, call_number, reader_of}
 use Rattle.hk_worker.specs.Turns.{IsUnasked, seen_of, IsShownIn, Rise}
-use Rattle.hk_worker.specs.Reading.{HasLooked, HasRisen, AsksByClock, IsShownByClock}
+use Rattle.hk_worker.specs.Reading.{HasLooked, HasRisen, AsksByClock, IsShownByClock, holds_by_lease}
 use Rattle.hk_worker.specs.Sending.{SendsNextCall, SendsByClock}
 
 -- it waits for this call
@@ -138,6 +138,18 @@ abbrev pub StepCountsRise : (ReaderState → ℕ → Type 0) → Type 0
 StepCountsRise was_read = (post : PostState) (steps : List PostStep) → StepsInTurn was_read post steps → Rise post.asks (counts_of_steps steps)
 
 -- ---- by a clock
+-- what was told holds only while the lease runs
+abbrev pub told_by_lease : DeskReply → Bool
+told_by_lease (Told answer) = holds_by_lease answer
+told_by_lease (Unknown turns) = false
+told_by_lease (Spent asks) = false
+
+-- so does what came of an ask that began
+abbrev pub begun_by_lease : {E : Type 0} → Result (Begun OpenAsk) E → Bool
+begun_by_lease (Ok (opened.Told reply)) = told_by_lease reply
+begun_by_lease (Ok (opened.Waits w)) = false
+begun_by_lease (Err e) = false
+
 -- What an ask by a clock comes to that begins: it is told as one by a clock, or waits; before that the post looked, and the clock of the key's shard was raised.
 abbrev pub BeginsByClock : {E : Type 0} → (ReaderState → ℕ → Type 0) → Option ℕ → List ℕ → Op → PostState → PostState → Result (Begun OpenAsk) E → Type 0
 BeginsByClock {E = E} was_read reading key op old new (Ok (opened.Told reply)) = AsksByClock {E = E} was_read reading key op old new (Ok reply)

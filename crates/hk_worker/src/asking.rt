@@ -1,11 +1,8 @@
 //! An ask of one operation at the shards of a node, and an update that waits there.
 
-ghost use Rattle.std.specs.Prelude.{◌≡◌, ◌≤◌, ◌<◌, ℕ, List, None, Ok, Err, IfOk, OnErr};
+ghost use Rattle.std.specs.Prelude.{◌≡◌, ◌≤◌, ◌<◌, ℕ, None, IfOk, OnErr};
 ghost use Rattle.std.specs.List.{AllByRecursion};
 ghost use Rattle.hk_base.specs.Range.{IsLetter};
-ghost use Rattle.hk_base.specs.declared.memory.Memory.{Memory};
-ghost use Rattle.hk_base.specs.declared.call.CallNo.{CallNo};
-ghost use Rattle.hk_base.specs.declared.call.Op.{Op};
 ghost use Rattle.hk_outside.specs.Desk.{Suits};
 ghost use Rattle.hk_locked.specs.Locked.{ReaderState};
 ghost use Rattle.hk_locked.specs.Makes.{CallsAt};
@@ -45,9 +42,10 @@ pub struct OpenAsk {
 }
 
 impl OpenAsk {
-    // One whose step is not made yet.
-    pub(crate) fn new(key: &Key, op: &Op, call: CallNo, since: u64) -> Result<OpenAsk, Memory>
-        ensures { IfOk result (λ waits. IsOpen call key.now op.now waits) }
+    // One whose step has this ticket.
+    fn new(key: &Key, op: &Op, call: CallNo, ticket: u64, since: u64) -> Result<OpenAsk, Memory>
+        ensures open { IfOk result (λ waits. IsOpen call key.now op.now waits) }
+        ensures ticket { IfOk result (λ waits. waits.ticket ≡ ticket) }
     {
         let key = key.share()?;
         let op = op.share()?;
@@ -55,52 +53,31 @@ impl OpenAsk {
             key,
             op,
             call,
-            ticket: 0,
+            ticket,
             since,
         })
     }
-
-    // The same, under the ticket of its step.
-    fn under(self, ticket: u64) -> OpenAsk
-        ensures { (result.key ≡ self.key) × (result.op ≡ self.op) × (result.call ≡ self.call) × (result.ticket ≡ ticket) }
-    {
-        let OpenAsk {
-            key,
-            op,
-            call,
-            since,
-            ..
-        } = self;
-        OpenAsk {
-            key,
-            op,
-            call,
-            ticket,
-            since,
-        }
-    }
-
-    // What its step came to: it was answered at once, or waits.
-    pub(crate) fn begun(self, ticket: u64, answer: Option<Answer>) -> Begun<OpenAsk>
-        ensures opens { (call : CallNo) (key : List ℕ) (op : Op) (old new : ReaderState) → IsOpen call key op self → StartsAt old new call key ticket op answer → OpensAt call key op old new result }
-        ensures suits { (call : CallNo) (key : List ℕ) (op : Op) (old new : ReaderState) → IsOpen call key op self → StartsAt old new call key ticket op answer → OpenedSuits {E = Memory} op (Ok result) }
-    {
-        match answer {
-            Some(answer) => Begun::Told(DeskReply::Told(answer)),
-            None => Begun::Waits(self.under(ticket)),
-        }
-    }
-
-    // No memory was found for its step.
-    pub(crate) fn begun_in_vain(self, memory: Memory) -> Result<Begun<OpenAsk>, Memory>
-        ensures { result ≡ Err memory }
-    {
-        Err(memory)
-    }
 }
 
-// The shard's lock, where the key's row is Valid or there is none. That is waited for a while, since each time that it comes to be, another call may be first.
+// The shard's lock, where the key's row is Valid or there is none.
 fn lock_settled<'a, F: Completion + Copy + Drop, P: Places, R: Wait>(
+    rt: &R,
+    shards: &'a Shards<F, P>,
+    outlets: &[(Actor, Outlet)],
+    shard: u8,
+    key: &Key,
+) -> MutexGuard<'a, LockedShard<F, P>> {
+    let held = shards.lock_of(shard).lock(rt);
+    if held.is_settled(key) {
+        return held;
+    }
+    drop(held);
+    lock_open(rt, shards, outlets, shard, key)
+}
+
+// The same where the row was open. It is waited for a while, since each time that it comes to be Valid, another call may be first.
+#[inline(never)]
+fn lock_open<'a, F: Completion + Copy + Drop, P: Places, R: Wait>(
     rt: &R,
     shards: &'a Shards<F, P>,
     outlets: &[(Actor, Outlet)],
@@ -315,6 +292,37 @@ pub(crate) fn ask<F: Completion + Copy + Drop, P: Places, R: Wait>(
     }
     give_up(rt, shards, shard, call);
     Ok(DeskReply::Unknown { turns: TURNS })
+}
+
+/// What the step of a call came to: it was answered at once, or its update waits, and its letters are not rung for yet. Where no memory was found to keep what waits,
+/// nobody waits for what it is told.
+pub(crate) fn begun<F: Completion + Copy + Drop, P: Places, R: Wait>(
+    rt: &R,
+    shards: &Shards<F, P>,
+    outlets: &[(Actor, Outlet)],
+    shard: u8,
+    key: &Key,
+    op: &Op,
+    call: CallNo,
+    ticket: u64,
+    answer: Option<Answer>,
+    since: u64,
+) -> Result<Begun<OpenAsk>, Memory>
+    ensures opens { (old new : ReaderState) → StartsAt old new call key.now ticket op.now answer → IfOk result (λ opened. OpensAt call key.now op.now old new opened) }
+    ensures suits { (old new : ReaderState) → StartsAt old new call key.now ticket op.now answer → OpenedSuits op.now result }
+{
+    if let Some(answer) = answer {
+        ring_all(rt, outlets);
+        return Ok(Begun::Told(DeskReply::Told(answer)));
+    }
+    match OpenAsk::new(key, op, call, ticket, since) {
+        Ok(waits) => Ok(Begun::Waits(waits)),
+        Err(memory) => {
+            ring_all(rt, outlets);
+            give_up(rt, shards, shard, call);
+            Err(memory)
+        }
+    }
 }
 
 /// Rings for what was sent, and looks until an update that waits was told, or the patience is over.

@@ -15,13 +15,13 @@ ghost use Rattle.hk_locked.specs.Places.{NodeNames};
 ghost use Rattle.hk_worker.specs.Asking.{AsksAtPost, PostState, Tells, reader_of};
 ghost use Rattle.hk_worker.specs.Reading.{AsksByClock, HasLooked, HasRisen, TellsByClock, TellsRead};
 ghost use Rattle.hk_worker.specs.Sending.{Sends, SendsByClock};
-ghost use Rattle.hk_worker.specs.Opening.{BeginsAtPost, BeginsByClock, BeginSends, BeginSendsByClock, FinishesAtPost, OpenedSuits};
+ghost use Rattle.hk_worker.specs.Opening.{BeginsAtPost, BeginsByClock, BeginSends, BeginSendsByClock, FinishesAtPost, OpenedSuits, begun_by_lease, told_by_lease};
 
 use crate::asking::OpenAsk;
 use crate::desk::NodeDesk;
 use crate::desk_clock::DeskClock;
 use crate::post::Post;
-use crate::reading::{give, look, raise};
+use crate::reading::{give, holds_by_lease, look, raise};
 use hk_base::{Answer, Key, MAX_TIME, Memory, Op};
 use hk_callback::Completion;
 use hk_locked::Places;
@@ -35,6 +35,30 @@ fn within(reading: u64) -> u64
     ensures below { result ≤ MAX_TIME }
 {
     reading.min(MAX_TIME)
+}
+
+// Whether what was told holds only while the lease runs.
+fn told_by_lease(reply: &DeskReply) -> bool
+    ensures { result ≡ told_by_lease reply.now }
+{
+    match reply {
+        DeskReply::Told(answer) => holds_by_lease(answer),
+        DeskReply::Unknown { .. } => false,
+        DeskReply::Spent { .. } => false,
+    }
+}
+
+// The same of what came of an ask that began. Anything else is given as it is.
+fn begun_by_lease(begun: &Result<Begun<OpenAsk>, Memory>) -> bool
+    ensures { result ≡ begun_by_lease begun.now }
+{
+    match begun {
+        Ok(begun) => match begun {
+            Begun::Told(reply) => told_by_lease(reply),
+            Begun::Waits(_) => false,
+        },
+        Err(_) => false,
+    }
 }
 
 impl<F: Completion + Copy + Drop, P: Places> Post<F, P> {
@@ -184,8 +208,14 @@ impl<F: Completion + Copy + Drop, P: Places> Post<F, P> {
         }
         let reading = clock.now();
         self.raise(rt, key, reading)?;
-        let begun = self.begin(rt, key, op)?;
-        Ok(self.give_begun(rt, clock, key, begun))
+        let begun = self.begin(rt, key, op);
+        if !begun_by_lease(&begun) {
+            return begun;
+        }
+        match begun {
+            Ok(begun) => Ok(self.give_begun(rt, clock, key, begun)),
+            Err(memory) => Err(memory),
+        }
     }
 }
 

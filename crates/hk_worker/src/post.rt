@@ -10,7 +10,7 @@ ghost use Rattle.hk_worker.specs.Sending.{Sends};
 ghost use Rattle.hk_worker.specs.Opening.{BeginsAtPost, BeginSends, FinishesAtPost, OpenedSuits};
 ghost use Rattle.hk_worker.specs.Working.{HasWorked, WereQuietBelow};
 
-use crate::asking::{OpenAsk, ask, begin, finish_ask};
+use crate::asking::{OpenAsk, ask, begin, begun, finish_ask};
 use crate::shards::Shards;
 use hk_base::{Actor, Answer, CallNo, Key, MAX_TIME, Memory, NodeId, Op, SHARDS};
 use hk_callback::Completion;
@@ -156,7 +156,6 @@ impl<F: Completion + Copy + Drop, P: Places> Post<F, P> {
         }
         self.asks += 1;
         let call = call_number(self.number, self.asks);
-        let waits = OpenAsk::new(key, op, call, self.waited)?;
         let shard = shard_of(key);
         let started = match begin(
             rt,
@@ -170,7 +169,7 @@ impl<F: Completion + Copy + Drop, P: Places> Post<F, P> {
             self.tell,
         ) {
             Ok(started) => started,
-            Err(memory) => return waits.begun_in_vain(memory),
+            Err(memory) => return Err(memory),
         };
         let Started {
             ticket,
@@ -178,10 +177,18 @@ impl<F: Completion + Copy + Drop, P: Places> Post<F, P> {
             letters,
         } = started;
         send_all(rt, &mut self.outlets, shard, letters);
-        if answer.is_some() {
-            ring_all(rt, self.outlets.as_slice());
-        }
-        Ok(waits.begun(ticket, answer))
+        begun(
+            rt,
+            &self.shards,
+            self.outlets.as_slice(),
+            shard,
+            key,
+            op,
+            call,
+            ticket,
+            answer,
+            self.waited,
+        )
     }
 
     /// Rings for all that was sent, and looks until an update that waits was told. What is told is shown by what the post's reader of the key's shard has seen. Nothing is sent.

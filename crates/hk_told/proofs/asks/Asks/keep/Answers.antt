@@ -1,6 +1,10 @@
-use Rattle.std.proofs.Common.{sym}
-use Rattle.hk_told.proofs.Apart.{is_apart}
+use Rattle.std.proofs.Common.{sym, ap, ◌∙◌}
+use Rattle.hk_told.proofs.Apart.{is_apart, at_itself}
+use Rattle.hk_told.proofs.Newest.{apart_one}
 use Rattle.hk_told.proofs.asks.Asks.keep.Goals as goal
 
-pub returns-in-Ok-clause-others : goal.returns-in-Ok-clause-others
-returns-in-Ok-clause-others c = λ other ne. rw (sym c.self.view_is) (c.in-Ok.ensures.updates.2 other (is_apart c.args.call other ne))
+pub returns-clause-others : goal.returns-clause-others
+returns-clause-others c = λ other ne. rw (is_apart other c.args.call (λ e. ne (sym e)), sym c.self.view_is) (c.in_ok-settle.ensures.put other)
+
+pub invariant_of-self-2 : goal.invariant_of-self-2
+invariant_of-self-2 c = apart_one c.args.call c.args.ask c.settle.new.kept.entries (c.in_ok-settle.ensures.put c.args.call ∙ rw c.self.view_is c.requires)

@@ -1,0 +1,10 @@
+use Rattle.std.proofs.Common.{sym, ◌∙◌}
+use Rattle.hk_told.proofs.Newest.{find_newest, find_kept}
+use Rattle.hk_told.proofs.asks.Asks.find.Goals as goal
+
+pub returns-then-is_newest : goal.returns-then-is_newest
+returns-then-is_newest c =
+    c.ask_of.ensures ∙ rw (sym c.self.view_is) (find_newest c.args.call c.self.inside.newest c.self.inside.kept.entries (sym c.is_newest.ensures ∙ c.if-is_newest.true))
+
+pub returns : goal.returns
+returns c = c.get.ensures.value ∙ rw (sym c.self.view_is) (find_kept c.args.call c.self.inside.newest c.self.inside.kept.entries (sym c.is_newest.ensures ∙ c.if-is_newest.false))
