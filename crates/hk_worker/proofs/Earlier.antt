@@ -1,5 +1,5 @@
 -- What an ask tells is told too from before a look that came first.
-use Rattle.std.proofs.Common.{◌≡◌, ◌≢◌, inl, inr, ℕ, ◌+◌, ◌-◌, ◌≤◌, min, List, ◌∷◌, ◌++◌, Option, Some, None, true, false, Result, Ok, Err, refl, sym, ap, ◌∙◌, subst, arith, append_assoc, le_refl, le_trans}
+use Rattle.std.proofs.Common.{◌≡◌, inl, inr, ℕ, ◌+◌, ◌-◌, ◌≤◌, min, List, ◌∷◌, ◌++◌, Option, Some, None, true, false, Result, Ok, Err, refl, sym, ap, ◌∙◌, subst, arith, append_assoc, le_refl, le_trans}
 use Rattle.std.specs.Option.{IfSome}
 use mathlib.Core.List.{IsPrefix}
 use Rattle.hk_base.specs.declared.time.TheConstants.{MAX_TIME}
@@ -246,11 +246,6 @@ ask_fails_by_clock was_read reading key op old mid new fault result is l a = sub
 pub begin_fails_by_clock : {E : Type 0} (was_read : ReaderState → ℕ → Type 0) (reading : Option ℕ) (key : List ℕ) (op : Op) (old new : PostState) (fault : E) (result : Result (DeskBegun OpenAsk) E)
     → result ≡ Err fault → HasLooked key old new → BeginsByClock was_read reading key op old new result
 begin_fails_by_clock was_read reading key op old new fault result is looked = subst (BeginsByClock was_read reading key op old new) (sym is) (inl looked)
-
-pub failed_begin_by_clock : {E : Type 0} (was_read : ReaderState → ℕ → Type 0) (reading : Option ℕ) (key : List ℕ) (op : Op) (old mid new : PostState) (fault : E) (result : Result (DeskBegun OpenAsk) E)
-    → result ≡ Err fault → HasLooked key old mid → HasAsked key mid new → BeginsByClock was_read reading key op old new result
-failed_begin_by_clock was_read reading key op old mid new fault result is l a =
-    subst (BeginsByClock was_read reading key op old new) (sym is) (inr (asked_earlier key old mid new l a))
 
 -- what waits does so by the call behind the tick
 pub waits_by_clock : (was_read : ReaderState → ℕ → Type 0) (reading : Option ℕ) (key : List ℕ) (op : Op) (old mid new : PostState) (begun : DeskBegun OpenAsk) (w : OpenAsk) → begun ≡ opened.Waits w

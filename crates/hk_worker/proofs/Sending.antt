@@ -140,10 +140,6 @@ module _ (places : List NodeNames) (key : List ℕ) (op : Op) (old mid new : Pos
   pub failed_sends_by_clock : {E : Type 0} (fault : E) (result : Result DeskReply E) → result ≡ Err fault → Sends places key op mid new (Err fault) → SendsByClock places key op old new result
   failed_sends_by_clock fault result is s = subst (SendsByClock places key op old new) (sym is) (sends_by_clock (Err fault) s)
 
-  pub failed_begin_sends_by_clock : {E : Type 0} (fault : E) (result : Result (Begun OpenAsk) E) → result ≡ Err fault → BeginSends places key op mid new (Err fault)
-      → BeginSendsByClock places key op old new result
-  failed_begin_sends_by_clock fault result is s = subst (BeginSendsByClock places key op old new) (sym is) (begin_sends_by_clock (Err fault) s)
-
 -- what begins and is told at once sends as an ask does
 pub begins_as_ask : (places : List NodeNames) (key : List ℕ) (op : Op) (old new : PostState) (reply : DeskReply) → BeginSends {E = Memory} places key op old new (Ok (opened.Told reply))
     → Sends {E = Memory} places key op old new (Ok reply)

@@ -1,4 +1,3 @@
-use Rattle.std.proofs.Common.{◌∙◌}
 use Rattle.hk_worker.proofs.Telling.{tells_now, tells_suit, opens_later}
 use Rattle.hk_worker.proofs.asking.begun.Goals as goal
 
