@@ -84,15 +84,24 @@ impl<R: Wait + Eprint + Copy + Drop> World<R> {
 
     /// At how many hosts there is a node that has all rows, and is a member of the last views.
     pub fn count_whole(&self) -> usize {
-        self.hosts.iter().filter(|host| self.is_whole(host)).count()
+        let mut count = 0usize;
+        for host in &self.hosts {
+            if self.is_whole(host) {
+                count = count.saturating_add(1);
+            }
+        }
+        count
     }
 
     /// How many hosts with managers are down, or have lost their disks.
     pub fn count_lost(&self) -> usize {
-        let managers = self.hosts.iter().take(usize::from(self.terms.managers));
-        managers
-            .filter(|host| host.is_down || host.is_wiped)
-            .count()
+        let mut count = 0usize;
+        for host in self.hosts.iter().take(usize::from(self.terms.managers)) {
+            if host.is_down || host.is_wiped {
+                count = count.saturating_add(1);
+            }
+        }
+        count
     }
 
     /// Whether all managers are open.

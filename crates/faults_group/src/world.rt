@@ -214,10 +214,14 @@ impl<R: Wait + Eprint + Copy + Drop> World<R> {
 
     /// Where the process of this node's number runs.
     pub fn host_of(&self, number: NodeId) -> Option<usize> {
-        self.hosts.iter().position(|host| match &host.running {
-            Some(process) => process.number() == Some(number),
-            None => false,
-        })
+        for (place, host) in self.hosts.iter().enumerate() {
+            if let Some(process) = &host.running {
+                if process.number() == Some(number) {
+                    return Some(place);
+                }
+            }
+        }
+        None
     }
 
     // To which host it travels.
