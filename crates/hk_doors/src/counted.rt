@@ -1,6 +1,9 @@
 //! Doors that count.
 
-ghost use Rattle.std.specs.Prelude.{◌≡◌, Some};
+ghost use Rattle.std.specs.Prelude.{◌≡◌, Some, false, OnOk};
+ghost use Rattle.hk_outside.specs.Causes.{HasCause};
+ghost use Rattle.hk_outside.specs.Counts.{Accepts};
+ghost use Rattle.hk_doors.specs.Behind.{ComesThrough};
 
 use hk_outside::{Doors, Failed};
 
@@ -41,7 +44,12 @@ impl<D: Doors + Drop> Doors for CountedDoors<D> {
 
     ghost closed = { λ d. D.closed d.doors };
 
-    fn open(&mut self, port: u16) -> Result<(), Failed> {
+    fn open(&mut self, port: u16) -> Result<(), Failed>
+        ensures left { self.new.left ≡ self.old.left }
+        ensures opened { OnOk result (D.closed self.new.doors ≡ false) }
+        ensures cause { HasCause self.old.faults self.new.faults result }
+        ensures behind { HasCause (D.faults self.old.doors) (D.faults self.new.doors) result }
+    {
         match self.doors.open(port) {
             Ok(()) => Ok(()),
             Err(Failed) => {
@@ -51,7 +59,11 @@ impl<D: Doors + Drop> Doors for CountedDoors<D> {
         }
     }
 
-    fn accept(&mut self) -> Result<Option<D::Conn>, Failed> {
+    fn accept(&mut self) -> Result<Option<D::Conn>, Failed>
+        ensures left { Accepts (Some self.old.left) (Some self.new.left) result }
+        ensures cause { HasCause self.old.faults self.new.faults result }
+        ensures behind { ComesThrough (D.left self.old.doors) (D.left self.new.doors) (D.faults self.old.doors) (D.faults self.new.doors) result }
+    {
         if self.left == 0 {
             return Ok(None);
         }
