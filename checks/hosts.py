@@ -265,8 +265,8 @@ class Hosts:
 
     def how_it_stands(self):
         """What `status` tells, and which processes have ended, in words for a Fault."""
-        ended = {place: server.process.returncode for place, server in self.servers.items() if not server.is_up()}
-        return f"status tells {self.command('status')[1].splitlines()}; processes that have ended, with their statuses: {ended}"
+        ended = {place: (server.process.returncode, server.told()[-300:]) for place, server in self.servers.items() if not server.is_up()}
+        return f"status tells {self.command('status')[1].splitlines()}; processes that have ended, with their statuses and what they told: {ended}"
 
     def is_open(self, place):
         """Whether the manager of this host tells that it is open."""
@@ -303,7 +303,11 @@ class Hosts:
         told = {}
 
         def is_agreed():
-            told.update((place, self.told_by(place)) for place in range(self.count))
+            for place in range(self.count):
+                try:
+                    told[place] = self.told_by(place)
+                except ConnectionRefusedError:
+                    raise Fault(f"manager {place} takes no connection; {self.how_it_stands()}") from None
             agreed = [view] if view else views_told(told[0])[:1]
             return all(lines[0] == first and views_told(lines) == agreed for lines in told.values())
 
