@@ -1,6 +1,6 @@
 //! The keys of the store.
 
-ghost use Rattle.std.specs.Prelude.{◌≡◌, position, IfOk};
+ghost use Rattle.std.specs.Prelude.{◌≡◌, ◌≤◌, length, sum, position, IfOk};
 ghost use Rattle.hk_base.specs.KeyBytes.{is_bad_byte};
 
 use crate::memory::Memory;
@@ -78,7 +78,7 @@ impl Model for Key {
     ghost invariant = { λ k. IsKept k.form };
 }
 
-ghost use Rattle.hk_base.specs.KeyForm.{shown, in_key, IsFront, HasRoom};
+ghost use Rattle.hk_base.specs.KeyForm.{shown, in_key, IsFront, IsKept, HasRoom};
 
 // The bytes in the form that their number asks for.
 fn form_of(alloc: Global, bytes: &[u8]) -> Result<Form, Memory>
@@ -95,6 +95,31 @@ fn form_of(alloc: Global, bytes: &[u8]) -> Result<Form, Memory>
     let front = padded(&bytes[..FRONT_LEN]);
     let bytes = ArcSlice::from_slice(alloc, bytes)?;
     Ok(Form::Long { front, bytes })
+}
+
+// The sum of bytes.
+fn byte_sum(bytes: &[u8]) -> u64
+    requires { length bytes.now ≤ 250 }
+    ensures { result ≡ sum bytes.now }
+{
+    let mut sum = 0u64;
+    for byte in bytes {
+        sum += u64::from(*byte);
+    }
+    sum
+}
+
+impl Form {
+    // The sum of the bytes. The zeros behind those of a short key add nothing, and so many places are summed without a loop.
+    fn byte_sum(&self) -> u64
+        requires { IsKept self.now }
+        ensures { result ≡ sum (shown self.now) }
+    {
+        match self {
+            Form::Short { bytes, .. } => byte_sum(bytes),
+            Form::Long { bytes, .. } => byte_sum(bytes.as_slice()),
+        }
+    }
 }
 
 impl Key {
@@ -129,6 +154,13 @@ impl Key {
             Form::Short { bytes, len } => &bytes[..*len as usize],
             Form::Long { bytes, .. } => bytes.as_slice(),
         }
+    }
+
+    /// The sum of the key's bytes, from which its shard and its cell come.
+    pub fn byte_sum(&self) -> u64
+        ensures { result ≡ sum self.now }
+    {
+        self.form.byte_sum()
     }
 
     /// The same key. A short one is copied, and a long one shares its bytes.

@@ -21,7 +21,7 @@ use hk_base::{Key, Memory, SHARDS};
 use hk_due::OpenKeys;
 use hk_journal::Journal;
 use hk_node::{Node, NodeEvent, NodeOut};
-use hk_snap::{LeaseCell, LeaseKeeper, SnapReader, SnapWriter, byte_sum};
+use hk_snap::{LeaseCell, LeaseKeeper, SnapReader, SnapWriter};
 use std::alloc::Global;
 use std::marker::Model;
 use std::mem;
@@ -32,7 +32,7 @@ pub fn shard_of(key: &Key) -> u8
     ensures shard { result ≡ shard_of key.now }
     ensures below { result < 8 }
 {
-    let shard = byte_sum(key.bytes()) % u64::from(SHARDS);
+    let shard = key.byte_sum() % u64::from(SHARDS);
     shard as u8
 }
 

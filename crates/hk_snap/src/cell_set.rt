@@ -1,6 +1,6 @@
 //! The 32 cells of a shard: its one writer, and its readers.
 
-ghost use Rattle.std.specs.Prelude.{◌≡◌, ℕ, ◌+◌, ◌*◌, ◌<◌, ◌≤◌, List, [], length, sum, map, take, drop, Option, Some, None, IfOk, OnErr};
+ghost use Rattle.std.specs.Prelude.{◌≡◌, ℕ, ◌+◌, ◌*◌, ◌<◌, ◌≤◌, List, [], length, map, take, drop, Option, Some, None, IfOk, OnErr};
 ghost use Rattle.std.specs.List.{AllByRecursion};
 ghost use Rattle.hk_base.specs.Range.{IsWithin};
 ghost use Rattle.hk_snap.specs.Snapshots.{cell_of, published, last_shown, glance_of, shown_content, IsNext, IsRising};
@@ -23,24 +23,12 @@ use std::sync::Wait;
 /// How many cells a shard has.
 pub const CELLS: usize = 32;
 
-/// The sum of a key's bytes, from which its shard and its cell come.
-pub fn byte_sum(bytes: &[u8]) -> u64
-    requires { length bytes.now ≤ 250 }
-    ensures { result ≡ sum bytes.now }
-{
-    let mut sum = 0u64;
-    for byte in bytes {
-        sum += u64::from(*byte);
-    }
-    sum
-}
-
 /// The cell in which a key's row is published: the sum of its bytes, divided by 8, modulo 32.
 pub fn cell_of(key: &Key) -> u8
     ensures cell { result ≡ cell_of key.now }
     ensures below { result < 32 }
 {
-    let cell = byte_sum(key.bytes()) / 8 % 32;
+    let cell = key.byte_sum() / 8 % 32;
     cell as u8
 }
 

@@ -35,7 +35,7 @@ mod snapshot;
 mod steps;
 mod words;
 
-pub use cell_set::{CELLS, SnapReader, SnapWriter, byte_sum, cell_of, cells};
+pub use cell_set::{CELLS, SnapReader, SnapWriter, cell_of, cells};
 pub use lease::{LeaseCell, LeaseKeeper, lease_cell};
 pub use local::{Local, is_past, read_local};
 pub use rule::Publication;

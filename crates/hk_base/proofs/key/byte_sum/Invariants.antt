@@ -1,5 +1,5 @@
 use Rattle.std.proofs.Common.{◌≡◌, ◌+◌, ◌*◌, ◌≤◌, sum, drop}
-use Rattle.hk_snap.proofs.cell_set.byte_sum.Given as goal
+use Rattle.hk_base.proofs.key.byte_sum.Given as goal
 
 abbrev pub invariant-loop-byte : goal.invariant-loop-byte
 invariant-loop-byte l = (l.sum + sum (drop l.byte-index l.bytes) ≡ sum l.bytes) × (l.sum ≤ 255 * l.byte-index)
