@@ -1,12 +1,13 @@
 -- What was words_from is unpacked.
-use Rattle.std.proofs.Common.{◌≡◌, ℕ, zero, suc, ◌+◌, ◌*◌, ◌-◌, ◌<◌, ◌≤◌, List, [], ◌∷◌, ◌++◌, length, get_or, take, drop, replicate, refl, sym, ap, ◌∙◌, subst, arith, append_assoc, length-append, length-drop}
+use Rattle.std.proofs.Common.{◌≡◌, ℕ, zero, suc, ◌+◌, ◌*◌, ◌-◌, ◌/◌, ◌<◌, ◌≤◌, List, [], ◌∷◌, ◌++◌, length, get_or, take, drop, set, replicate, refl, sym, ap, ◌∙◌, subst, arith, append_assoc, length-append, length-drop}
 use Rattle.std.specs.Int.{from_le_bytes, to_le_bytes, w64}
 use Rattle.std.proofs.lemmas.Nat.{le_bytes_8}
-use Rattle.std.proofs.lemmas.List.{append-nil, take_at}
+use Rattle.std.proofs.lemmas.List.{append-nil, drop-drop, drop_all, take_at}
 use Rattle.std.proofs.lemmas.Grind.{div_ceil_times}
 use mathlib.Core.List.{IsPrefix}
 use Rattle.std.proofs.lemmas.Slice.{take-put_mid}
 use Rattle.std.proofs.Math.Seq.{take-suc, drop-length}
+use Rattle.std.specs.Simd.{first_chunks}
 use borrow.Rule.Slice.PartMut.{put_mid}
 use Rattle.hk_snap.specs.Packed.{words_from, packed, unpacked, words_for, eight, AreBytes}
 
@@ -33,7 +34,7 @@ take_byte (suc n) [] zs all z i = z i
 take_byte (suc n) (b ∷ bytes) zs all z zero = all zero
 take_byte (suc n) (b ∷ bytes) zs all z (suc i) = take_byte n bytes zs (λ j. all (suc j)) z i
 
-pub packs_on : (words rest : List ℕ) (n k : ℕ) → k < n → length words ≡ n → take (k + 1) (Rattle.std.proofs.Common.set words k (from_le_bytes w64 (eight rest))) ++ words_from (n - (k + 1)) (drop 8 rest) ≡ take k words ++ words_from (n - k) rest
+pub packs_on : (words rest : List ℕ) (n k : ℕ) → k < n → length words ≡ n → take (k + 1) (set words k (from_le_bytes w64 (eight rest))) ++ words_from (n - (k + 1)) (drop 8 rest) ≡ take k words ++ words_from (n - k) rest
 packs_on [] rest n k below long = absurd (omega arith)
 packs_on (x ∷ xs) rest zero k below long = absurd (omega arith)
 packs_on (x ∷ xs) rest (suc n) zero below long = let e : suc n - (0 + 1) ≡ n = omega arith in let f : suc n - 0 ≡ suc n = omega arith in rw (e, f) refl
@@ -44,15 +45,38 @@ zeros_from : (n : ℕ) → words_from n [] ≡ replicate n 0
 zeros_from zero = refl
 zeros_from (suc n) = ap (λ l. 0 ∷ l) (zeros_from n)
 
--- zeros from here to the end, where no byte is left
-pub fills_on : (words zeros rest bytes : List ℕ) (n k : ℕ) → k < n → length words ≡ n → length rest ≡ 0 → zeros ≡ replicate (n - k) 0 → take k words ++ words_from (n - k) rest ≡ words_from n bytes
-    → put_mid k (n - k) words zeros ≡ packed n bytes
+-- each chunk of eight is what stands at its place
+chunk_at : (n k : ℕ) (xs other : List ℕ) → k < n → get_or (first_chunks 8 n xs) k other ≡ take 8 (drop (8 * k) xs)
+chunk_at zero k xs other below = absurd (omega arith)
+chunk_at (suc n) zero xs other below = refl
+chunk_at (suc n) (suc k) xs other below =
+    let more : 8 + 8 * k ≡ 8 * suc k = omega arith in
+    chunk_at n k (drop 8 xs) other (omega arith) ∙ ap (take 8) (drop-drop (8 * k) 8 xs ∙ ap (λ j. drop j xs) more)
+
+whole_eight : (bytes : List ℕ) → 8 ≤ length bytes → eight bytes ≡ take 8 bytes
+whole_eight bytes wide = let none : 8 - length bytes ≡ 0 = omega (arith, wide) in rw none (append-nil (take 8 bytes))
+
+-- one chunk more is packed
+pub packs_chunk : (words bytes other : List ℕ) (chunks : List (List ℕ)) (word n k : ℕ) → k < n → length words ≡ n → k < length bytes / 8 → chunks ≡ first_chunks 8 (length bytes / 8) bytes → word ≡ from_le_bytes w64 (get_or chunks k other)
+    → take (k + 1) (set words k word) ++ words_from (n - (k + 1)) (drop (8 * (k + 1)) bytes) ≡ take k words ++ words_from (n - k) (drop (8 * k) bytes)
+packs_chunk words bytes other chunks word n k below long within are is =
+    let rest = drop (8 * k) bytes in
+    let wide : 8 ≤ length rest = rw (length-drop (8 * k) bytes) (omega (arith, within)) in
+    let chunk : word ≡ from_le_bytes w64 (eight rest) = is ∙ ap (from_le_bytes w64) (ap (λ c. get_or c k other) are ∙ (chunk_at (length bytes / 8) k bytes other within ∙ sym (whole_eight rest wide))) in
+    let more : 8 * k + 8 ≡ 8 * (k + 1) = omega arith in
+    let next : drop (8 * (k + 1)) bytes ≡ drop 8 rest = sym (drop-drop 8 (8 * k) bytes ∙ ap (λ j. drop j bytes) more) in
+    rw (chunk, next) (packs_on words rest n k below long)
+
+-- a word for fewer than eight bytes, and zeros behind it
+pub packs_rest : (words zeros bytes : List ℕ) (word m : ℕ) → 0 < length words → m ≡ length words - 1 → length bytes < 8 → word ≡ from_le_bytes w64 (eight bytes) → zeros ≡ replicate m 0
+    → put_mid 1 m (set words 0 word) zeros ≡ packed (length words) bytes
 unfolding packed
-fills_on words zeros [] bytes n k below long none is so =
-    let left : length (drop k words) ≡ n - k = length-drop k words ∙ ap (λ m. m - k) long in
-    let past : drop (n - k) (drop k words) ≡ [] = ap (λ m. drop m (drop k words)) (sym left) ∙ drop-length (drop k words) in
-    (λ i. take k words ++ (is i ++ past i)) ∙ (ap (λ l. take k words ++ l) (append-nil (replicate (n - k) 0) ∙ sym (zeros_from (n - k))) ∙ so)
-fills_on words zeros (b ∷ rest) bytes n k below long none is so = absurd (omega (arith, none))
+packs_rest [] zeros bytes word m some only few is none = absurd (omega arith)
+packs_rest (x ∷ xs) zeros bytes word m some only few is none =
+    let wide : m ≡ length xs = omega (arith, only) in
+    let behind : replicate m 0 ≡ words_from (length xs) (drop 8 bytes) = ap (λ j. replicate j 0) wide ∙ sym (ap (words_from (length xs)) (drop_all 8 bytes (omega (arith, few))) ∙ zeros_from (length xs)) in
+    let past : drop m xs ≡ [] = ap (λ j. drop j xs) wide ∙ drop-length xs in
+    (λ i. is i ∷ ((none ∙ behind) i ++ past i)) ∙ ap (λ l. from_le_bytes w64 (eight bytes) ∷ l) (append-nil (words_from (length xs) (drop 8 bytes)))
 
 take_front : (xs ys : List ℕ) → take (length xs) (xs ++ ys) ≡ xs
 take_front [] ys = refl

@@ -1,6 +1,6 @@
 //! Bytes in words, eight to a word.
 
-ghost use Rattle.std.specs.Prelude.{◌≡◌, ◌*◌, ◌<◌, ◌≤◌, length, drop};
+ghost use Rattle.std.specs.Prelude.{◌≡◌, ◌*◌, ◌<◌, ◌≤◌, length};
 ghost use Rattle.std.specs.Int.{from_le_bytes, w64};
 ghost use Rattle.hk_snap.specs.Packed.{packed, unpacked, words_for, bytes_in, eight};
 
@@ -14,15 +14,17 @@ fn last_word(bytes: &[u8]) -> u64
     u64::from_le_bytes(eight)
 }
 
-// The first eight bytes as a word, and the rest.
-fn first_word(bytes: &[u8]) -> (u64, &[u8])
-    ensures word { result.0 ≡ from_le_bytes w64 (eight bytes.now) }
-    ensures rest { result.1.now ≡ drop 8 bytes.now }
+// Fills the words with fewer than eight bytes, and with zeros behind them.
+#[tactic(auto, unfolding(crate::specs::Packed::packed))]
+fn pack_rest(bytes: &[u8], words: &mut [u64])
+    requires { length bytes.now < 8 }
+    ensures { words.new ≡ packed (length words.old) bytes.now }
 {
-    match bytes.split_first_chunk::<8>() {
-        Some((eight, rest)) => (u64::from_le_bytes(*eight), rest),
-        None => (last_word(bytes), &[]),
+    if words.is_empty() {
+        return;
     }
+    words[0] = last_word(bytes);
+    words[1..].fill(0);
 }
 
 // Fills the words with the bytes, as far as they have room, and with zeros behind them.
@@ -30,16 +32,12 @@ fn first_word(bytes: &[u8]) -> (u64, &[u8])
 pub(crate) fn pack(bytes: &[u8], words: &mut [u64])
     ensures { words.new ≡ packed (length words.old) bytes.now }
 {
-    let mut rest = bytes;
-    for k in 0..words.len() {
-        if rest.is_empty() {
-            words[k..].fill(0);
-            return;
-        }
-        let (word, tail) = first_word(rest);
-        words[k] = word;
-        rest = tail;
+    let (whole, rest) = bytes.as_chunks::<8>();
+    let count = whole.len().min(words.len());
+    for k in 0..count {
+        words[k] = u64::from_le_bytes(whole[k]);
     }
+    pack_rest(rest, &mut words[count..]);
 }
 
 // How many words so many bytes take.
