@@ -10,10 +10,8 @@
 //! names (`changed_rows_are_reported`).
 #![tactic(auto)]
 
-mod copying;
 mod laws;
 mod step_entry;
 
-pub use copying::share_journal;
 pub use laws::{changed_rows_are_reported, journals_are_joined};
-pub use step_entry::{Journal, JournalEntry, entry};
+pub use step_entry::{Journal, JournalEntry, entry, share_journal};

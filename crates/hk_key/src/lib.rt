@@ -20,7 +20,6 @@
 
 mod acks;
 mod boxed;
-mod boxed_row;
 mod copy;
 mod laws;
 mod out;
@@ -28,8 +27,7 @@ mod row;
 mod same;
 
 pub use acks::{Ack, Acks, MAX_ACKS};
-pub use boxed::BoxedPending;
-pub use boxed_row::BoxedRow;
+pub use boxed::{BoxedPending, BoxedRow};
 pub use laws::{
     answers_were_waited_for, calls_wait_or_are_answered, rows_stay_sound, same_rows_are_unchanged,
     stamps_never_fall, worked_rows,

@@ -1,16 +1,16 @@
 //! The cutter.
 
 ghost use Rattle.std.specs.Borrow.{sem};
-ghost use Rattle.std.specs.Prelude.{◌≡◌, ◌≢◌, ◌+◌, ◌<◌, ◌≤◌, ◌^◌, [], length, take, drop, nat_le, OnOk, OnErr, IfOk, IfSome};
+ghost use Rattle.std.specs.Prelude.{◌≡◌, ◌≢◌, ◌+◌, ◌<◌, ◌≤◌, ◌^◌, [], length, take, drop, nat_le, None, OnOk, OnErr, IfOk, IfSome};
 ghost use Rattle.hk_lines.specs.Cut.{line_end, fed, with_room, filled, skipped, expecting, stepped, line_step, block_step, giving};
 ghost use Rattle.hk_lines.specs.Lending.{LendsRoom};
 ghost use Rattle.hk_lines.specs.declared.due.Due.TheVariants as due;
 
 use crate::due::Due;
-use crate::ends::line_end;
 use crate::step::Step;
 use hk_base::Memory;
 use hk_buffer::Buffer;
+use memchr::memchr;
 use std::alloc::Global;
 use std::marker::Model;
 
@@ -236,4 +236,25 @@ fn kept_of(piece: &[u8], dropping: u64) -> &[u8]
         return &[];
     }
     &piece[dropping as usize..]
+}
+
+// How many bytes stand before the first carriage return that a line feed follows. No line ends in the first `searched`
+// bytes, so they are not searched again, but for the last, which may be that carriage return.
+fn line_end(bytes: &[u8], searched: usize) -> Option<usize>
+    requires there { searched ≤ length bytes.now }
+    requires none { line_end (take searched bytes.now) ≡ None }
+    ensures end { result ≡ line_end bytes.now }
+    ensures within { IfSome result (λ n. n + 2 ≤ length bytes.now) }
+{
+    let mut at = searched.saturating_sub(1);
+    loop {
+        let (_, rest) = bytes.split_at(at);
+        let Some(feed) = memchr(b'\n', rest) else {
+            return None;
+        };
+        if feed > 0 && rest[feed - 1] == b'\r' {
+            return Some(at + feed - 1);
+        }
+        at += feed + 1;
+    }
 }

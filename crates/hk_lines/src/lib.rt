@@ -12,7 +12,6 @@
 
 mod cutter;
 mod due;
-mod ends;
 mod step;
 
 ghost use Rattle.hk_lines.specs.Pieces.{PiecesJoin, SkipCommutes, ExpectCommutes, StepStays, LongStays};

@@ -16,15 +16,13 @@
 //! was waited for (`told_were_waiting`).
 #![tactic(auto)]
 
-mod decide;
 mod event;
-mod give;
 mod heard;
 mod laws;
 mod letters;
 mod node;
-mod open;
 mod out;
+mod put;
 mod report;
 mod viewed;
 

@@ -21,9 +21,9 @@ mod rows;
 mod step;
 
 use crate::event::NodeEvent;
-use crate::give::give_rows_back;
 use crate::heard::of_each;
 use crate::out::NodeOut;
+use crate::put::give_rows_back;
 use crate::report::{Report, Undo};
 use hk_base::{CallNo, Key, Letter, Memory, NodeId, Op, Sequence, View};
 use hk_key::{BoxedRow, Row};

@@ -1,7 +1,7 @@
 -- The commands, by their names.
 use Rattle.std.specs.Prelude.{ℕ, List, Bool, Option, None, Some, ◌||◌, if◌then◌else◌, codes}
-use Rattle.hk_request.specs.declared.command.Command.{Command}
-use Rattle.hk_request.specs.declared.command.Command.TheVariants.{Get, Gets, Set, Cas, Add, Replace, Incr, Decr, Delete, Quit, Version}
+use Rattle.hk_request.specs.declared.words.Command.{Command}
+use Rattle.hk_request.specs.declared.words.Command.TheVariants.{Get, Gets, Set, Cas, Add, Replace, Incr, Decr, Delete, Quit, Version}
 use Rattle.hk_request.specs.Words.{is_text}
 
 abbrev pub name_of : Command → List ℕ

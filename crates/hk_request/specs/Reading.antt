@@ -2,8 +2,8 @@
 use Rattle.std.specs.Prelude.{◌≡◌, ◌≤◌, ◌<◌, ℕ, ◌+◌, ◌-◌, ◌^◌, List, [], ◌∷◌, Bool, true, false, Option, None, Some, if◌then◌else◌, Result, Ok, Err}
 use Rattle.hk_base.specs.declared.call.Op.TheVariants as op
 use Rattle.hk_base.specs.declared.data.TheConstants.{MAX_DATA_LEN}
-use Rattle.hk_request.specs.declared.command.Command.{Command}
-use Rattle.hk_request.specs.declared.command.Command.TheVariants as command
+use Rattle.hk_request.specs.declared.words.Command.{Command}
+use Rattle.hk_request.specs.declared.words.Command.TheVariants as command
 use Rattle.hk_request.specs.declared.line.Change.{Change}
 use Rattle.hk_request.specs.declared.request.Request.{Request}
 use Rattle.hk_request.specs.declared.request.Request.TheVariants.{Get, Update, Quit, Version}

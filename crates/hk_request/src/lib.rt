@@ -23,11 +23,7 @@
 #![tactic(auto)]
 
 mod block;
-mod command;
-mod fields;
 mod line;
-mod lone;
-mod numbers;
 mod request;
 mod words;
 

@@ -1,6 +1,6 @@
 //! The line of a request.
 
-ghost use Rattle.std.specs.Prelude.{◌≡◌, ◌<◌, ◌^◌, map, IfOk};
+ghost use Rattle.std.specs.Prelude.{◌≡◌, ◌∷◌, ◌<◌, ◌^◌, [], false, map, Ok, IfOk, IfSome};
 ghost use Rattle.std.specs.Option.{option_map};
 ghost use Rattle.hk_request.specs.Fields.{Gives};
 ghost use Rattle.hk_request.specs.Words.{words_of};
@@ -8,15 +8,12 @@ ghost use Rattle.hk_request.specs.Grammar.{IsHead, IsReadAs};
 ghost use Rattle.hk_request.specs.Heads.{HasItsTagIfStore};
 ghost use Rattle.hk_request.specs.Reading.{ReadsHead, IsWithin, IsWithinHead, head_of, head_of_words, asked_of, keys_of, get_of, store_of, untagged_of, cas_of, change_of, step_of, delete_of, deletion_of, alone_of, skip_of};
 
-use crate::command::{Command, find_command, has_block};
-use crate::fields::{
-    number_at, read_expiry, read_flags, read_key, read_noreply, read_size, read_tag,
-};
-use crate::lone::read_lone_get;
-use crate::numbers::number;
 use crate::request::{Head, Keys, Request, RequestCause, RequestFault, StoreHead, Verb};
-use crate::words::{Words, split};
-use hk_base::{Key, Op};
+use crate::words::{
+    Command, Words, find_command, has_block, number, number_at, read_expiry, read_flags, read_key,
+    read_noreply, read_size, read_tag, split,
+};
+use hk_base::{Key, Memory, Op};
 use std::alloc::Global;
 
 /// Reads a line, which is given without the two bytes that end it. The answer is what the grammar makes of its words,
@@ -56,6 +53,32 @@ fn read_line(alloc: Global, line: &[u8]) -> Result<Head, RequestFault>
             skip: skip(words.as_slice()),
         }),
     }
+}
+
+// The one key of a list.
+fn lone(alloc: Global, key: Key) -> Result<Keys, Memory>
+    ensures { IfOk result (λ keys. keys ≡ key ∷ []) }
+{
+    let mut keys = Vec::with_capacity(alloc, 1)?;
+    keys.push_reserved(key);
+    Ok(Keys::from_vec(keys))
+}
+
+// What a line is that gets one key, with one space before it: most lines are such ones, and need no list of words. None says nothing.
+fn read_lone_get(alloc: Global, line: &[u8]) -> Option<Head>
+    ensures exact { IfSome result (λ head. head_of line.now ≡ Ok head) }
+    ensures within { IfSome result IsWithinHead }
+{
+    let Some(word) = line.strip_prefix(b"get ") else {
+        return None;
+    };
+    let Ok(key) = Key::read(alloc, word) else {
+        return None;
+    };
+    let Ok(keys) = lone(alloc, key) else {
+        return None;
+    };
+    Some(Head::Whole(Request::Get { keys, tags: false }))
 }
 
 // How long the block of a refused store is, with its end, where the fifth word tells it; else 0.

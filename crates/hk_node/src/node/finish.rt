@@ -11,10 +11,9 @@ ghost use Rattle.hk_node.specs.Report.{IsMade, rows_report};
 ghost use Rattle.hk_node.specs.Outs.{IsOutOf, IsOutOfRow};
 
 use super::{Node, epoch_in};
-use crate::give::{change_row, put_first};
 use crate::letters::{post_sent, replies};
-use crate::open::{drop_closed_row, list_opened, list_row};
 use crate::out::NodeOut;
+use crate::put::{change_row, drop_closed_row, list_opened, list_row, put_first};
 use crate::report::{PriorRows, Report, Undo};
 use hk_base::{Answer, CallNo, Key, Letters, Memory, NodeId, Replies, Reply, View};
 use hk_key::{BoxedRow, Out, Row};

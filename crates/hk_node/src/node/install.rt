@@ -7,10 +7,9 @@ ghost use Rattle.hk_node.specs.Steps.{installs};
 ghost use Rattle.hk_node.specs.Outs.{IsOutOf};
 
 use super::Node;
-use crate::give::give_rows_back;
 use crate::heard::share;
-use crate::open::mend;
 use crate::out::NodeOut;
+use crate::put::{give_rows_back, mend};
 use crate::report::{Report, Undo};
 use crate::viewed::view_rows;
 use hk_base::{Memory, Sequence, View};

@@ -14,9 +14,8 @@ ghost use Rattle.hk_node.specs.Copying.{IsQuiet, IsMerge, change_of, put_change,
 ghost use Rattle.hk_node.specs.Outs.{IsOutOf};
 
 use super::Node;
-use crate::give::{give_rows_back, swap_row};
-use crate::open::list_rows;
 use crate::out::NodeOut;
+use crate::put::{give_rows_back, list_rows, swap_row};
 use crate::report::{PriorRow, PriorRows, Report, Undo};
 use hk_base::{CopyItem, CopyItems, Key, Letters, Memory, NodeId, Replies, share_key};
 use hk_key::{BoxedRow, Row};

@@ -7,7 +7,7 @@ ghost use Rattle.hk_node.specs.Copies.{copies_of};
 ghost use Rattle.hk_node.specs.Open.{is_open_behind, next_open};
 
 use super::Node;
-use crate::open::{is_valid, next_listed};
+use crate::put::{is_valid, next_listed};
 use hk_base::{CopyItem, Key, Memory, share_content};
 use hk_copy::Rows;
 use hk_key::{BoxedRow, Row};

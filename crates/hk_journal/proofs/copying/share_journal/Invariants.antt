@@ -1,6 +1,0 @@
-use Rattle.std.proofs.Common.{◌≡◌, take}
-use Rattle.hk_journal.proofs.copying.share_journal.Given as goal
-
--- those so far
-abbrev pub invariant-loop-entry : goal.invariant-loop-entry
-invariant-loop-entry l = l.same ≡ take l.entry-index l.journal

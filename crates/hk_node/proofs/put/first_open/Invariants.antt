@@ -1,0 +1,11 @@
+use Rattle.std.proofs.Common.{◌≡◌}
+use Rattle.std.specs.List.{find}
+use Rattle.hk_node.specs.Index.{is_open_at}
+use Rattle.hk_node.proofs.put.first_open.Given as goal
+
+-- what is left has the first that is open, if there is one
+abbrev pub invariant-loop-key : goal.invariant-loop-key
+invariant-loop-key l =
+    (goal.iterator-loop-key).can_next l.key-iterator ×
+    (goal.iterator-loop-key).is_finite l.key-iterator ×
+    (find (is_open_at l.rows.entries) l.keys.keys ≡ find (is_open_at l.rows.entries) l.key-iterator)
