@@ -419,9 +419,9 @@ def a_peer_that_reads_nothing(room):
         nudge(server)
         share = share_of(server, 2)
         expect_at_most(round(share, 2), IDLE_SHARE, "the share of a processor while it waits for a peer that reads nothing")
-        took = until(40, lambda: nudge(server) or not server.is_up())
+        took = until(60, lambda: nudge(server) or not server.is_up())
         if took is None:
-            raise Fault("a node does not end within 40 s behind its last client, where a peer reads nothing")
+            raise Fault("a node does not end within 60 s behind its last client, where a peer reads nothing")
         expect(server.status(), 0, "its status")
         return f"{share:.2f} of a processor while it waited, ended {took + 2:.0f} s behind its last client, status 0"
 
