@@ -1,18 +1,18 @@
 -- That a line with one key is read so.
-use Rattle.std.proofs.Common.{◌≡◌, ℕ, suc, ◌+◌, List, [], ◌∷◌, ◌++◌, length, take, drop, Bool, true, false, Some, None, refl, ap, sym, ◌∙◌, arith}
+use Rattle.std.proofs.Common.{◌≡◌, ℕ, suc, ◌+◌, ◌-◌, ◌≤◌, slice_index, List, [], ◌∷◌, ◌++◌, length, take, drop, Bool, true, false, Some, None, refl, ap, sym, ◌∙◌, arith}
 use Rattle.std.specs.Prelude.{Ok, ◌==◌, ◌||◌, not, nat_lt, position, codes, if◌then◌else◌}
 use Rattle.std.specs.List.{position_or_len, slice_split, onto_first}
 use Rattle.std.proofs.lemmas.Bool.Decides.{nat_tests}
-use Rattle.std.proofs.lemmas.List.{take-append-drop}
+use Rattle.std.proofs.lemmas.List.{take-append-drop, take_all, length-drop}
 use Rattle.std.proofs.lemmas.List.Splits.{slice_split-cons_no}
 use Rattle.hk_base.specs.Key.{IsKey}
 use Rattle.hk_base.specs.KeyBytes.{is_bad_byte}
 use Rattle.hk_base.specs.KeyFaults.{key_fault}
 use Rattle.hk_request.specs.declared.request.Request.TheVariants.{Get}
 use Rattle.hk_request.specs.declared.request.Head.TheVariants.{Whole}
-use Rattle.hk_request.specs.Words.{is_space, is_text, is_word, words_of}
+use Rattle.hk_request.specs.Words.{is_space, is_word, words_of}
 use Rattle.hk_request.specs.Reading.{head_of}
-use Rattle.hk_request.proofs.Single.{is_key, text_same}
+use Rattle.hk_request.proofs.Single.{is_key}
 use Rattle.hk_request.proofs.Lines.{line_read}
 
 none_of : (b : Bool) (x : ℕ) → (if b then Some x else None) ≡ None → b ≡ false
@@ -54,9 +54,16 @@ lone_words k q =
     let word : is_word k ≡ true = grind (arith, nat_tests, some) in
     rw (one_word k q.clean) (kept (is_word k) (codes "get") k word)
 
-pub lone_get : (line word key : List ℕ) (keys : List (List ℕ)) → is_text (take 4 line) (codes "get ") ≡ true → word ≡ drop 4 line → key_fault word ≡ None → key ≡ word → keys ≡ key ∷ [] → head_of line ≡ Ok (Whole (Get keys false))
-lone_get line word key keys e w h k ks =
-    let front : take 4 line ≡ codes "get " = text_same (take 4 line) (codes "get ") e in
-    let whole : line ≡ codes "get " ++ word = sym (take-append-drop 4 line) ∙ rw (front, w) refl in
+front_is : (line : List ℕ) → 4 ≤ length line → slice_index line 0 ≡ 103 → slice_index line 1 ≡ 101 → slice_index line 2 ≡ 116 → slice_index line 3 ≡ 32 → take 4 line ≡ codes "get "
+front_is [] le g e t s = absurd (omega (arith, le))
+front_is (a ∷ []) le g e t s = absurd (omega (arith, le))
+front_is (a ∷ b ∷ []) le g e t s = absurd (omega (arith, le))
+front_is (a ∷ b ∷ c ∷ []) le g e t s = absurd (omega (arith, le))
+front_is (a ∷ b ∷ c ∷ d ∷ rest) le g e t s = rw (g, e, t, s) refl
+
+pub lone_get : (line word key : List ℕ) (keys : List (List ℕ)) → 4 ≤ length line → slice_index line 0 ≡ 103 → slice_index line 1 ≡ 101 → slice_index line 2 ≡ 116 → slice_index line 3 ≡ 32 → word ≡ take (length line - 4) (drop 4 line) → key_fault word ≡ None → key ≡ word → keys ≡ key ∷ [] → head_of line ≡ Ok (Whole (Get keys false))
+lone_get line word key keys le g e t s w h k ks =
+    let behind : word ≡ drop 4 line = w ∙ take_all _ (drop 4 line) (rw (length-drop 4 line) (omega arith)) in
+    let whole : line ≡ codes "get " ++ word = sym (take-append-drop 4 line) ∙ rw (front_is line le g e t s, behind) refl in
     let is : IsKey word = is_key word (rw h refl) in
     rw (ks, k, whole) (line_read (codes "get " ++ word) (Whole (Get (word ∷ []) false)) (lone_words word is, (λ z. absurd (cc)), (is, tt)))

@@ -69,7 +69,7 @@ fn read_lone_get(alloc: Global, line: &[u8]) -> Option<Head>
     ensures exact { IfSome result (λ head. head_of line.now ≡ Ok head) }
     ensures within { IfSome result IsWithinHead }
 {
-    let Some(word) = line.strip_prefix(b"get ") else {
+    let [b'g', b'e', b't', b' ', word @ ..] = line else {
         return None;
     };
     let Ok(key) = Key::read(alloc, word) else {
