@@ -23,10 +23,12 @@
 #![tactic(auto)]
 
 mod block;
+mod keys;
 mod line;
 mod request;
 mod words;
 
 pub use block::finish;
+pub use keys::Keys;
 pub use line::read_request;
-pub use request::{BlockFault, Head, Keys, Request, RequestCause, RequestFault, StoreHead, Verb};
+pub use request::{BlockFault, Head, Request, RequestCause, RequestFault, StoreHead, Verb};

@@ -8,12 +8,13 @@ ghost use Rattle.hk_request.specs.Grammar.{IsHead, IsReadAs};
 ghost use Rattle.hk_request.specs.Heads.{HasItsTagIfStore};
 ghost use Rattle.hk_request.specs.Reading.{ReadsHead, IsWithin, IsWithinHead, head_of, head_of_words, asked_of, keys_of, get_of, store_of, untagged_of, cas_of, change_of, step_of, delete_of, deletion_of, alone_of, skip_of};
 
-use crate::request::{Head, Keys, Request, RequestCause, RequestFault, StoreHead, Verb};
+use crate::keys::Keys;
+use crate::request::{Head, Request, RequestCause, RequestFault, StoreHead, Verb};
 use crate::words::{
     Command, Words, find_command, has_block, number, number_at, read_expiry, read_flags, read_key,
     read_noreply, read_size, read_tag, split,
 };
-use hk_base::{Key, Memory, Op};
+use hk_base::{Key, Op};
 use std::alloc::Global;
 
 /// Reads a line, which is given without the two bytes that end it. The answer is what the grammar makes of its words,
@@ -55,15 +56,6 @@ fn read_line(alloc: Global, line: &[u8]) -> Result<Head, RequestFault>
     }
 }
 
-// The one key of a list.
-fn lone(alloc: Global, key: Key) -> Result<Keys, Memory>
-    ensures { IfOk result (λ keys. keys ≡ key ∷ []) }
-{
-    let mut keys = Vec::with_capacity(alloc, 1)?;
-    keys.push_reserved(key);
-    Ok(Keys::from_vec(keys))
-}
-
 // What a line is that gets one key, with one space before it: most lines are such ones, and need no list of words. None says nothing.
 fn read_lone_get(alloc: Global, line: &[u8]) -> Option<Head>
     ensures exact { IfSome result (λ head. head_of line.now ≡ Ok head) }
@@ -75,10 +67,10 @@ fn read_lone_get(alloc: Global, line: &[u8]) -> Option<Head>
     let Ok(key) = Key::read(alloc, word) else {
         return None;
     };
-    let Ok(keys) = lone(alloc, key) else {
-        return None;
-    };
-    Some(Head::Whole(Request::Get { keys, tags: false }))
+    Some(Head::Whole(Request::Get {
+        keys: Keys::one(key),
+        tags: false,
+    }))
 }
 
 // How long the block of a refused store is, with its end, where the fifth word tells it; else 0.

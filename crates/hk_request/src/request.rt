@@ -1,10 +1,8 @@
 //! Requests, heads of stores, and why a line is neither.
 
-use hk_base::{Key, Op, Sequence};
+use crate::keys::Keys;
+use hk_base::{Key, Op};
 use thiserror::Error;
-
-/// The keys of a get, in the order of its line.
-pub type Keys = Sequence<Key>;
 
 /// A request that is whole.
 #[derive(Drop)]
