@@ -3,7 +3,8 @@ use Rattle.std.specs.Prelude.{◌≡◌, ◌⊎◌, ℕ, Option, None, Some, Res
 use Rattle.hk_outside.specs.Causes.{Rose}
 use Rattle.hk_outside.specs.Counts.{Accepts}
 
--- A connection that is given came through the doors behind. Where none is given they were not asked. A failure is one of theirs, or they gave none.
+-- A connection that is given is one less of those that the doors behind have left. Where none is given, their counts are as they were. A failure is one more of
+-- theirs, or they gave none. Of doors that don't tell what is left the first and the last say nothing.
 module _ {C E : Type 0} where
   abbrev pub ComesThrough : Option ℕ → Option ℕ → ℕ → ℕ → Result (Option C) E → Type 0
   ComesThrough left now faults since (Ok (Some conn)) = Accepts {C = C} {E = E} left now (Ok (Some conn))

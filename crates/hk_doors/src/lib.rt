@@ -9,11 +9,12 @@
 //! since some are left: who tries again while doors fail would try for ever.
 //!
 //! What is proved. What is left falls by one with each connection that comes, and none comes only where nothing is
-//! left (`left`). They are closed where those behind are. `Failed` comes only where their count rose (`cause`). Nothing
-//! is told that the doors behind did not: a connection is one that came through those, and `Failed` comes only where
-//! those failed, or gave none (`behind`).
+//! left (`left`). They are closed where those behind are. `Failed` comes only where their count rose (`cause`). Where the
+//! doors behind tell how many they still give, nothing is told that those did not: a connection is one that came
+//! through them, and `Failed` comes only where they failed, or gave none (`behind`).
 //!
-//! What no clause says: which port is opened of the doors behind, since doors don't tell it.
+//! What no clause says: that doors behind which don't tell that are asked, but for the code, which is one for all; which
+//! port is opened of them, since doors don't tell it.
 #![tactic(auto)]
 
 mod counted;

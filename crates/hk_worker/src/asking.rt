@@ -59,7 +59,7 @@ impl OpenAsk {
     }
 }
 
-// The shard's lock, where the key's row is Valid or there is none.
+// The shard's lock, as soon as the key's row is Valid or there is none, and else once the patience for that is over.
 fn lock_settled<'a, F: Completion + Copy + Drop, P: Places, R: Wait>(
     rt: &R,
     shards: &'a Shards<F, P>,
@@ -295,7 +295,7 @@ pub(crate) fn ask<F: Completion + Copy + Drop, P: Places, R: Wait>(
 }
 
 /// What the step of a call came to: it was answered at once, or its update waits, and its letters are not rung for yet. Where no memory was found to keep what waits,
-/// nobody waits for what it is told.
+/// the update has begun all the same, and nobody waits for what it is told.
 pub(crate) fn begun<F: Completion + Copy + Drop, P: Places, R: Wait>(
     rt: &R,
     shards: &Shards<F, P>,

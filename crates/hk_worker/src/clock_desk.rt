@@ -48,7 +48,7 @@ fn told_by_lease(reply: &DeskReply) -> bool
     }
 }
 
-// The same of what came of an ask that began. Anything else is given as it is.
+// The same of what came of an ask that began.
 fn begun_by_lease(begun: &Result<Begun<OpenAsk>, Memory>) -> bool
     ensures { result ≡ begun_by_lease begun.now }
 {

@@ -28,8 +28,7 @@
 //! seen in the end (`asks_are_shown`, `clock_asks_are_shown`), and no publication begins the updates of two asks
 //! (`updates_stay_apart`). Just the letters of the call's step go out, in turn, by the first outlet to each, and of
 //! that step the reader saw the cell before and after (`Sends`, `WasCalled`); a finish, and a read told from what is
-//! shown, send none. Where memory is wanting the update may have begun, nobody waits for it then (`IsLeft`), and it may
-//! be that nothing was sent.
+//! shown, send none. Where memory is wanting the update may have begun, once, and it may be that nothing was sent.
 //!
 //! Of a worker. Each step was made at some moment under the lock of the node's shard, just its letters went out as the
 //! gate answers, and nothing else of the post changed (`HasWorked`, `WasApplied`). A post rests only where each row was
@@ -45,7 +44,8 @@
 //! cells of the node's shard, so `step_at`, `due`, `has_open_at` and `journal` could have other bodies. Nor why a
 //! worker lost an event; that a desk tries the cell first, how often it looks but for `Unknown`, that it ticks only
 //! where its clock rose; who is noted, rung for and woken, how long it waits; how many bytes came; that a post rests
-//! only behind an idle turn; which tickets are drawn but that they rise; that [`Post::trim`] trims.
+//! only behind an idle turn; which tickets are drawn but that they rise; that an update that began, and can't be kept for want of memory, is given up,
+//! so that nobody waits for what it is told; that [`Post::trim`] trims.
 #![tactic(auto)]
 
 mod asking;

@@ -143,7 +143,7 @@ impl<F: Completion + Copy + Drop, P: Places> Post<F, P> {
 
     /// Begins to ask one operation. It is told at once, or its update waits, and others may be asked before it is finished. Just the letters of the call's step are sent.
     /// Where it waits they are rung for by the next call that finishes, that waits or that is told at once, or by `ring`: one of these has to follow before the post
-    /// is left alone.
+    /// is left alone. After `Memory` its update may have begun, once, and nobody waits for it.
     pub fn begin<R: Wait>(&mut self, rt: &R, key: &Key, op: &Op) -> Result<Begun<OpenAsk>, Memory>
         ensures suits { OpenedSuits op.now result }
         ensures told { BeginsAtPost key.now op.now self.old self.new result }
