@@ -1,5 +1,5 @@
 -- A world with another part in place of its own is sound where that part is.
-use Rattle.std.proofs.Common.{◌≡◌, ◌≢◌, ◌≤◌, ◌==◌, ℕ, List, [], length, Bool, true, false, Option, Some, None, inl, inr, ⊎_elim, refl, sym, ap, subst, ◌∙◌}
+use Rattle.std.proofs.Common.{◌≡◌, ◌≢◌, ◌≤◌, ◌==◌, ℕ, List, [], length, Bool, true, false, Option, Some, ⊎_elim, refl, sym, ap, subst, ◌∙◌}
 use Rattle.std.specs.List.{AllByRecursion}
 use Rattle.std.specs.List.Sorted.{IsStrictlySortedBy}
 use Rattle.std.specs.BTreeMap.{is_at}
@@ -17,7 +17,7 @@ use Rattle.hk_clocks.specs.Clocks.{Paces, clock_of}
 use Rattle.hk_clocks.specs.Sound.{AreClocks}
 use Rattle.hk_world.specs.declared.process.Process.{Process}
 use Rattle.hk_world.specs.declared.process.ManagerProcess.{ManagerProcess}
-use Rattle.hk_world.specs.World.{WorldState, Processes, by_number, process_at, put_process, manager_at, put_manager, clocks_of, node_clock, manager_clock, live_clock}
+use Rattle.hk_world.specs.World.{WorldState, Processes, by_number, process_at, put_process, manager_at, put_manager, node_clock, manager_clock, live_clock}
 use Rattle.hk_world.specs.Sound.{IsWorld, IsProcess, IsManagerProcess, AreViews}
 use Rattle.hk_world.proofs.Processes.{which, itself, put_same, put_other, sorted_put, all_put, all_map}
 use Rattle.hk_world.proofs.Managing.{set_length, set_same, set_other, set_there}

@@ -1,8 +1,8 @@
 -- What the clocks of live actors read after an event of clocks.
-use Rattle.std.proofs.Common.{◌≡◌, ◌≢◌, ◌≤◌, ℕ, List, [], ◌∷◌, map, nat_lt, max, Bool, true, false, cond, Option, Some, None, Result, Ok, Err, inl, inr, ⊎_elim, refl, sym, ap, subst, ◌∙◌, arith, le_trans}
+use Rattle.std.proofs.Common.{◌≡◌, ◌≢◌, ◌≤◌, ℕ, [], ◌∷◌, map, nat_lt, max, Bool, true, false, cond, Option, Some, None, Result, Ok, Err, inl, inr, ⊎_elim, refl, sym, ap, subst, ◌∙◌, arith, le_trans}
 use Rattle.std.specs.Option.{option_map}
 use Rattle.std.specs.List.{find, list_any}
-use Rattle.std.specs.BTreeMap.{insert_entry, is_at}
+use Rattle.std.specs.BTreeMap.{is_at}
 use Rattle.std.specs.Map.{remove_entry}
 use Rattle.std.proofs.lemmas.Bool.{ltb-false}
 use Rattle.hk_base.specs.declared.letter.Actor.{Actor}
@@ -20,7 +20,7 @@ use Rattle.hk_clocks.specs.Sound.{IsPace, AreClocks}
 use Rattle.hk_clocks.proofs.Entries.{Among, all_of, finds, lookup_map}
 use Rattle.hk_clocks.proofs.Lookups.{at_itself, which, put_same, put_other, out_same, out_other}
 use Rattle.hk_clocks.proofs.Following.{none_map}
-use Rattle.hk_clocks.proofs.Running.{Goes, goes, below_greatest, skew_at}
+use Rattle.hk_clocks.proofs.Running.{goes, below_greatest, skew_at}
 
 abbrev forgetting : Actor → Actor × Pace → Pace
 forgetting a p = record p.1 { leads = remove_entry (is_at (by_actor a)) p.1.leads }

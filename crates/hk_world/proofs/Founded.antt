@@ -73,10 +73,6 @@ founders_more h k p old new made so_far put =
 id_of : ℕ → NodeId
 id_of n = record { 0 = n }
 
-pub counted_next : (k n : ℕ) (old new : List NodeId) → n ≡ k → old ≡ counted 0 k → new ≡ old ++ record { 0 = n } ∷ [] → new ≡ counted 0 (k + 1)
-unfolding id_of
-counted_next k n old new same so_far pushed = pushed ∙ ap (λ (l : List NodeId). l ++ record { 0 = n } ∷ []) so_far ∙ ap (λ (m : ℕ). counted 0 k ++ id_of m ∷ []) same ∙ counted_more k
-
 abbrev process_by : Header → NodeId → View → Process
 process_by h id view = record { node = founder id view h.lease h.skew h.managers; crashed = false }
 

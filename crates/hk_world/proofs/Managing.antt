@@ -1,5 +1,5 @@
 -- The managers of a world: what a put leaves of them, and that a manager's step keeps who it is and its clock.
-use Rattle.std.proofs.Common.{◌≡◌, ◌≢◌, ◌<◌, ◌≤◌, ◌+◌, ◌++◌, ◌&&◌, ◌||◌, ◌==◌, ℕ, zero, suc, Bool, true, false, cond, List, [], ◌∷◌, map, length, nat_lt, nat_le, Option, Some, None, Result, Ok, Err, get_or, take, drop, refl, sym, subst, ap, ◌∙◌, arith}
+use Rattle.std.proofs.Common.{◌≡◌, ◌≢◌, ◌<◌, ◌+◌, ◌++◌, ◌&&◌, ◌||◌, ◌==◌, ℕ, zero, suc, Bool, true, false, cond, List, [], ◌∷◌, map, length, nat_lt, nat_le, Option, Some, None, Result, Ok, Err, get_or, take, drop, refl, sym, subst, ap, ◌∙◌, arith}
 use Rattle.std.specs.Prelude.{⊤, slice_set}
 use Rattle.std.specs.List.{slice_get}
 use Rattle.hk_base.specs.declared.stamp.NodeId.{NodeId}
@@ -9,7 +9,6 @@ use Rattle.hk_base.specs.declared.letter.Actor.{Actor}
 use Rattle.hk_base.specs.declared.letter.Actor.TheVariants.{Node, Manager}
 use Rattle.hk_base.specs.declared.letter.Letter.{Letter}
 use Rattle.hk_base.specs.declared.letter.Body.{Body}
-use Rattle.hk_base.specs.declared.letter.Body.TheVariants as Body
 use Rattle.hk_paxos.specs.declared.proposer.Proposer.{Proposer}
 use Rattle.hk_paxos.specs.Paxos.{proposer_on_accepted}
 use Rattle.hk_lease.specs.declared.grants.NotPast.{NotPast as StillRuns}
@@ -22,7 +21,7 @@ use Rattle.hk_manager.specs.declared.fault.ManagerFault.{ManagerFault}
 use Rattle.hk_manager.specs.declared.fault.ManagerFault.TheVariants.{Behind}
 use Rattle.hk_manager.specs.Manager.{ManagerState, instance_at}
 use Rattle.hk_manager.specs.Changes.{change_fault}
-use Rattle.hk_manager.specs.Steps.{ManagerStepped, idle, learns, reports, counts_promise, counts_acceptance, proposal_in, at_proposal, asks_lease, is_too_late, prepares, accepts, from_node, from_manager, is_addressed, receives_from, receives, begins, begins_unless, proposes, activates_by, manager_step}
+use Rattle.hk_manager.specs.Steps.{ManagerStepped, idle, learns, reports, counts_promise, counts_acceptance, proposal_in, at_proposal, is_too_late, from_node, from_manager, is_addressed, receives_from, receives, begins, begins_unless, proposes, activates_by, manager_step}
 
 -- ---- a list in which one item is put
 module _ {X : Type 0} where

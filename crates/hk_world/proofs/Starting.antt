@@ -1,21 +1,21 @@
 -- A world of founders, and of managers that hold the first view, is sound.
-use Rattle.std.proofs.Common.{◌≡◌, ◌++◌, ⊎_elim, ◌+◌, ◌<◌, ◌≤◌, ℕ, zero, suc, Bool, true, false, cond, List, [], ◌∷◌, length, map, Option, Some, None, refl, sym, ap, subst, ◌∙◌, arith}
+use Rattle.std.proofs.Common.{◌≡◌, ◌++◌, ⊎_elim, ◌+◌, ◌<◌, ◌≤◌, ℕ, zero, suc, Bool, true, false, cond, List, [], ◌∷◌, map, Option, Some, None, refl, sym, ap, subst, ◌∙◌, arith}
 use Rattle.std.specs.declared.cmp.Ordering.TheVariants.{Less, Greater}
 use Rattle.std.specs.Ordering.{nat_cmp, is_eq}
 use Rattle.std.specs.Option.{option_map}
 use Rattle.std.specs.BTreeMap.{is_at}
-use Rattle.std.specs.List.{AllByRecursion, range_with_len, slice_get}
+use Rattle.std.specs.List.{AllByRecursion, range_with_len}
 use Rattle.std.specs.List.Sorted.{IsStrictlySortedBy}
 use Rattle.std.specs.Map.{keys_of}
 use Rattle.std.proofs.lemmas.Bool.{lt-ltb, le-ltb, ne_eqb, eq-eqb, or_left, or_right, and_from, cases_lt}
 use Rattle.std.proofs.lemmas.List.FromFn.{length-map-range_with_len}
 use Rattle.std.proofs.lemmas.List.Elements.{All-from_recursion}
-use Rattle.std.proofs.lemmas.Map.Keys.{IsStrictlyIncreasing-from_sorted}
 use Rattle.hk_base.specs.declared.stamp.NodeId.{NodeId}
 use Rattle.hk_base.specs.declared.view.View.{View}
 use Rattle.hk_base.specs.declared.letter.Actor.{Actor}
 use Rattle.hk_base.specs.declared.letter.Actor.TheVariants.{Node, Manager}
-use Rattle.hk_base.specs.View.{IsView, member_numbers, is_member, counted}
+use Rattle.hk_base.proofs.Counting.{first_is_view}
+use Rattle.hk_base.specs.View.{IsView, is_member, counted}
 use Rattle.hk_clocks.specs.declared.pace.Pace.{Pace}
 use Rattle.hk_clocks.specs.Clocks.{Paces, by_actor, clock_of, pace_of}
 use Rattle.hk_clocks.specs.Sound.{IsPace, AreClocks}
@@ -26,23 +26,11 @@ use Rattle.hk_node.specs.Made.{founder}
 use Rattle.hk_node.specs.Sound.{IsNode}
 use Rattle.hk_event.specs.declared.event.Header.{Header}
 use Rattle.hk_world.specs.declared.process.ManagerProcess.{ManagerProcess}
-use Rattle.hk_world.specs.World.{Processes, by_number, numbered, process_at, manager_at, node_clock, manager_clock, live_clock}
+use Rattle.hk_world.specs.World.{by_number, numbered, process_at, manager_at, node_clock, manager_clock, live_clock}
 use Rattle.hk_world.specs.Steps.{was_member}
 use Rattle.hk_world.specs.Start.{start, founding_view, founding_process, founding_manager, founding_actors, founding_paces, first_pace}
 use Rattle.hk_world.specs.Sound.{IsHeader, IsWorld, IsProcess, IsManagerProcess, AreViews}
-use Rattle.hk_world.proofs.Viewed.{Rises, sorted_cons, sorted_nil, less_below}
-
-pub counted_length : (n k : ℕ) → length (counted n k) ≡ k
-counted_length n zero = refl
-counted_length n (suc k) = ap suc (counted_length (n + 1) k)
-
-numbers_above : (m n k : ℕ) → m < n → AllByRecursion (λ y. nat_cmp m y ≡ Less) (member_numbers (counted n k))
-numbers_above m n zero less = tt
-numbers_above m n (suc k) less = (less_below m n less, numbers_above m (n + 1) k (omega arith))
-
-counted_rises : (n k : ℕ) → Rises (counted n k)
-counted_rises n zero = sorted_nil
-counted_rises n (suc k) = sorted_cons n (member_numbers (counted (n + 1) k)) (numbers_above n (n + 1) k (omega arith)) (counted_rises (n + 1) k)
+use Rattle.hk_world.proofs.Viewed.{less_below}
 
 ids_above : (m n k : ℕ) → m < n → AllByRecursion (λ y. by_number (record { 0 = m }) y ≡ Less) (counted n k)
 ids_above m n zero less = tt
@@ -66,16 +54,7 @@ each_member n zero total le = tt
 each_member n (suc k) total le = (counted_has 0 total (record { 0 = n }) (omega arith) (omega arith), each_member (n + 1) k total (omega arith))
 
 pub founding_is_view : (h : Header) → IsHeader h → IsView (founding_view h)
-founding_is_view h is =
-    let few = is.few in
-    let some = is.some in
-    record {
-      some = rw (counted_length 0 h.nodes) some;
-      few = rw (counted_length 0 h.nodes) few;
-      rising = IsStrictlyIncreasing-from_sorted _ (counted_rises 0 h.nodes);
-      below = All-from_recursion _ _ (counted_below 0 h.nodes h.nodes (omega arith));
-      next = omega arith;
-    }
+founding_is_view h is = first_is_view h.nodes is.some is.few
 
 only_one : (v view : View) (e : ℕ) → numbered e (v ∷ []) ≡ Some view → (e ≡ 1) × (view ≡ v)
 only_one v view zero at = absurd cc

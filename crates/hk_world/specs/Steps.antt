@@ -14,13 +14,10 @@ use Rattle.hk_base.specs.declared.letter.Actor.{Actor}
 use Rattle.hk_base.specs.declared.letter.Actor.TheVariants.{Node, Manager}
 use Rattle.hk_base.specs.declared.letter.Letter.{Letter}
 use Rattle.hk_clocks.specs.declared.fault.ClockFault.{ClockFault}
-use Rattle.hk_clocks.specs.declared.fault.ClockFault.TheVariants as ClockFault
 use Rattle.hk_clocks.specs.Clocks.{ClockState}
 use Rattle.hk_clocks.specs.Steps.{ClockEvent, clock_step, greatest_clock}
 use Rattle.hk_manager.specs.declared.event.ManagerEvent.{ManagerEvent}
-use Rattle.hk_manager.specs.declared.event.ManagerEvent.TheVariants as ManagerEvent
 use Rattle.hk_manager.specs.declared.fault.ManagerFault.{ManagerFault}
-use Rattle.hk_manager.specs.declared.fault.ManagerFault.TheVariants as ManagerFault
 use Rattle.hk_manager.specs.Manager.{ManagerState}
 use Rattle.hk_manager.specs.Steps.{ManagerStepped, manager_step, manager_ticks}
 use Rattle.hk_node.specs.Node.{NodeState, epoch_of}

@@ -9,7 +9,6 @@ use Rattle.hk_base.specs.View.{is_member}
 use Rattle.hk_event.specs.declared.refused.Refused.{Refused}
 use Rattle.hk_event.specs.declared.refused.Refused.TheVariants.{NoSuchMember, LastMember, Full, NoNumbers}
 use Rattle.hk_world.specs.declared.fault.WorldFault.{WorldFault}
-use Rattle.hk_world.specs.declared.fault.WorldFault.TheVariants as WorldFault
 use Rattle.hk_world.specs.World.{numbered}
 
 abbrev pub dropped : View → NodeId → View
