@@ -40,7 +40,7 @@ appends_none (Some xs) = sym (append-nil xs)
 pub serving_starts : (m : ℕ) (left : Option (List ℕ)) (given : Option (List (List ℕ))) (held : Option (List ℕ)) (asks : Option (List Asked)) (c : Cutting) → c ≡ record { unread = []; dropping = 0; limit = 65536; due = due.Line; given = []; room = [] } → IsServing m left left given given held held asks asks 0 (replies_from m (record { pending = None; cutting = c }))
 serving_starts m left given held asks c e = rw e (record { read = []; made = []; text = []; consumed = consumes_none left; reads = given_none given; asked = asks_none asks; written = appends_none held; goes = λ more later. refl })
 
-fed_ahead : (h : Option StoreHead) (c : Cutting) (piece more : List ℕ) → ahead h (fed c piece) more ≡ ahead h c (piece ++ more)
+pub fed_ahead : (h : Option StoreHead) (c : Cutting) (piece more : List ℕ) → ahead h (fed c piece) more ≡ ahead h c (piece ++ more)
 fed_ahead h c piece more = ap (said_after h) (append_assoc c.unread (drop c.dropping piece) (drop (c.dropping - length piece) more) ∙ ap (λ x. c.unread ++ x) (drop_both c.dropping piece more))
 
 consumes_kept : (a b c : Option (List ℕ)) (xs : List ℕ) → Consumes a b xs → Consumes b c [] → Consumes a c xs
@@ -102,7 +102,7 @@ serves_last patience ended l left left' given given' held held' asks asks' turns
     let e : served s.read patience (map told_of s.made) ≡ record { text = s.text; asks = s.made; later = Some []; last = Some l } = served_now _ left left' given given' held held' asks asks' turns _ s ∙ rw (append-nil s.text, append-nil s.made) refl in
     record { read = s.read; made = s.made; consumed = s.consumed; reads = read_now ended given given' s.read turns s.reads unmarked n; asked = s.asked; called = ap (λ o. o.asks) e; written = rw (w s.read (served s.read patience (map told_of s.made)), e) (s.written, refl, refl) }
 
-no_replies : (m : ℕ) → replies m [] [] ≡ plain [] []
+pub no_replies : (m : ℕ) → replies m [] [] ≡ plain [] []
 unfolding replies
 no_replies m = refl
 

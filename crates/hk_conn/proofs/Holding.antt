@@ -23,8 +23,9 @@ use Rattle.hk_conn.specs.Said.{is_last}
 use Rattle.hk_conn.specs.Turns.{ahead, IsReader, Turns}
 use Rattle.hk_conn.specs.Answering.{Answers, Replied, Stopped, last_of}
 use Rattle.hk_conn.specs.Served.{Out, before, replies, update_text}
-use Rattle.hk_conn.specs.Serving.{Place, replies_from, ends_with, behind_stop, place_of, stop_at, Idles, Breaks, Passes}
-use Rattle.hk_conn.specs.Pending.{pending_text, Settle, wills, IfTells, AreTold, FinishesAll, FinishesUpdates, FinishesOne, LetsGo, LetsOneGo, Holding, Parting, HoldsUp, HasBegun, Waited, AnswersPending, RepliesPending, PassesPending}
+use Rattle.hk_conn.specs.Serving.{Place, replies_from, ends_with, behind_stop, place_of, stop_at, Idles, Breaks, Replying}
+use Rattle.hk_conn.specs.Exchange.{behind}
+use Rattle.hk_conn.specs.Pending.{pending_text, Settle, wills, IfTells, AreTold, FinishesAll, FinishesUpdates, FinishesOne, LetsGo, LetsOneGo, Holding, Parting, HasBegun, Waited, AnswersPending, RepliesPending}
 use Rattle.hk_conn.proofs.Hearings.{asks_none, asks_more, asks_one, hears_joined, map_append, heard_end, told_ask}
 use Rattle.hk_conn.proofs.Answered.{update_answers}
 use Rattle.hk_conn.proofs.Passing.{before_both, none_asked, says_on, says_last, stopped_asks}
@@ -45,9 +46,9 @@ grown_begun P Q a None (Some z) made key op will t h k f e = absurd k
 grown_begun P Q a (Some y) (Some z) made key op will t h k f e = let p = f e in rw p.1 (asks_more a (Some y) (Some z) made (ask_of key op (told will) ∷ []) (h p.0) (asks_one (Some y) (Some z) key op will k))
 
 -- ---- what goes on
-pub holding_starts : {W E : Type 0} (will : W → Result DeskReply E) (m : ℕ) (a : Option (List Asked)) (old : List ℕ) (p : Place) → Holding will a a old old [] (replies_from m p) (replies_from m p)
-holding_starts will m a old p [] s = record { text = []; made = []; put = sym (append-nil old); grown = λ e. asks_none a; goes = λ more later. refl }
-holding_starts will m a old p (t ∷ ts) s = absurd s
+pub holding_starts : {W E : Type 0} (will : W → Result DeskReply E) (a : Option (List Asked)) (front : List ℕ → List (Option DeskReply) → Out) → Holding will a a [] [] [] front front
+holding_starts will a front [] s = record { text = []; made = []; put = refl; grown = λ e. asks_none a; goes = λ more later. refl }
+holding_starts will a front (t ∷ ts) s = absurd s
 
 pub holding_moves : {W E : Type 0} (will : W → Result DeskReply E) (a b : Option (List Asked)) (old out : List ℕ) (updates : List (PendingUpdate W)) (front f g : List ℕ → List (Option DeskReply) → Out) → Holding will a b old out updates front f
     → ((more : List ℕ) (later : List (Option DeskReply)) → f more later ≡ g more later) → Holding will a b old out updates front g
@@ -60,7 +61,7 @@ holding_more : {W E : Type 0} (will : W → Result DeskReply E) (a b c : Option 
 holding_more will a b c old out new updates front mid after text made h g n e ts s = let k = h ts s in record {
   text = k.text ++ text;
   made = k.made ++ made;
-  put = ap (λ x. pending_text updates ts ++ x) n ∙ sym (append_assoc (pending_text updates ts) out text) ∙ ap (λ x. x ++ text) k.put ∙ append_assoc old k.text text;
+  put = ap (λ x. old ++ (pending_text updates ts ++ x)) n ∙ ap (λ x. old ++ x) (sym (append_assoc (pending_text updates ts) out text)) ∙ sym (append_assoc old (pending_text updates ts ++ out) text) ∙ ap (λ x. x ++ text) k.put;
   grown = λ w. grown_on (ts ≡ wills will updates) a b c k.made made k.grown g w;
   goes = λ more later. rw (map_append k.made made, append_assoc (map told_of k.made) (map told_of made) later, k.goes more (map told_of made ++ later), e more later) (before_both k.text text k.made made (after more later));
 }
@@ -140,8 +141,8 @@ update_on : (m : ℕ) (key : List ℕ) (op : Op) (noreply : Bool) (ss : List Sai
 unfolding replies
 update_on m key op noreply ss t later e = rw (heard_end m key op t later (λ lt. e)) refl
 
-put_begun : (lt front out old kt : List ℕ) (a b : Bool) (t : Option DeskReply) → front ≡ out → a ≡ b → lt ++ out ≡ old ++ kt → lt ++ (front ++ update_text a t) ≡ old ++ (kt ++ update_text b t)
-put_begun lt front out old kt a b t f n p = rw (f, n) (sym (append_assoc lt out (update_text b t)) ∙ ap (λ x. x ++ update_text b t) p ∙ append_assoc old kt (update_text b t))
+put_begun : (lt front out old kt : List ℕ) (a b : Bool) (t : Option DeskReply) → front ≡ out → a ≡ b → old ++ (lt ++ out) ≡ kt → old ++ (lt ++ (front ++ update_text a t)) ≡ kt ++ update_text b t
+put_begun lt front out old kt a b t f n p = rw (f, n) (ap (λ x. old ++ x) (sym (append_assoc lt out (update_text b t))) ∙ sym (append_assoc old (lt ++ out) (update_text b t)) ∙ ap (λ x. x ++ update_text b t) p)
 
 begun_at : {W E : Type 0} (will : W → Result DeskReply E) (m : ℕ) (a b c : Option (List Asked)) (old out : List ℕ) (updates : List (PendingUpdate W)) (front : List ℕ → List (Option DeskReply) → Out) (ss : List ℕ → List Said) (key : List ℕ) (op : Op) (noreply : Bool) (pending : PendingUpdate W)
     → Holding will a b old out updates front (λ more later. replies m (said.Asked (request.Update key op noreply) ∷ ss more) later) → pending.front.items ≡ out → pending.noreply ≡ noreply → Asks b c key op (will pending.waits)
@@ -149,12 +150,12 @@ begun_at : {W E : Type 0} (will : W → Result DeskReply E) (m : ℕ) (a b c : O
 begun_at will m a b c old out updates front ss key op noreply pending h f n g all st =
     let r = split will updates pending all st in
     let k = h r.ts r.settle in
-    let text : pending_text updates r.ts ++ (pending.front.items ++ update_text pending.noreply r.t) ≡ old ++ (k.text ++ update_text noreply r.t) =
+    let text : old ++ (pending_text updates r.ts ++ (pending.front.items ++ update_text pending.noreply r.t)) ≡ k.text ++ update_text noreply r.t =
     put_begun (pending_text updates r.ts) pending.front.items out old k.text pending.noreply noreply r.t f n k.put in
     record {
       text = k.text ++ update_text noreply r.t;
       made = k.made ++ ask_of key op r.t ∷ [];
-      put = append-nil (pending_text (updates ++ pending ∷ []) all) ∙ r.text ∙ text;
+      put = ap (λ x. old ++ x) (append-nil (pending_text (updates ++ pending ∷ []) all) ∙ r.text) ∙ text;
       grown = λ e. grown_begun (r.ts ≡ wills will updates) (all ≡ wills will (updates ++ pending ∷ [])) a b c k.made key op (will pending.waits) r.t k.grown g r.same e;
       goes = λ more later.
           rw (map_append k.made (ask_of key op r.t ∷ []), told_ask key op r.t, append_assoc (map told_of k.made) (r.t ∷ []) later, k.goes more (r.t ∷ later), update_on m key op noreply (ss more) r.t later r.settled)
@@ -172,7 +173,7 @@ finished_at : {W E : Type 0} (will : W → Result DeskReply E) (a b c : Option (
 finished_at will a b c old out new updates front after ts h t n [] s = let k = h ts t.settle in record {
   text = k.text;
   made = k.made;
-  put = n ∙ k.put;
+  put = ap (λ x. old ++ x) n ∙ k.put;
   grown = λ e. grown_kept (ts ≡ wills will updates) a b c k.made k.grown t.kept t.same;
   goes = k.goes;
 }
@@ -189,26 +190,22 @@ parted_at will a b c updates front ts h t (u ∷ us) s = absurd s
 pub parting_finished : {W E : Type 0} (will : W → Result DeskReply E) (a b c : Option (List Asked)) (updates updates' : List (PendingUpdate W)) (front : List ℕ → List (Option DeskReply) → Out) (ts : List (Option DeskReply)) → updates' ≡ [] → AreTold will b c updates ts → Parting will a b updates front → Parting will a c updates' front
 parting_finished will a b c updates updates' front ts e t h = rw e (parted_at will a b c updates front ts h t)
 
-breaks : {W E : Type 0} (will : W → Result DeskReply E) (m : ℕ) (a b c : Option (List Asked)) (updates : List (PendingUpdate W)) (p : Place) (ts : List (Option DeskReply)) → Parting will a b updates (replies_from m p) → AreTold will b c updates ts → Breaks m a c p
-breaks will m a b c updates p ts h t = let k = h ts t.settle in record { made = k.made; grown = grown_kept (ts ≡ wills will updates) a b c k.made k.grown t.kept t.same; called = k.called }
-
 no_asks_behind : (s : Stop) (m : ℕ) (p : Place) (more : List ℕ) → (behind_stop s m p more []).asks ≡ []
 no_asks_behind stop.Need m p more = none_asked m (ahead p.pending p.cutting more)
 no_asks_behind stop.Full m p more = none_asked m (ahead p.pending p.cutting more)
 no_asks_behind stop.Quit m p more = refl
 no_asks_behind stop.TooLong m p more = refl
 
-pub passed : {W E F : Type 0} (will : W → Result DeskReply E) (r : Result Stop F) (m : ℕ) (a b c : Option (List Asked)) (old mid new : List ℕ) (updates : List (PendingUpdate W)) (p q : Place) (ts : List (Option DeskReply)) → PassesPending will r m a b updates old mid p q → AreTold will b c updates ts
-    → new ≡ pending_text updates ts ++ mid → Passes r m a c old new p q
-passed will (Ok s) m a b c old mid new updates p q ts h t n = let k = h.0 ts t.settle in (
-  record { text = k.text; made = k.made; grown = grown_kept (ts ≡ wills will updates) a b c k.made k.grown t.kept t.same; put = n ∙ k.put; goes = k.goes },
-  h.1,
-)
-passed will (Err e) m a b c old mid new updates p q ts h t n = breaks will m a b c updates p ts h t
+none_behind : (s : Stop) (held : Option Said) (m : ℕ) (p : Place) (more : List ℕ) → (behind s held m p more []).asks ≡ []
+none_behind s None m p more = no_asks_behind s m p more
+none_behind s (Some said) m p more = none_asked m (said ∷ (if is_last said then [] else ahead p.pending p.cutting more))
 
-pub not_passed : {W E F : Type 0} (will : W → Result DeskReply E) (r : Result Stop F) (m : ℕ) (a b c : Option (List Asked)) (old mid : List ℕ) (updates : List (PendingUpdate W)) (p q : Place) (ts : List (Option DeskReply)) → PassesPending will r m a b updates old mid p q → AreTold will b c updates ts → Breaks m a c p
-not_passed will (Ok s) m a b c old mid updates p q ts h t = breaks will m a b c updates p ts (parting_ends will a b old mid updates (replies_from m p) (behind_stop s m q) h.0 (no_asks_behind s m q)) t
-not_passed will (Err e) m a b c old mid updates p q ts h t = breaks will m a b c updates p ts h t
+pub breaks : {W E : Type 0} (will : W → Result DeskReply E) (m : ℕ) (a b c : Option (List Asked)) (updates : List (PendingUpdate W)) (p : Place) (ts : List (Option DeskReply)) → Parting will a b updates (replies_from m p) → AreTold will b c updates ts → Breaks m a c p
+breaks will m a b c updates p ts h t = let k = h ts t.settle in record { made = k.made; grown = grown_kept (ts ≡ wills will updates) a b c k.made k.grown t.kept t.same; called = k.called }
+
+-- what was said goes on so to a stop
+pub holding_breaks : {W E : Type 0} (will : W → Result DeskReply E) (m : ℕ) (a b c : Option (List Asked)) (old out : List ℕ) (updates : List (PendingUpdate W)) (p q : Place) (s : Stop) (held : Option Said) (ts : List (Option DeskReply)) → Holding will a b old out updates (replies_from m p) (behind s held m q) → AreTold will b c updates ts → Breaks m a c p
+holding_breaks will m a b c old out updates p q s held ts h t = breaks will m a b c updates p ts (parting_ends will a b old out updates (replies_from m p) (behind s held m q) h (none_behind s held m q)) t
 
 -- ---- one thing that is said
 replied_now : {W E : Type 0} (will : W → Result DeskReply E) (m : ℕ) (b c : Option (List Asked)) (updates : List (PendingUpdate W)) (out new : List ℕ) (s : Said) (o : Option Stop) → Replied m b c out new s → o ≡ stop_at s → RepliesPending {F = E} will (Ok o) m b c updates updates out new s
@@ -244,18 +241,6 @@ pub replies_stop : {W E : Type 0} (will : W → Result DeskReply E) (m : ℕ) (b
     → (a : Option (List Asked)) (old : List ℕ) (front : List ℕ → List (Option DeskReply) → Out) (ss : List ℕ → List Said)
     → Holding will a b old out updates front (λ more later. replies m (s ∷ ss more) later) → Parting will a c updates' front
 replies_stop will m b c updates updates' out s h a old front ss k = rw h.0 (parting_stopped will m a b c old out updates front ss s k h.1)
-
--- behind those that had to be told first
-pub held_up_first : {W E F : Type 0} (will : W → Result DeskReply E) (r : Result (Option Stop) F) (u : Unit {0}) (m : ℕ) (b c d : Option (List Asked)) (updates lates1 lates2 : List (PendingUpdate W)) (out out1 out2 : List ℕ) (s : Said) → HoldsUp {F = F} will (Ok u) b c updates lates1 out out1
-    → RepliesPending will r m c d lates1 lates2 out1 out2 s → RepliesPending will r m b d updates lates2 out out2 s
-held_up_first will (Ok None) u m b c d updates lates1 lates2 out out1 out2 s h k = (k.0, λ a old front ss g. k.1 a old front ss (h a old front (λ more later. replies m (s ∷ ss more) later) g))
-held_up_first will (Ok (Some o)) u m b c d updates lates1 lates2 out out1 out2 s h k = (k.0, λ a old front ss q g. k.1 a old front ss q (h a old front (λ more later. replies m (s ∷ ss more) later) g))
-held_up_first will (Err e) u m b c d updates lates1 lates2 out out1 out2 s h k = λ a old front ss g. k a old front ss (h a old front (λ more later. replies m (s ∷ ss more) later) g)
-
-pub held_up_fails : {W E : Type 0} (will : W → Result DeskReply E) (m : ℕ) (b c : Option (List Asked)) (updates updates' : List (PendingUpdate W)) (out : List ℕ) (s : Said) → LetsGo will b c updates updates'
-    → (a : Option (List Asked)) (old : List ℕ) (front : List ℕ → List (Option DeskReply) → Out) (ss : List ℕ → List Said)
-    → Holding will a b old out updates front (λ more later. replies m (s ∷ ss more) later) → Parting will a c updates' front
-held_up_fails will m b c updates updates' out s h a old front ss g = parting_finished will a b c updates updates' front h.1 h.0 h.2 (parting_ends will a b old out updates front (λ more later. replies m (s ∷ ss more) later) g (λ more. none_asked m (s ∷ ss more)))
 
 -- ---- finishing, one after the other
 told_none : {W E : Type 0} (will : W → Result DeskReply E) (a : Option (List Asked)) → AreTold will a a [] []
@@ -355,10 +340,6 @@ pub finished_before : {W E F : Type 0} (will : W → Result DeskReply E) (r : Re
 finished_before will (Ok u) a b updates updates' old behind none mid new e ts t z m q n = (e, ts, t, n ∙ ap (λ x. x ++ behind) (m ∙ ap (λ x. x ++ pending_text updates ts) z) ∙ ap (λ x. pending_text updates ts ++ x) q)
 finished_before will (Err x) a b updates updates' old behind none mid new e ts t z m q n = (e, ts, t, tt)
 
-pub all_hold_up : {W E F : Type 0} (will : W → Result DeskReply E) (r : Result (Unit {0}) F) (b c : Option (List Asked)) (updates updates' : List (PendingUpdate W)) (out new : List ℕ) → FinishesAll will r b c updates updates' out new → HoldsUp will r b c updates updates' out new
-all_hold_up will (Ok u) b c updates updates' out new h = λ a old front after k. holding_finished will a b c old out new updates updates' front after h.1 h.0 h.2 h.3 k
-all_hold_up will (Err e) b c updates updates' out new h = (h.0, h.1, h.2)
-
 -- ---- turns of the reader
 module _ {W E : Type 0} (will : W → Result DeskReply E) (m : ℕ) (a b : Option (List Asked)) (old out : List ℕ) (updates : List (PendingUpdate W)) (front : List ℕ → List (Option DeskReply) → Out) (p : Place) (h h' : Option StoreHead) (c c' : Cutting) where
   abbrev Before : Type 0
@@ -374,22 +355,22 @@ module _ {W E : Type 0} (will : W → Result DeskReply E) (m : ℕ) (a b : Optio
   parting_now k = parting_ends will a b old out updates front (replies_from m (place_of h c)) k (λ more. none_asked m (ahead h c more))
 
   module _ (s : Said) (t : Turns (turn.Says s) h c h' c') where
-    abbrev behind : List ℕ → List Said
-    behind more = if is_last s then [] else ahead h' c' more
+    abbrev pub behind_it : List ℕ → List Said
+    behind_it more = if is_last s then [] else ahead h' c' more
 
-    said_next : Before → Holding will a b old out updates front (λ more later. replies m (s ∷ behind more) later)
+    pub said_next : Before → Holding will a b old out updates front (λ more later. replies m (s ∷ behind_it more) later)
     said_next k = holding_moves will a b old out updates front _ _ k (λ more later. ap (λ ss. replies m ss later) (t.next more))
 
     pub holding_said : (d : Option (List Asked)) (new : List ℕ) (updates' : List (PendingUpdate W)) → Before → RepliesPending {F = E} will (Ok None) m b d updates updates' out new s → is_last s ≡ false
         → Holding will a d old new updates' front (replies_from m (place_of h' c')) × (length c'.unread < length c.unread)
     holding_said d new updates' k r n = (
-      holding_moves will a d old new updates' front _ _ (r.1 a old front behind (said_next k)) (λ more later. ap (λ (last : Bool). replies m (if last then [] else ahead h' c' more) later) n),
+      holding_moves will a d old new updates' front _ _ (r.1 a old front behind_it (said_next k)) (λ more later. ap (λ (last : Bool). replies m (if last then [] else ahead h' c' more) later) n),
       t.less n,
     )
 
     pub holding_stops : (d : Option (List Asked)) (new : List ℕ) (updates' : List (PendingUpdate W)) (o : Stop) → Before → RepliesPending {F = E} will (Ok (Some o)) m b d updates updates' out new s
         → Holding will a d old new updates' front (behind_stop o m (place_of h' c')) × Idles o p (place_of h' c')
-    holding_stops d new updates' o k r = (r.1 a old front behind (place_of h' c') (said_next k), at s o r.0)
+    holding_stops d new updates' o k r = (r.1 a old front behind_it (place_of h' c') (said_next k), at s o r.0)
       where
         at : (s : Said) (o : Stop) → Some o ≡ stop_at s → Idles o p (place_of h' c')
         at (said.Asked q) o e = absurd (cc)
@@ -399,7 +380,7 @@ module _ {W E : Type 0} (will : W → Result DeskReply E) (m : ℕ) (a b : Optio
         at said.Left o e = let f : o ≡ stop.Quit = cc in rw f tt
 
     pub parting_said : {F : Type 0} (d : Option (List Asked)) (new : List ℕ) (updates' : List (PendingUpdate W)) (e : F) → Before → RepliesPending will (Err e) m b d updates updates' out new s → Parting will a d updates' front
-    parting_said d new updates' e k r = r a old front behind (said_next k)
+    parting_said d new updates' e k r = r a old front behind_it (said_next k)
 
 pub no_stop : (s : Said) → None ≡ stop_at s → is_last s ≡ false
 no_stop (said.Asked q) e = refl
@@ -421,3 +402,73 @@ no_long_head t is long = absurd (let e : turn.Head ≡ turn.Says said.LongLine =
 pub of_key : {W E F : Type 0} (will : W → Result DeskReply E) (r : Result (Unit {0}) F) (m : ℕ) (a b : Option (List Asked)) (updates updates' : List (PendingUpdate W)) (out new kept key : List ℕ) (op : Op) (noreply : Bool) → kept ≡ key
     → AnswersPending will r m a b updates updates' out new (said.Asked (request.Update kept op noreply)) → AnswersPending will r m a b updates updates' out new (said.Asked (request.Update key op noreply))
 of_key will r m a b updates updates' out new kept key op noreply e h = subst (λ (k : List ℕ). AnswersPending will r m a b updates updates' out new (said.Asked (request.Update k op noreply))) e h
+
+-- an update that waits is told
+stays_waiting : {W : Type 0} (updates updates' : List (PendingUpdate W)) → updates' ≡ updates → updates' ≡ [] → updates ≡ []
+stays_waiting updates updates' e n = sym e ∙ n
+
+waits_on : {W : Type 0} (updates updates' : List (PendingUpdate W)) (l : PendingUpdate W) → updates' ≡ updates ++ l ∷ [] → updates' ≡ [] → updates ≡ []
+waits_on [] updates' l e n = refl
+waits_on (u ∷ us) updates' l e n = absurd (let z : u ∷ (us ++ l ∷ []) ≡ [] = sym e ∙ n in cc)
+
+begun_waits : {W E : Type 0} (will : W → Result DeskReply E) (b c : Option (List Asked)) (updates updates' : List (PendingUpdate W)) (out new : List ℕ) (s : Said) → HasBegun will b c updates updates' out new s → updates' ≡ [] → updates ≡ []
+begun_waits will b c updates updates' out new (said.Asked (request.Update key op noreply)) w n = waits_on updates updates' w.pending w.added n
+begun_waits will b c updates updates' out new (said.Asked (request.Get keys tags)) w n = absurd w
+begun_waits will b c updates updates' out new (said.Asked request.Version) w n = absurd w
+begun_waits will b c updates updates' out new (said.Asked request.Quit) w n = absurd w
+begun_waits will b c updates updates' out new (said.Refused q) w n = absurd w
+begun_waits will b c updates updates' out new (said.BadEnd q) w n = absurd w
+begun_waits will b c updates updates' out new said.LongLine w n = absurd w
+begun_waits will b c updates updates' out new said.Left w n = absurd w
+
+pub answered_waits : {W E F : Type 0} (will : W → Result DeskReply E) (r : Result (Unit {0}) F) (m : ℕ) (b c : Option (List Asked)) (updates updates' : List (PendingUpdate W)) (out new : List ℕ) (s : Said) → AnswersPending will r m b c updates updates' out new s → updates' ≡ [] → updates ≡ []
+answered_waits will (Ok u) m b c updates updates' out new s (inl h) n = stays_waiting updates updates' h.0 n
+answered_waits will (Ok u) m b c updates updates' out new s (inr w) n = begun_waits will b c updates updates' out new s w n
+answered_waits will (Err e) m b c updates updates' out new s h n = stays_waiting updates updates' h.0 n
+
+grown_heard : (P Q R : Type 0) (a b c : Option (List Asked)) (made : List Asked) → (IfTells b R → AsksMore a b made) → AsksMore b c [] → IfTells c P → (P → Q → R) → IfTells c Q → AsksMore a c made
+grown_heard P Q R a b None made h k p f q = tt
+grown_heard P Q R a None (Some z) made h k p f q = absurd k
+grown_heard P Q R a (Some y) (Some z) made h k p f q = rw (append-nil made) at (asks_more a (Some y) (Some z) made [] (h (f p q)) k)
+
+heard_text : (old fr u rest out : List ℕ) → (old ++ (fr ++ u)) ++ (rest ++ out) ≡ old ++ ((fr ++ (u ++ rest)) ++ out)
+heard_text old fr u rest out = append_assoc old (fr ++ u) (rest ++ out) ∙ ap (λ x. old ++ x) (append_assoc fr u (rest ++ out) ∙ ap (λ x. fr ++ x) (sym (append_assoc u rest out)) ∙ sym (append_assoc fr (u ++ rest) out))
+
+pub holding_heard : {W E : Type 0} (will : W → Result DeskReply E) (a b c : Option (List Asked)) (old out : List ℕ) (l : PendingUpdate W) (ls : List (PendingUpdate W)) (front after : List ℕ → List (Option DeskReply) → Out) → Holding will a b old out (l ∷ ls) front after → (g : LetsOneGo will l b c)
+    → Holding will a c (old ++ (l.front.items ++ update_text l.noreply g.t)) out ls front after
+holding_heard will a b c old out l ls front after h g ts s = let k = h (g.t ∷ ts) (g.settled, s) in record {
+  text = k.text;
+  made = k.made;
+  put = heard_text old l.front.items (update_text l.noreply g.t) (pending_text ls ts) out ∙ k.put;
+  grown = grown_heard (g.t ≡ told (will l.waits)) (ts ≡ wills will ls) (g.t ∷ ts ≡ told (will l.waits) ∷ wills will ls) a b c k.made k.grown g.kept g.same (λ p q. ap (λ x. x ∷ ts) p ∙ ap (λ x. told (will l.waits) ∷ x) q);
+  goes = k.goes;
+}
+
+pub parting_heard : {W E : Type 0} (will : W → Result DeskReply E) (a b c : Option (List Asked)) (l : PendingUpdate W) (ls : List (PendingUpdate W)) (front : List ℕ → List (Option DeskReply) → Out) → Parting will a b (l ∷ ls) front → LetsOneGo will l b c → Parting will a c ls front
+parting_heard will a b c l ls front h g ts s = let k = h (g.t ∷ ts) (g.settled, s) in record {
+  made = k.made;
+  grown = grown_heard (g.t ≡ told (will l.waits)) (ts ≡ wills will ls) (g.t ∷ ts ≡ told (will l.waits) ∷ wills will ls) a b c k.made k.grown g.kept g.same (λ p q. ap (λ x. x ∷ ts) p ∙ ap (λ x. told (will l.waits) ∷ x) q);
+  called = k.called;
+}
+
+-- with none that waits the replies may be parted anywhere
+pub holding_joined : {W E : Type 0} (will : W → Result DeskReply E) (a b : Option (List Asked)) (old told out told' out' : List ℕ) (front after : List ℕ → List (Option DeskReply) → Out) → told' ++ out' ≡ told ++ out → Holding will a b (old ++ told) out [] front after → Holding will a b (old ++ told') out' [] front after
+holding_joined will a b old told out told' out' front after e h [] s = let k = h [] s in record {
+  text = k.text;
+  made = k.made;
+  put = append_assoc old told' out' ∙ ap (λ x. old ++ x) e ∙ sym (append_assoc old told out) ∙ k.put;
+  grown = k.grown;
+  goes = k.goes;
+}
+holding_joined will a b old told out told' out' front after e h (t ∷ ts) s = absurd s
+
+-- what was said and is answered whole
+pub if_tells : (d : Option (List Asked)) (P : Type 0) → P → IfTells d P
+if_tells None P p = tt
+if_tells (Some x) P p = p
+
+pub holding_done : {W E : Type 0} (will : W → Result DeskReply E) (m : ℕ) (b d : Option (List Asked)) (out : List ℕ) (updates : List (PendingUpdate W)) (p : Place) (after : List ℕ → List (Option DeskReply) → Out) → updates ≡ [] → Holding will b d [] out updates (replies_from m p) after → Replying m b d [] out p after
+holding_done will m b d out updates p after e h =
+    let now : Holding will b d [] out [] (replies_from m p) after = rw e at h in
+    let k = now [] tt in
+    record { text = k.text; made = k.made; grown = k.grown (if_tells d ([] ≡ wills will []) refl); put = k.put; goes = k.goes }

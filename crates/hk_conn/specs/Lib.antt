@@ -11,3 +11,5 @@ pub mod Serving
 pub mod Responding
 pub mod Moments
 pub mod Pending
+pub mod Exchange
+pub mod Calls

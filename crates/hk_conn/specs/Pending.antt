@@ -13,7 +13,7 @@ use Rattle.hk_conn.specs.Heard.{AsksMore, told_of, is_busy}
 use Rattle.hk_conn.specs.Asking.{told}
 use Rattle.hk_conn.specs.Answering.{Answers, Stopped}
 use Rattle.hk_conn.specs.Served.{Out, before, replies, update_text}
-use Rattle.hk_conn.specs.Serving.{Place, replies_from, behind_stop, stop_at, Idles}
+use Rattle.hk_conn.specs.Serving.{Place, behind_stop, stop_at}
 
 -- the replies to them once they were told this, with those before each
 abbrev pub pending_text : {W : Type 0} → List (PendingUpdate W) → List (Option DeskReply) → List ℕ
@@ -69,12 +69,12 @@ pub record FinishesOne {W E F : Type 0} (will : W → Result DeskReply E) (pendi
   pub put : OnOk result (new ≡ old ++ (pending.front.items ++ update_text pending.noreply goes.t))
 
 -- ---- the replies so far, some of which wait
--- The replies between two moments, if those that wait are told this: by it and what was put behind them, and by the asks that were made. Where the desk tells its
--- asks these are they, if they are told what they will be.
+-- The replies between two moments, if those that wait are told this: what was put before, what they are told, and what was put behind them; and the asks that
+-- were made. Where the desk tells its asks these are they, if they are told what they will be.
 pub record Holds {W E : Type 0} (will : W → Result DeskReply E) (asks asks' : Option (List Asked)) (old out : List ℕ) (updates : List (PendingUpdate W)) (front after : List ℕ → List (Option DeskReply) → Out) (ts : List (Option DeskReply)) : Type 0 where
   pub text : List ℕ
   pub made : List Asked
-  pub put : pending_text updates ts ++ out ≡ old ++ text
+  pub put : old ++ (pending_text updates ts ++ out) ≡ text
   pub grown : IfTells asks' (ts ≡ wills will updates) → AsksMore asks asks' made
   pub goes : (more : List ℕ) (later : List (Option DeskReply)) → front more (map told_of made ++ later) ≡ before text made (after more later)
 
@@ -90,12 +90,6 @@ pub record Parts {W E : Type 0} (will : W → Result DeskReply E) (asks asks' : 
 
 abbrev pub Parting : {W E : Type 0} → (W → Result DeskReply E) → Option (List Asked) → Option (List Asked) → List (PendingUpdate W) → (List ℕ → List (Option DeskReply) → Out) → Type 0
 Parting will asks asks' updates front = (ts : List (Option DeskReply)) → Settle updates ts → Parts will asks asks' updates front ts
-
--- what was answered goes on so, or all that wait are told
-abbrev pub HoldsUp : {W E F : Type 0} → (W → Result DeskReply E) → Result (Unit {0}) F → Option (List Asked) → Option (List Asked) → List (PendingUpdate W) → List (PendingUpdate W) → List ℕ → List ℕ → Type 0
-HoldsUp will (Ok u) asks asks' updates updates' out out' =
-    (a : Option (List Asked)) (old : List ℕ) (front after : List ℕ → List (Option DeskReply) → Out) → Holding will a asks old out updates front after → Holding will a asks' old out' updates' front after
-HoldsUp will (Err e) asks asks' updates updates' out out' = (updates' ≡ []) × (ts : List (Option DeskReply)) × AreTold will asks asks' updates ts
 
 -- an update began, and waits, with the replies before it
 pub record Waited {W E : Type 0} (will : W → Result DeskReply E) (asks asks' : Option (List Asked)) (updates updates' : List (PendingUpdate W)) (out out' key : List ℕ) (op : Op) (noreply : Bool) : Type 0 where
@@ -127,8 +121,3 @@ RepliesPending will (Ok (Some stop)) m asks asks' updates updates' out out' s = 
 RepliesPending will (Err e) m asks asks' updates updates' out out' s =
     (a : Option (List Asked)) (old : List ℕ) (front : List ℕ → List (Option DeskReply) → Out) (ss : List ℕ → List Said) →
     Holding will a asks old out updates front (λ more later. replies m (s ∷ ss more) later) → Parting will a asks' updates' front
-
--- so of all that was said so far, or of as much as passes the size of a write
-abbrev pub PassesPending : {W E F : Type 0} → (W → Result DeskReply E) → Result Stop F → ℕ → Option (List Asked) → Option (List Asked) → List (PendingUpdate W) → List ℕ → List ℕ → Place → Place → Type 0
-PassesPending will (Ok s) m asks asks' updates old new p p' = Holding will asks asks' old new updates (replies_from m p) (behind_stop s m p') × Idles s p p'
-PassesPending will (Err e) m asks asks' updates old new p p' = Parting will asks asks' updates (replies_from m p)

@@ -8,6 +8,12 @@
 //! The caller gives a connection, a desk that tells its asks, if the clause is to say which were made, and a patience
 //! of at least one.
 //!
+//! `serve_connection` is a loop over an `Exchange`, which is what a connection is between two calls of its loop: the bytes
+//! that came, the updates that wait at the desk, and the replies that are to be written. None of its calls waits for the
+//! client, so a loop may hold many of them. `Exchange::owed` says what one waits for: bytes (`give`), a step (`take_step`),
+//! an answer of the desk (`hear_next`), or that replies are written (`unwritten`, `written`). Whatever pieces and pauses a
+//! loop gives it, at each rest what was written is `served` (`pieces_and_pauses_do_not_matter`, `specs/Calls.antt`).
+//!
 //! What is proved (`Serves`). The asks that were made are those that the bytes read call for. All of the text was
 //! written at a quit, at the end, at a line that is too long, at a read that fails and at the last read that a
 //! connection may make; a front of it where a write fails or memory is wanting. So it is too where updates wait at the
@@ -24,14 +30,17 @@
 mod answer;
 mod connection;
 mod ends;
+mod exchange;
 mod hear;
-mod pass;
 mod pending;
 mod reader;
-mod respond;
 mod said;
+mod step;
 mod stream;
 
 pub use connection::serve_connection;
 pub use ends::ConnEnd;
+pub use exchange::{Exchange, Owed};
+pub use pending::hear_next;
 pub use said::Said;
+pub use step::{pieces_and_pauses_do_not_matter, take_step};

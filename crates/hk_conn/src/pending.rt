@@ -1,12 +1,15 @@
 //! Updates that wait at the desk, while others are asked.
 
-ghost use Rattle.std.specs.Prelude.{◌≡◌, ◌≤◌, ◌-◌, ◌++◌, OnOk};
+ghost use Rattle.std.specs.Prelude.{◌≡◌, ◌≤◌, ◌-◌, ◌++◌, true, false, OnOk};
+ghost use Rattle.hk_conn.specs.Said.{is_last};
 ghost use Rattle.hk_conn.specs.Asking.{told};
 ghost use Rattle.hk_conn.specs.Answering.{Answers};
+ghost use Rattle.hk_conn.specs.Exchange.{HearsNext, Joins};
 ghost use Rattle.hk_conn.specs.Served.{update_text};
-ghost use Rattle.hk_conn.specs.Pending.{AnswersPending, FinishesAll, FinishesUpdates, FinishesOne, HoldsUp, LetsGo, LetsOneGo};
+ghost use Rattle.hk_conn.specs.Pending.{AnswersPending, FinishesAll, FinishesUpdates, FinishesOne, LetsGo, LetsOneGo};
 
 use crate::answer::put_told;
+use crate::exchange::Exchange;
 use crate::hear::{hear, hear_on};
 use crate::said::Said;
 use hk_base::{Key, Memory, Op};
@@ -79,8 +82,8 @@ fn let_one_go<D: Desk>(desk: &mut D, pending: PendingUpdate<D::Waits>)
     let _ = desk.finish(waits);
 }
 
-// Finishes them. No reply is put.
-fn let_go<D: Desk>(desk: &mut D, updates: &mut VecDeque<PendingUpdate<D::Waits>>)
+/// Finishes them. No reply is put.
+pub fn let_go<D: Desk>(desk: &mut D, updates: &mut VecDeque<PendingUpdate<D::Waits>>)
     ensures { LetsGo D.will (D.asks desk.old) (D.asks desk.new) updates.old.items updates.new.items }
 {
     while let Some(pending) = updates.pop_front() {
@@ -124,6 +127,37 @@ pub fn finish_all<D: Desk>(
     }
 }
 
+/// Waits for what is told of the update that has waited longest, and puts its reply, where one waits.
+///
+/// After an `Err` the others are still to be told, and nothing else can be done.
+pub fn hear_next<D: Desk>(
+    alloc: Global,
+    desk: &mut D,
+    exchange: &mut Exchange<D::Waits>,
+) -> Result<(), Memory>
+    ensures { HearsNext D.will result (D.asks desk.old) (D.asks desk.new) exchange.old exchange.new }
+{
+    let Some(pending) = exchange.updates.pop_front() else {
+        return Ok(());
+    };
+    match finish_one(desk, pending, &mut exchange.told) {
+        Ok(()) => join(alloc, exchange),
+        Err(memory) => Err(memory),
+    }
+}
+
+// Once none waits the replies are one text.
+fn join<W>(alloc: Global, exchange: &mut Exchange<W>) -> Result<(), Memory>
+    ensures { Joins result exchange.old exchange.new }
+{
+    if exchange.updates.len() > 0 {
+        return Ok(());
+    }
+    let told = mem::replace(&mut exchange.told, Vec::new(alloc));
+    let behind = mem::replace(&mut exchange.out, told);
+    put(&mut exchange.out, behind)
+}
+
 fn has_key<W>(updates: &VecDeque<PendingUpdate<W>>, key: &Key) -> bool {
     updates.iter().any(|pending| pending.key == *key)
 }
@@ -132,35 +166,29 @@ fn has_one_of<W>(updates: &VecDeque<PendingUpdate<W>>, keys: &[Key]) -> bool {
     keys.iter().any(|key| has_key(updates, key))
 }
 
-// Whether those that wait are to be told before this is answered: it names the key of one of them, or they are as many as may wait.
-fn is_held_up<W>(updates: &VecDeque<PendingUpdate<W>>, said: &Said) -> bool {
-    if updates.is_empty() {
-        return false;
-    }
+// Whether this names the key of one of them, or they are as many as may wait.
+fn names_one<W>(updates: &VecDeque<PendingUpdate<W>>, request: &Request) -> bool {
     if updates.len() >= MOST {
         return true;
     }
-    match said {
-        Said::Asked(Request::Update { key, .. }) => has_key(updates, key),
-        Said::Asked(Request::Get { keys, .. }) => has_one_of(updates, keys.as_slice()),
+    match request {
+        Request::Update { key, .. } => has_key(updates, key),
+        Request::Get { keys, .. } => has_one_of(updates, keys.as_slice()),
         _ => false,
     }
 }
 
-/// Finishes all that wait, where that has to be before this is answered.
-pub fn hold_up<D: Desk>(
-    alloc: Global,
-    desk: &mut D,
-    said: &Said,
-    updates: &mut VecDeque<PendingUpdate<D::Waits>>,
-    out: &mut Vec<u8>,
-) -> Result<(), Memory>
-    ensures { HoldsUp D.will result (D.asks desk.old) (D.asks desk.new) updates.old.items updates.new.items out.old.items out.new.items }
+/// Whether those that wait are to be told before this is answered.
+pub fn is_held_up<W>(updates: &VecDeque<PendingUpdate<W>>, said: &Said) -> bool
+    ensures { result ≡ true → is_last said.now ≡ false }
 {
-    if !is_held_up(updates, said) {
-        return Ok(());
+    if updates.is_empty() {
+        return false;
     }
-    finish_all(alloc, desk, updates, out)
+    match said {
+        Said::Asked(request) => names_one(updates, request),
+        _ => false,
+    }
 }
 
 // Asks an update that does not wait beside others.

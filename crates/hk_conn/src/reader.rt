@@ -2,6 +2,7 @@
 
 ghost use Rattle.std.specs.Prelude.{◌≡◌, ◌+◌, ◌≤◌, ◌<◌, ◌^◌, [], length, None, Some, Ok, IfOk, OnOk, OnErr};
 ghost use Rattle.hk_outside.specs.Causes.{Rose};
+ghost use Rattle.hk_lines.specs.Cut.{fed, with_room};
 ghost use Rattle.hk_request.specs.Heads.{HasItsTag};
 ghost use Rattle.hk_request.specs.Reading.{head_of};
 ghost use Rattle.hk_conn.specs.Said.{said_block};
@@ -81,6 +82,15 @@ impl Reader {
         self.cutter.filled(count);
         self.room = next_room(room, count);
         Ok(count)
+    }
+
+    /// These bytes came. After an `Err` all is as it was.
+    pub fn feed(&mut self, bytes: &[u8]) -> Result<(), Memory>
+        ensures given { OnOk result (self.new.cutter ≡ fed self.old.cutter bytes.now) }
+        ensures not { OnErr result (self.new.cutter ≡ with_room self.old.cutter []) }
+        ensures pending { self.new.pending ≡ self.old.pending }
+    {
+        self.cutter.feed(bytes)
     }
 
     /// The next that was said, if all of it is there.
