@@ -3,7 +3,7 @@
 use crate::happening::{Asker, Happening};
 use crate::judge::Judge;
 use crate::mistake::Mistake;
-use crate::node::Took;
+use crate::node::Taken;
 use crate::world::World;
 use hk_base::{Actor, Body, Memory, NodeId};
 use hk_inside::{Inquiry, Response};
@@ -96,12 +96,12 @@ impl<R: Wait + Eprint + Copy + Drop> World<R> {
             return Ok(());
         };
         match node.take(alloc, parcel)? {
-            Took::Nothing => Ok(()),
-            Took::Lease => {
+            Taken::Nothing => Ok(()),
+            Taken::Lease => {
                 self.check_leases(parcel.shard);
                 Ok(())
             }
-            Took::View => self.note_begun(parcel),
+            Taken::View => self.note_begun(parcel),
         }
     }
 

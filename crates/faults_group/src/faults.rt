@@ -19,7 +19,7 @@ enum Wrong {
     CutOff,
     /// All that travels is slow.
     Slow,
-    /// A part of that is lost.
+    /// A part of that is lost, and no more of it is slow.
     Loss,
     /// Its clock jumps.
     Jump,
@@ -116,7 +116,7 @@ impl<R: Wait + Eprint + Copy + Drop> World<R> {
     }
 
     fn cut(&mut self, from: usize, to: usize) -> Result<(), Memory> {
-        self.network.cut(from, to, true);
+        self.network.cut(from, to);
         let lease = self.lease();
         let delay = self.draws.within(1, lease.saturating_mul(6));
         self.schedule(delay, Happening::Heal { from, to })
@@ -153,10 +153,10 @@ impl<R: Wait + Eprint + Copy + Drop> World<R> {
         }
     }
 
-    // A disk is lost, where most are left.
+    // A disk is lost, where most of them are left behind that, and all managers are open that can be.
     fn wipe(&mut self, at: usize) -> Result<(), Memory> {
         let most = usize::from(self.terms.managers) / 2;
-        if !self.are_all_open() || self.count_lost() >= most || !self.may_end() {
+        if !self.are_others_open() || self.count_lost() >= most || !self.may_end() {
             return Ok(());
         }
         let lease = self.lease();

@@ -1,6 +1,8 @@
 //! The commands `init` and `leave`, as operators type them.
 
 use crate::happening::{Asker, Happening};
+use crate::mistake::Mistake;
+use crate::phases::Phase;
 use crate::world::World;
 use hk_base::Memory;
 use hk_fields::FoundingHosts;
@@ -15,17 +17,18 @@ const INIT_LASTS: u64 = 5_000;
 /// The command `init`, as it runs.
 #[derive(Drop)]
 pub struct Command {
-    life: u64,
+    // No other one has it.
+    number: u64,
     host: usize,
     founding: u64,
     begun: u64,
-    // By places, the tickets of each host that is reserved.
+    // By places, the tickets of each host that has told how it stands.
     tickets: Vec<Option<HostTickets>>,
     is_sent: bool,
 }
 
 impl Command {
-    // The tickets of all hosts, once each is reserved.
+    // The tickets of all hosts, once each has told how it stands.
     fn all_tickets(&self, alloc: Global) -> Result<Option<FoundingHosts>, Memory> {
         let mut all = FoundingHosts::new(alloc);
         for tickets in &self.tickets {
@@ -38,15 +41,15 @@ impl Command {
     }
 
     fn asker(&self) -> Asker {
-        asker_of(self.host, self.life)
+        asker_of(self.host, self.number)
     }
 }
 
 // A command asks, which is typed at a host.
-fn asker_of(host: usize, life: u64) -> Asker {
+fn asker_of(host: usize, number: u64) -> Asker {
     Asker {
         host,
-        life,
+        life: number,
         is_command: true,
         asked: 0,
         claimed: None,
@@ -101,7 +104,7 @@ impl<R: Wait + Eprint + Copy + Drop> World<R> {
         let managers = self.terms.managers;
         let founding = self.draws.within(1, u64::from(u32::MAX));
         let command = Command {
-            life: self.counts.events,
+            number: self.counts.events,
             host: self.draw_host(),
             founding,
             begun: self.now,
@@ -109,6 +112,7 @@ impl<R: Wait + Eprint + Copy + Drop> World<R> {
             is_sent: false,
         };
         let asker = command.asker();
+        // the last four are kept
         self.commands.truncate(3);
         self.commands.insert(0, command)?;
         for place in 0..managers {
@@ -118,16 +122,16 @@ impl<R: Wait + Eprint + Copy + Drop> World<R> {
         Ok(())
     }
 
-    // Notes that a manager is reserved. It gives who asks FOUND now, and with which founding.
-    fn note_reserved(
+    // Notes what a manager answered LOOK. It gives who asks FOUND now, and with which founding, once all have.
+    fn note_state(
         &mut self,
-        life: u64,
+        number: u64,
         place: u8,
         tickets: HostTickets,
     ) -> Result<Option<(Asker, u64, FoundingHosts)>, Memory> {
         let (alloc, now) = (self.alloc, self.now);
         for command in self.commands.iter_mut() {
-            if command.life == life && !command.is_sent {
+            if command.number == number && !command.is_sent {
                 if let Some(known) = command.tickets.get_mut(usize::from(place)) {
                     *known = Some(tickets);
                 }
@@ -144,23 +148,31 @@ impl<R: Wait + Eprint + Copy + Drop> World<R> {
         Ok(None)
     }
 
-    /// A manager answered a command. Once all are reserved FOUND goes to each.
+    // Whether FOUND goes to the manager of a place. While faults come it may be cut short behind each.
+    fn founds_at(&mut self, place: u8) -> bool {
+        if self.mistake == Mistake::ShortInits && place == 0 {
+            return false;
+        }
+        self.phase != Phase::Faults || !self.draws.happens(50)
+    }
+
+    /// A manager answered a command. Once each has told how it stands FOUND goes to all at once. That is harder than the
+    /// real `init`, which asks one behind the other, stops at a refusal, and founds nothing where no node waits.
     pub fn go_on_with_init(
         &mut self,
-        life: u64,
+        number: u64,
         place: u8,
         response: &Response,
     ) -> Result<(), Memory> {
         let Response::State(state) = response else {
             return Ok(());
         };
-        let Some((asker, founding, all)) = self.note_reserved(life, place, state.tickets)? else {
+        let Some((asker, founding, all)) = self.note_state(number, place, state.tickets)? else {
             return Ok(());
         };
         for place in 0..self.terms.managers {
             let hosts = FoundingHosts::from_vec(all.as_slice().to_vec(self.alloc)?);
-            // it may be cut short behind each
-            if !self.draws.happens(50) {
+            if self.founds_at(place) {
                 let inquiry = Inquiry::Found { founding, hosts };
                 self.ask(asker, place, inquiry)?;
             }

@@ -9,7 +9,7 @@ use crate::mistake::Mistake;
 use crate::node::NodeShard;
 use crate::process::{Process, new_shared};
 use crate::world::World;
-use hk_base::Memory;
+use hk_base::{Memory, SHARDS};
 use hk_inside::HostTickets;
 use std::io::Eprint;
 use std::sync::{Arc, Mutex, Wait};
@@ -53,7 +53,7 @@ impl<R: Wait + Eprint + Copy + Drop> World<R> {
         let identity = identity_of(self.alloc, &self.terms, at, drawn.node)?;
         let shared = new_shared(self.rt, self.alloc, identity)?;
         shared.clock.rise(pace.reading(self.now));
-        let manager = Manager::begin(&shared, log, drawn);
+        let manager = Manager::begin(&shared, log, drawn)?;
         self.run(at, pace, shared, manager)
     }
 
@@ -63,12 +63,8 @@ impl<R: Wait + Eprint + Copy + Drop> World<R> {
         at: usize,
         pace: Pace,
         shared: Arc<HostShared<R>>,
-        manager: Result<Option<Manager<R>>, Memory>,
+        manager: Option<Manager<R>>,
     ) -> Result<(), Memory> {
-        let manager = match manager {
-            Ok(manager) => manager,
-            Err(memory) => return Err(memory),
-        };
         let Some(host) = self.hosts.get_mut(at) else {
             return Ok(());
         };
@@ -116,7 +112,7 @@ impl<R: Wait + Eprint + Copy + Drop> World<R> {
     /// A process looks how it stands, reports, and renews its leases.
     pub fn beat(&mut self, at: usize, life: u64) -> Result<(), Memory> {
         let (now, lease) = (self.now, self.lease());
-        let is_greedy = self.mistake == Mistake::SharedNumbers;
+        let mistake = self.mistake;
         let Some(process) = self.process(at, life) else {
             return Ok(());
         };
@@ -124,7 +120,7 @@ impl<R: Wait + Eprint + Copy + Drop> World<R> {
         if !process.look(now) {
             return self.restart(at, lease);
         }
-        let is_made = process.make_node(is_greedy)?;
+        let is_made = process.make_node(mistake)?;
         let sent = process.beat(now)?;
         if is_made {
             self.note_node(at)?;
@@ -149,7 +145,7 @@ impl<R: Wait + Eprint + Copy + Drop> World<R> {
         };
         self.judge
             .note_holder(node.number, process.shared.identity.ticket)?;
-        for (shard, held) in (0..8).zip(node.shards.iter()) {
+        for (shard, held) in (0..SHARDS).zip(node.shards.iter()) {
             if let Some(view) = &held.view {
                 self.judge.note_begun(self.alloc, shard, view)?;
             }
@@ -175,16 +171,13 @@ impl<R: Wait + Eprint + Copy + Drop> World<R> {
     }
 
     fn shard_of(&mut self, at: usize, shard: usize) -> Option<&mut NodeShard> {
-        let process = self.running(at)?;
-        let Some(node) = &mut process.node else {
-            return None;
-        };
+        let node = self.running(at)?.node.as_mut()?;
         node.shards.get_mut(shard)
     }
 
     // Shards that have a view but not all rows copy them, for some beats.
     fn copy(&mut self, at: usize) {
-        for shard in 0..8 {
+        for shard in 0..usize::from(SHARDS) {
             let is_copied = self.draws.happens(200) && self.can_copy(at, shard);
             if let Some(held) = self.shard_of(at, shard) {
                 held.is_whole = held.is_whole || is_copied;

@@ -7,6 +7,9 @@ use hk_hosts::{Address, Hosts};
 use hk_shared_state::Identity;
 use std::alloc::Global;
 
+/// So many hosts have managers at most.
+pub const MOST_MANAGERS: usize = 9;
+
 /// The terms of a group.
 #[derive(Clone, Copy, Debug)]
 pub struct GroupTerms {

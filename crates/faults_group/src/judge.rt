@@ -1,6 +1,6 @@
 //! What must not happen.
 
-use hk_base::{Memory, NodeId, View};
+use hk_base::{Memory, NodeId, SHARDS, View};
 use hk_fields::Ticket;
 use std::alloc::Global;
 
@@ -15,6 +15,8 @@ pub enum Fault {
     TooEarly { shard: u8, number: u16 },
     /// No node served though most managers were well, and one had all rows.
     NeverServes,
+    /// No manager opened though all were well, and `init` was typed.
+    NeverOpens,
 }
 
 // The last views of a shard: that were chosen, and that began.
@@ -53,7 +55,7 @@ impl Judge {
     /// Nothing was heard yet.
     pub fn new(alloc: Global) -> Result<Judge, Memory> {
         let mut views = Vec::new(alloc);
-        for _shard in 0..8 {
+        for _shard in 0..SHARDS {
             views.push(LastViews {
                 chosen: None,
                 begun: None,

@@ -104,11 +104,11 @@ impl<R: Wait + Eprint + Copy + Drop> World<R> {
         count
     }
 
-    /// Whether all managers are open.
-    pub fn are_all_open(&self) -> bool {
+    /// Whether all managers are open but those whose disks were lost, which never are again.
+    pub fn are_others_open(&self) -> bool {
         let mut managers = self.hosts.iter().take(usize::from(self.terms.managers));
         managers.all(|host| match &host.running {
-            Some(process) => process.open_founding().is_some(),
+            Some(process) => host.is_wiped || process.open_founding().is_some(),
             None => false,
         })
     }

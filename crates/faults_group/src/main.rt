@@ -74,10 +74,8 @@ fn run_group<R: Wait + Eprint + Copy + Drop>(
     let made = make_all(&mut world, plan.events);
     world.end_all();
     let told = (world.judge.fault, world.counts);
-    match made {
-        Ok(()) => Ok(told),
-        Err(memory) => Err(memory),
-    }
+    made?;
+    Ok(told)
 }
 
 // Runs one group after the other.

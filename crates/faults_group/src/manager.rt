@@ -9,7 +9,7 @@ use crate::happening::{Asker, Happening};
 use hk_base::{Actor, MAX_TIME, Memory, NodeId, View};
 use hk_inside::{HostTickets, Inquiry};
 use hk_link::{Inlet, Outlet, Parcel, link};
-use hk_managing::{ManagerJob, ManagerStart, begin_manager};
+use hk_managing::{ManagerJob, begin_manager};
 use hk_outside::Clock;
 use hk_overseer::Outlets;
 use hk_restore::Terms;
@@ -62,20 +62,6 @@ fn split_for(alloc: Global, outward: &mut Outlet, managers: u8) -> Result<Outlet
     Ok(outlets)
 }
 
-// The job of a manager that begins so.
-fn made_job<R: Wait + Eprint + Copy + Drop>(
-    shared: Arc<HostShared<R>>,
-    clock: Arc<HostClock>,
-    start: ManagerStart<DiskLog<R>>,
-    inlet: Inlet,
-    routes: &Arc<Routes>,
-) -> Result<Option<Job<R>>, Memory> {
-    match ManagerJob::new(shared, start, inlet, routes, clock) {
-        Ok(job) => Ok(Some(job)),
-        Err(memory) => Err(memory),
-    }
-}
-
 // Begins by what the log has. There is none where the host has none, or its log is not taken up.
 fn begin_job<R: Wait + Eprint + Copy + Drop>(
     shared: &Arc<HostShared<R>>,
@@ -102,10 +88,11 @@ fn begin_job<R: Wait + Eprint + Copy + Drop>(
         lease: identity.lease,
         skew: identity.skew,
     };
-    match begin_manager(shared.alloc, log, terms, drawn, &first, now) {
-        Ok(start) => made_job(own, clock, start, inlet, routes),
-        Err(_) => Ok(None),
-    }
+    let Ok(start) = begin_manager(shared.alloc, log, terms, drawn, &first, now) else {
+        return Ok(None);
+    };
+    let job = ManagerJob::new(own, start, inlet, routes, clock)?;
+    Ok(Some(job))
 }
 
 impl<R: Wait + Eprint + Copy + Drop> Manager<R> {
@@ -121,22 +108,18 @@ impl<R: Wait + Eprint + Copy + Drop> Manager<R> {
         let (mut outward, wire) = link(alloc, ROOM)?;
         let outlets = split_for(alloc, &mut outward, shared.identity.managers())?;
         let routes = Arc::new(alloc, Routes::new(outlets))?;
-        let begun = match begin_job(shared, log, drawn, &routes, inlet) {
-            Ok(begun) => begun,
-            Err(memory) => return Err(memory),
+        let Some(job) = begin_job(shared, log, drawn, &routes, inlet)? else {
+            return Ok(None);
         };
-        match begun {
-            Some(job) => Ok(Some(Manager {
-                job,
-                inward,
-                outward,
-                wire,
-                routes,
-                routed: 0,
-                waiting: Vec::new(alloc),
-            })),
-            None => Ok(None),
-        }
+        Ok(Some(Manager {
+            job,
+            inward,
+            outward,
+            wire,
+            routes,
+            routed: 0,
+            waiting: Vec::new(alloc),
+        }))
     }
 
     /// Letters go to the nodes of these numbers too from now on.

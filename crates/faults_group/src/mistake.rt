@@ -1,8 +1,9 @@
-//! Wrong turns of the simulator itself, each of which it must tell.
+//! Mistakes of the simulator itself, each of which it must tell.
 
-/// A wrong turn of the simulator.
+/// A mistake of the simulator.
 #[derive(Clone, Copy, Debug, PartialEq, Eq)]
 pub enum Mistake {
+    /// There is none.
     Nothing,
     /// The clocks of most managers go three times too fast.
     HastyClocks,
@@ -12,13 +13,16 @@ pub enum Mistake {
     EmptyDisks,
     /// Nodes get no lease.
     DeafNodes,
+    /// `init` founds the group at all managers but the first one.
+    ShortInits,
 }
 
-const WORDS: [(&str, Mistake); 4] = [
+const WORDS: [(&str, Mistake); 5] = [
     ("hasty-clocks", Mistake::HastyClocks),
     ("shared-numbers", Mistake::SharedNumbers),
     ("empty-disks", Mistake::EmptyDisks),
     ("deaf-nodes", Mistake::DeafNodes),
+    ("short-inits", Mistake::ShortInits),
 ];
 
 /// The mistake of this word.

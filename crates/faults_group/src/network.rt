@@ -29,13 +29,22 @@ impl Network {
         })
     }
 
-    /// Nothing comes from the one host to the other, or all does again.
-    pub fn cut(&mut self, from: usize, to: usize, is_cut: bool) {
+    fn set(&mut self, from: usize, to: usize, is_cut: bool) {
         if let Some(cuts) = self.cuts.get_mut(from) {
             if let Some(cut) = cuts.get_mut(to) {
-                *cut = is_cut && from != to;
+                *cut = is_cut;
             }
         }
+    }
+
+    /// Nothing comes from the one host to the other.
+    pub fn cut(&mut self, from: usize, to: usize) {
+        self.set(from, to, true);
+    }
+
+    /// All comes again from the one host to the other.
+    pub fn mend(&mut self, from: usize, to: usize) {
+        self.set(from, to, false);
     }
 
     /// Nothing is cut or lost any more, and all is fast.

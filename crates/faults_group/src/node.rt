@@ -3,7 +3,8 @@
 ghost use Rattle.std.specs.Prelude.{◌<◌, ◌≤◌};
 ghost use Rattle.hk_base.specs.declared.time.TheConstants.{MAX_TIME};
 
-use hk_base::{Actor, Body, Letter, MAX_TIME, Memory, NodeId, View};
+use crate::identity::MOST_MANAGERS;
+use hk_base::{Actor, Body, Letter, MAX_TIME, Memory, NodeId, SHARDS, View};
 use hk_lease::node_end;
 use hk_link::Parcel;
 use std::alloc::Global;
@@ -30,7 +31,7 @@ pub struct Node {
 
 /// What a letter did to a shard.
 #[derive(Clone, Copy, PartialEq, Eq)]
-pub enum Took {
+pub enum Taken {
     Nothing,
     Lease,
     View,
@@ -99,17 +100,17 @@ impl NodeShard {
         left.saturating_mul(2) < lease.saturating_sub(skew)
     }
 
-    fn take_lease(&mut self, from: u8, end: u64) -> Took {
+    fn take_lease(&mut self, from: u8, end: u64) -> Taken {
         let Some(known) = self.ends.get_mut(usize::from(from)) else {
-            return Took::Nothing;
+            return Taken::Nothing;
         };
         *known = (*known).max(end);
         let granted = end_by(&self.ends);
         if granted <= self.granted {
-            return Took::Nothing;
+            return Taken::Nothing;
         }
         self.granted = granted;
-        Took::Lease
+        Taken::Lease
     }
 
     // Whether a majority told just this epoch.
@@ -124,19 +125,19 @@ impl NodeShard {
         node: NodeId,
         from: u8,
         view: &View,
-    ) -> Result<Took, Memory> {
+    ) -> Result<Taken, Memory> {
         if self.activated.iter().any(|told| *told > view.epoch) {
-            return Ok(Took::Nothing);
+            return Ok(Taken::Nothing);
         }
         if let Some(known) = self.activated.get_mut(usize::from(from)) {
             *known = view.epoch;
         }
         let is_new = self.is_activated(view.epoch) && view.epoch > self.epoch();
         if !is_new || !view.has_member(node) {
-            return Ok(Took::Nothing);
+            return Ok(Taken::Nothing);
         }
         self.view = Some(view.copy(alloc)?);
-        Ok(Took::View)
+        Ok(Taken::View)
     }
 }
 
@@ -149,7 +150,7 @@ impl Node {
         first: Option<&View>,
     ) -> Result<Node, Memory> {
         let mut shards = Vec::new(alloc);
-        for _shard in 0..8 {
+        for _shard in 0..SHARDS {
             let view = match first {
                 Some(view) => Some(view.copy(alloc)?),
                 None => None,
@@ -198,7 +199,7 @@ impl Node {
         skew: u64,
     ) -> Option<Parcel> {
         let held = self.shards.get(usize::from(shard))?;
-        if manager >= 9 || shard >= 8 || reading > MAX_TIME {
+        if usize::from(manager) >= MOST_MANAGERS || shard >= SHARDS || reading > MAX_TIME {
             return None;
         }
         if held.is_short(reading, lease, skew) {
@@ -209,17 +210,17 @@ impl Node {
     }
 
     /// Takes a letter of a manager.
-    pub fn take(&mut self, alloc: Global, parcel: &Parcel) -> Result<Took, Memory> {
+    pub fn take(&mut self, alloc: Global, parcel: &Parcel) -> Result<Taken, Memory> {
         let Actor::Manager(from) = parcel.letter.from else {
-            return Ok(Took::Nothing);
+            return Ok(Taken::Nothing);
         };
         let Some(shard) = self.shards.get_mut(usize::from(parcel.shard)) else {
-            return Ok(Took::Nothing);
+            return Ok(Taken::Nothing);
         };
         match &parcel.letter.body {
             Body::LeaseGive { end } => Ok(shard.take_lease(from, *end)),
             Body::Activate(view) => shard.take_activate(alloc, self.number, from, view),
-            _ => Ok(Took::Nothing),
+            _ => Ok(Taken::Nothing),
         }
     }
 }

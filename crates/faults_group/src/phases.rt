@@ -11,6 +11,12 @@ use std::sync::Wait;
 // So often faults come, and are healed, in one group.
 const ROUNDS: u64 = 12;
 
+// In milliseconds, beside the leases. A manager may be reserved for 10 s by an `init` that was typed before, and so the
+// next one is in vain: two are typed by then that are more than 10 s apart.
+const FOUNDED_WITHIN: u64 = 40_000;
+
+const SERVES_WITHIN: u64 = 5_000;
+
 /// Whether faults come.
 #[derive(Clone, Copy, PartialEq, Eq)]
 pub enum Phase {
@@ -48,12 +54,12 @@ impl<R: Wait + Eprint + Copy + Drop> World<R> {
             Phase::Healed => {
                 self.phase = Phase::Settled;
                 self.was_sound = self.count_whole() > 0;
-                let founding = if self.judge.founding == 0 {
-                    25_000
+                let more = if self.judge.founding == 0 {
+                    FOUNDED_WITHIN
                 } else {
-                    5_000
+                    SERVES_WITHIN
                 };
-                lease.saturating_mul(30).saturating_add(founding)
+                lease.saturating_mul(30).saturating_add(more)
             }
             Phase::Settled => {
                 self.phase = Phase::Faults;
@@ -65,18 +71,29 @@ impl<R: Wait + Eprint + Copy + Drop> World<R> {
         self.schedule(delay, Happening::Phase)
     }
 
-    // The group serves again, where a node was left that has all rows.
+    // A group is founded, and one that had a node with all rows when faults had been over for a while serves again.
     fn judge_settled(&mut self) {
-        if self.judge.founding != 0 && self.count_whole() == 0 {
-            self.counts.lost = self.counts.lost.saturating_add(1);
-            self.is_over = true;
-        } else if self.is_served() {
+        self.rounds = self.rounds.saturating_add(1);
+        self.is_over = self.rounds > ROUNDS;
+        if self.is_served() {
             self.counts.served = self.counts.served.saturating_add(1);
         } else if self.was_sound && self.mistake != Mistake::EmptyDisks {
             self.judge.blame(Fault::NeverServes);
+        } else if self.is_lost() {
+            self.counts.lost = self.counts.lost.saturating_add(1);
+            self.is_over = true;
+        } else if self.judge.founding == 0 && !self.is_host_down() {
+            self.judge.blame(Fault::NeverOpens);
         }
-        self.rounds = self.rounds.saturating_add(1);
-        self.is_over = self.is_over || self.rounds > ROUNDS;
+    }
+
+    // Whether no node of a founded group has all rows.
+    fn is_lost(&self) -> bool {
+        self.judge.founding != 0 && self.count_whole() == 0
+    }
+
+    fn is_host_down(&self) -> bool {
+        self.hosts.iter().any(|host| host.is_down)
     }
 
     // No host stays down.

@@ -9,10 +9,11 @@ ghost use Rattle.hk_base.specs.declared.time.TheConstants.{MAX_TIME};
 
 use crate::clock::{HostClock, Pace};
 use crate::happening::{Asker, Happening};
-use crate::identity::text_of;
+use crate::identity::{MOST_MANAGERS, text_of};
 use crate::manager::{HostShared, Manager};
+use crate::mistake::Mistake;
 use crate::node::Node;
-use hk_base::{Memory, NodeId, Sequence, View};
+use hk_base::{Memory, NodeId, SHARDS, Sequence, View};
 use hk_boards::HeardBoard;
 use hk_host_words::Verbosity;
 use hk_inside::{Board, Inquiry, NodeState, Report, Response, ShardsTold};
@@ -34,7 +35,7 @@ pub struct Process<R: Wait + Drop> {
     pub manager: Option<Manager<R>>,
     pub node: Option<Node>,
     // By places, when the report that is on its way there is given up.
-    waits: [u64; 9],
+    waits: [u64; MOST_MANAGERS],
     /// Whether its manager is to make a turn.
     pub has_turn: bool,
 }
@@ -43,7 +44,7 @@ pub struct Process<R: Wait + Drop> {
 fn state_of(before: NodeState, ready: u8, least_epoch: u64) -> NodeState {
     if before == NodeState::Leaving || before == NodeState::Ready {
         before
-    } else if ready == 8 {
+    } else if ready == SHARDS {
         NodeState::Ready
     } else if least_epoch > 0 {
         NodeState::Copying
@@ -83,9 +84,9 @@ fn report_of(
     })
 }
 
-// The number of the node that a process is to make, and whether that is a founder. A greedy process takes a number
-// that it was given for its own at once.
-fn part_of(identity: &Identity, standing: &Standing, is_greedy: bool) -> Option<(NodeId, bool)> {
+// The number of the node that a process is to make, and whether that is a founder. By mistake it takes a number that it
+// was given for its own at once.
+fn part_of(identity: &Identity, standing: &Standing, mistake: Mistake) -> Option<(NodeId, bool)> {
     if standing.founding == 0 {
         return None;
     }
@@ -95,15 +96,12 @@ fn part_of(identity: &Identity, standing: &Standing, is_greedy: bool) -> Option<
             return Some((node, true));
         }
     }
-    let node = if is_greedy {
+    let node = if mistake == Mistake::SharedNumbers {
         standing.given
     } else {
         standing.held(identity)
     };
-    match node {
-        Some(node) => Some((node, false)),
-        None => None,
-    }
+    Some((node?, false))
 }
 
 fn claimed_by(inquiry: &Inquiry) -> Option<NodeId> {
@@ -156,7 +154,7 @@ impl<R: Wait + Eprint + Copy + Drop> Process<R> {
             shared,
             manager,
             node: None,
-            waits: [0; 9],
+            waits: [0; MOST_MANAGERS],
             has_turn: false,
         }
     }
@@ -170,10 +168,7 @@ impl<R: Wait + Eprint + Copy + Drop> Process<R> {
 
     /// The number of its node.
     pub fn number(&self) -> Option<NodeId> {
-        match &self.node {
-            Some(node) => Some(node.number),
-            None => None,
-        }
+        Some(self.node.as_ref()?.number)
     }
 
     /// The founding with which its manager is open.
@@ -208,10 +203,10 @@ impl<R: Wait + Eprint + Copy + Drop> Process<R> {
         !self.shared.look_out()
     }
 
-    fn part(&self, is_greedy: bool) -> Option<(NodeId, bool)> {
+    fn part(&self, mistake: Mistake) -> Option<(NodeId, bool)> {
         let guard = self.shared.standing.lock(&self.shared.rt);
         let standing = &*guard;
-        part_of(&self.shared.identity, standing, is_greedy)
+        part_of(&self.shared.identity, standing, mistake)
     }
 
     fn stand(&self, number: NodeId) {
@@ -222,11 +217,11 @@ impl<R: Wait + Eprint + Copy + Drop> Process<R> {
     }
 
     /// Makes its node, once it has a number. It gives whether it did.
-    pub fn make_node(&mut self, is_greedy: bool) -> Result<bool, Memory> {
+    pub fn make_node(&mut self, mistake: Mistake) -> Result<bool, Memory> {
         if self.node.is_some() {
             return Ok(false);
         }
-        let Some((number, is_founder)) = self.part(is_greedy) else {
+        let Some((number, is_founder)) = self.part(mistake) else {
             return Ok(false);
         };
         let (alloc, managers) = (self.shared.alloc, self.shared.identity.managers());
@@ -250,10 +245,7 @@ impl<R: Wait + Eprint + Copy + Drop> Process<R> {
     fn report(&self, reading: u64) -> Result<Report, Memory> {
         let guard = self.shared.standing.lock(&self.shared.rt);
         let standing = &*guard;
-        match report_of(self.shared.alloc, &self.shared.identity, standing, reading) {
-            Ok(report) => Ok(report),
-            Err(memory) => Err(memory),
-        }
+        report_of(self.shared.alloc, &self.shared.identity, standing, reading)
     }
 
     // Reports to the manager of a place, where no report is on its way there.
@@ -285,7 +277,7 @@ impl<R: Wait + Eprint + Copy + Drop> Process<R> {
         }
         let (lease, skew) = (u64::from(identity.lease), u64::from(identity.skew));
         let (founding, reading) = (self.shared.founding(), self.read(now));
-        for shard in 0..8 {
+        for shard in 0..SHARDS {
             if let Some(parcel) = node.ask(place, shard, reading, lease, skew) {
                 sent.push(Happening::Letter { founding, parcel })?;
             }

@@ -34,12 +34,7 @@ pub struct Host<R: Wait + Drop> {
 impl<R: Wait + Drop> Host<R> {
     /// A shard of the node that runs there.
     pub fn held(&self, shard: usize) -> Option<&NodeShard> {
-        let Some(process) = &self.running else {
-            return None;
-        };
-        let Some(node) = &process.node else {
-            return None;
-        };
+        let node = self.running.as_ref()?.node.as_ref()?;
         node.shards.get(shard)
     }
 }
@@ -63,7 +58,7 @@ pub struct World<R: Wait + Drop> {
     pub phase: Phase,
     /// How often faults came, and were healed.
     pub rounds: u64,
-    /// Whether a node with all rows was left as all began again.
+    /// Whether a node had all rows, and was a member, when faults had been over for some leases.
     pub was_sound: bool,
     pub is_over: bool,
     pub judge: Judge,
@@ -103,9 +98,6 @@ fn new_hosts<R: Wait + Eprint + Copy + Drop>(
     }
     Ok(hosts)
 }
-
-// It is lost on its way.
-fn lose(_lost: Happening) {}
 
 impl<R: Wait + Eprint + Copy + Drop> World<R> {
     /// A group that is not founded yet, whose processes are to begin.
@@ -187,7 +179,7 @@ impl<R: Wait + Eprint + Copy + Drop> World<R> {
                 response,
             } => self.take_answer(asker, place, response),
             Happening::Heal { from, to } => {
-                self.network.cut(from, to, false);
+                self.network.mend(from, to);
                 Ok(())
             }
             Happening::Leave { host, times } => self.leave(host, times),
@@ -247,10 +239,8 @@ impl<R: Wait + Eprint + Copy + Drop> World<R> {
     pub fn send(&mut self, from: usize, happening: Happening) -> Result<(), Memory> {
         match self.travels(from, &happening) {
             Some(delay) => self.schedule(delay, happening),
-            None => {
-                lose(happening);
-                Ok(())
-            }
+            // it is lost on its way
+            None => Ok(()),
         }
     }
 
