@@ -22,7 +22,7 @@ TOP = Path(__file__).resolve().parent.parent
 sys.path.append(str(TOP / "checks"))
 import ports
 import servers
-from hosts import CLIENTS, Hosts
+from hosts import CLIENTS, Hosts, one_host
 from servers import Fault, Server, until
 
 NAME = Path(sys.argv[0]).name
@@ -169,6 +169,18 @@ class HostsSystem(System):
 
     def __exit__(self, *cause):
         self.hosts.__exit__(*cause)
+
+
+class OneHostSystem(System):
+    """The process of a group over one host, with two event loops."""
+
+    def __init__(self, bench):
+        self.group = one_host(bench.program, bench.free.take(), "--workers", 2)
+        server = self.group.__enter__()
+        super().__init__("node", [server], [server.port])
+
+    def __exit__(self, *cause):
+        self.group.__exit__(*cause)
 
 
 def is_there(program, package):

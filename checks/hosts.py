@@ -343,3 +343,14 @@ def is_up(lines, place):
     """Whether these lines tell the manager of a place to be up."""
     return any(re.match(rf"manager {place} \S+ up=", line) for line in lines)
 
+
+@contextlib.contextmanager
+def one_host(program, port, *more):
+    """The process of a group of one host, whose node serves clients at this port of 127.0.0.1."""
+    with Hosts(program, count=1) as hosts:
+        hosts.start(0, "--listen", f"127.0.0.1:{port}", *more)
+        hosts.wait_inside(0)
+        hosts.found(places=[])
+        server = hosts.servers[0]
+        server.port = port
+        yield server.wait_for()

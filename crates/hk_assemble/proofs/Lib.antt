@@ -7,4 +7,3 @@ mod Turns
 mod Assembling
 mod Tickets
 mod Single
-mod Answered

@@ -2,14 +2,15 @@
 
 ghost use Rattle.std.specs.Prelude.{◌≡◌};
 
-use hk_base::{Answer, CallNo, Letters, Memory, NodeId, Replies};
+use hk_base::{Answer, CallNo, Letters, Memory, NodeId};
+use hk_node::StepReplies;
 
 /// What a step of the run gave.
 #[derive(Drop)]
 pub struct Given {
     pub letters: Letters,
     /// The replies, with the numbers that the run gave their calls.
-    pub replies: Replies,
+    pub replies: StepReplies,
 }
 
 /// Why journals and notes come to no run.

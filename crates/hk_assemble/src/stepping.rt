@@ -6,10 +6,11 @@ ghost use Rattle.hk_safety.specs.Run.{world_of};
 ghost use Rattle.hk_assemble.specs.Stepping.{IsCompared, IsStepMade, IsLooked};
 
 use crate::gap::{Gap, Given};
-use hk_base::{Answer, Key, Letters, Memory, NodeId, Op, Replies};
+use hk_base::{Answer, Key, Letters, Memory, NodeId, Op};
 use hk_event::Event;
 use hk_journal::JournalEntry;
-use hk_merge::{reads_leave, same_letters, same_replies, sameness_is_equality};
+use hk_merge::{same_letters, same_replies, sameness_is_equality};
+use hk_node::{ReplyList, StepReplies};
 use hk_safety::Run;
 use hk_world::WorldFault;
 use std::alloc::Global;
@@ -17,7 +18,7 @@ use std::alloc::Global;
 // Whether the step gave what the entry has, the numbers of the calls aside.
 fn compare(
     letters: Letters,
-    replies: Replies,
+    replies: StepReplies,
     node: NodeId,
     entry: &JournalEntry,
 ) -> Result<(), Gap>
@@ -69,7 +70,6 @@ pub fn next_letter(run: &Run) -> Result<u64, Memory>
 pub fn look(run: &mut Run, alloc: Global, node: NodeId, key: &Key) -> Result<Answer, Memory>
     ensures { IfOk result (λ answer. IsLooked answer run.old run.new node key.now) }
 {
-    reads_leave();
     let key = key.share()?;
     let event = Event::Call {
         node,
@@ -77,9 +77,11 @@ pub fn look(run: &mut Run, alloc: Global, node: NodeId, key: &Key) -> Result<Ans
         op: Op::Read,
     };
     match run.push(alloc, event) {
-        Ok(shown) => match shown.replies.into_vec().pop() {
-            Some(reply) => Ok(reply.answer),
-            None => Err(Memory),
+        Ok(shown) => match shown.replies.into_list() {
+            ReplyList::One(reply) => Ok(reply.answer),
+            // A Read is answered once and alone, so neither comes.
+            ReplyList::Nothing => Err(Memory),
+            ReplyList::Many(_) => Err(Memory),
         },
         Err(WorldFault::Refused(_)) => Err(Memory),
         Err(WorldFault::Memory) => Err(Memory),

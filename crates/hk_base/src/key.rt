@@ -110,7 +110,8 @@ fn byte_sum(bytes: &[u8]) -> u64
 }
 
 impl Form {
-    // The sum of the bytes. The zeros behind those of a short key add nothing, and so many places are summed without a loop.
+    // The sum of the bytes. The zeros behind those of a short key add nothing: 22 places are always summed, and a loop of a
+    // fixed length is unrolled.
     fn byte_sum(&self) -> u64
         requires { IsKept self.now }
         ensures { result ≡ sum (shown self.now) }

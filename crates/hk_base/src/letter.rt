@@ -11,7 +11,7 @@ use crate::stamp::{Kind, NodeId, Stamp};
 use crate::view::{Ballot, View, Voted};
 use std::alloc::Global;
 
-/// How many shards a node has. Each has letters of its own.
+/// How many shards a node has.
 pub const SHARDS: u8 = 8;
 
 /// Whoever sends and takes letters.

@@ -8,9 +8,10 @@
 //! in itself.
 //!
 //! What is proved. [`Key::read`] and [`Data::read`] give exactly the bytes, or exactly the first test that they fail
-//! (`exact`). `share` gives an equal value. Keys are equal and ordered as their lists of bytes are. `after_write`,
-//! `after_rmw` and `tag` of a [`Stamp`] are exact. A [`Sequence`] is its list, and a push that finds no memory leaves
-//! it as it was (`err`).
+//! (`exact`). `share` gives an equal value. Keys are equal and ordered as their lists of bytes are; `Key::byte_sum` is the sum
+//! of a key's bytes. `after_write`, `after_rmw` and `tag` of a [`Stamp`] are exact. `View::first` is the first view (`exact`),
+//! and a view for 1 to 16 nodes (`is_view`). A [`Sequence`] is its list, and a push that finds no memory leaves it as it was
+//! (`err`).
 #![tactic(auto)]
 
 mod block;

@@ -13,7 +13,7 @@ use Rattle.std.proofs.lemmas.Bool.{false≢true}
 use Rattle.std.proofs.lemmas.Map.Keys.{sorted_head, sorted_tail}
 use Rattle.std.proofs.lemmas.Option.{none-some}
 use Rattle.hk_base.specs.declared.call.CallNo.{CallNo}
-use Rattle.hk_callback.specs.Kept.{by_number, completion_of, kept_without, all_kept, is_newest, done_of, AreOthersSame, AreBoth}
+use Rattle.hk_callback.specs.Kept.{by_number, completion_of, kept_without, all_kept, is_newest, newest_completion, AreOthersSame, AreApart}
 use Rattle.hk_callback.proofs.Apart.{is_apart}
 
 module _ {K : Type 0} (cmp : K → K → Ordering) (total : IsTotalOrder cmp) where
@@ -113,7 +113,7 @@ apart_at : (call : CallNo) (key : CallNo) → (key.0 == call.0) ≡ false → is
 apart_at call key e = is_apart call key (λ (same : key.0 ≡ call.0). false≢true (sym e ∙ grind (arith, same)))
 
 module _ {F : Type 0} where
-  pub find_newest : (call : CallNo) (newest : Option (CallNo × F)) (kept : List (CallNo × F)) → is_newest newest call ≡ true → done_of newest ≡ completion_of (all_kept newest kept) call
+  pub find_newest : (call : CallNo) (newest : Option (CallNo × F)) (kept : List (CallNo × F)) → is_newest newest call ≡ true → newest_completion newest ≡ completion_of (all_kept newest kept) call
   find_newest call None kept is = absurd (false≢true is)
   find_newest call (Some entry) kept is = rw (sym (same_call entry.0 call is)) (sym (found_same by_number by_number_total entry.0 entry.1 kept))
 
@@ -122,16 +122,16 @@ module _ {F : Type 0} where
   find_kept call (Some entry) kept not = sym (found_other by_number by_number_total entry.0 call entry.1 kept (apart_at call entry.0 not))
 
   -- the newest is taken out
-  pub without_newest : (call : CallNo) (newest : Option (CallNo × F)) (kept : List (CallNo × F)) → is_newest newest call ≡ true → AreBoth newest kept → kept ≡ kept_without (all_kept newest kept) call
+  pub without_newest : (call : CallNo) (newest : Option (CallNo × F)) (kept : List (CallNo × F)) → is_newest newest call ≡ true → AreApart newest kept → kept ≡ kept_without (all_kept newest kept) call
   without_newest call None kept is both = absurd (false≢true is)
   without_newest call (Some entry) kept is both = rw (sym (same_call entry.0 call is)) (sym (put_and_taken by_number by_number_total entry.0 entry.1 kept (both.apart entry refl)))
 
-  pub newest_gone : (call : CallNo) (newest : Option (CallNo × F)) (kept : List (CallNo × F)) → is_newest newest call ≡ true → AreBoth newest kept → completion_of kept call ≡ None
+  pub newest_gone : (call : CallNo) (newest : Option (CallNo × F)) (kept : List (CallNo × F)) → is_newest newest call ≡ true → AreApart newest kept → completion_of kept call ≡ None
   newest_gone call None kept is both = absurd (false≢true is)
   newest_gone call (Some entry) kept is both = rw (sym (same_call entry.0 call is)) (both.apart entry refl)
 
   -- another one is
-  pub without_kept : (call : CallNo) (newest : Option (CallNo × F)) (kept : List (CallNo × F)) → is_newest newest call ≡ false → AreBoth newest kept
+  pub without_kept : (call : CallNo) (newest : Option (CallNo × F)) (kept : List (CallNo × F)) → is_newest newest call ≡ false → AreApart newest kept
       → all_kept newest (kept_without kept call) ≡ kept_without (all_kept newest kept) call
   without_kept call None kept not both = refl
   without_kept call (Some entry) kept not both = sym (taken_past by_number by_number_total call entry.0 entry.1 kept (apart_at call entry.0 not) both.rises)
@@ -147,16 +147,16 @@ module _ {F : Type 0} where
   is_kept call done old = found_same by_number by_number_total call done old
 
   -- the invariant
-  pub with_none : (newest : Option (CallNo × F)) (kept : List (CallNo × F)) → newest ≡ None → IsStrictlySortedBy by_number (keys_of kept) → AreBoth newest kept
+  pub with_none : (newest : Option (CallNo × F)) (kept : List (CallNo × F)) → newest ≡ None → IsStrictlySortedBy by_number (keys_of kept) → AreApart newest kept
   with_none newest kept none rises = record { rises = rises; apart = λ entry e. absurd (none-some entry (sym none ∙ e)) }
 
-  pub with_one : (call : CallNo) (done : F) (kept : List (CallNo × F)) → IsStrictlySortedBy by_number (keys_of kept) → completion_of kept call ≡ None → AreBoth (Some (call, done)) kept
+  pub with_one : (call : CallNo) (done : F) (kept : List (CallNo × F)) → IsStrictlySortedBy by_number (keys_of kept) → completion_of kept call ≡ None → AreApart (Some (call, done)) kept
   with_one call done kept rises none = record { rises = rises; apart = λ entry e. rw (ap (λ (x : CallNo × F). x.0) (sym (some_same (call, done) entry e))) none }
     where
       some_same : (a b : CallNo × F) → Some a ≡ Some b → a ≡ b
       some_same a b e = cc
 
-  pub with_fewer : (call : CallNo) (newest : Option (CallNo × F)) (kept : List (CallNo × F)) → is_newest newest call ≡ false → AreBoth newest kept → IsStrictlySortedBy by_number (keys_of (kept_without kept call)) → AreBoth newest (kept_without kept call)
+  pub with_fewer : (call : CallNo) (newest : Option (CallNo × F)) (kept : List (CallNo × F)) → is_newest newest call ≡ false → AreApart newest kept → IsStrictlySortedBy by_number (keys_of (kept_without kept call)) → AreApart newest (kept_without kept call)
   with_fewer call newest kept not both rises = record {
     rises = rises;
     apart = λ entry e. left_other by_number by_number_total call entry.0 kept (is_apart entry.0 call (λ (same : call.0 ≡ entry.0.0). false≢true (sym not ∙ (ap (λ n. is_newest n call) e ∙ grind (arith, same))))) ∙ both.apart entry e;

@@ -27,9 +27,9 @@ module _ {F : Type 0} where
   is_newest (Some entry) call = entry.0.0 == call.0
 
   -- its completion
-  abbrev pub done_of : Option (CallNo × F) → Option F
-  done_of None = None
-  done_of (Some entry) = Some entry.1
+  abbrev pub newest_completion : Option (CallNo × F) → Option F
+  newest_completion None = None
+  newest_completion (Some entry) = Some entry.1
 
   -- both together
   abbrev pub all_kept : Option (CallNo × F) → List (CallNo × F) → List (CallNo × F)
@@ -37,7 +37,7 @@ module _ {F : Type 0} where
   all_kept (Some entry) kept = insert_entry by_number kept entry.0 entry.1
 
   -- the map rises, and has nothing of the newest call
-  pub record AreBoth (newest : Option (CallNo × F)) (kept : List (CallNo × F)) : Type 0 where
+  pub record AreApart (newest : Option (CallNo × F)) (kept : List (CallNo × F)) : Type 0 where
     pub rises : IsStrictlySortedBy by_number (keys_of kept)
     pub apart : (entry : CallNo × F) → newest ≡ Some entry → completion_of kept entry.0 ≡ None
 

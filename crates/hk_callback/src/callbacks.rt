@@ -4,7 +4,7 @@ ghost use Rattle.std.specs.Prelude.{◌≡◌, [], Some, None, IsSome, OnOk, OnE
 ghost use Rattle.std.specs.List.Sorted.{IsStrictlySortedBy};
 ghost use Rattle.std.specs.Map.{keys_of};
 ghost use Rattle.std.specs.Option.{option_copied};
-ghost use Rattle.hk_callback.specs.Kept.{by_number, completion_of, kept_without, all_kept, is_newest, done_of, AreOthersSame, IsKeep, IsFired};
+ghost use Rattle.hk_callback.specs.Kept.{by_number, completion_of, kept_without, all_kept, is_newest, newest_completion, AreOthersSame, IsKeep, IsFired};
 
 use crate::completion::{Completion, Delivery};
 use hk_base::{Answer, CallNo, Memory};
@@ -38,11 +38,11 @@ impl<F: Completion + Drop> Model for Callbacks<F> {
 
     ghost Value = { List (CallNo × F) };
 
-    ghost use Rattle.hk_callback.specs.Kept.{all_kept, AreBoth};
+    ghost use Rattle.hk_callback.specs.Kept.{all_kept, AreApart};
 
     ghost view = { λ c. all_kept c.newest c.kept.entries };
 
-    ghost invariant = { λ c. AreBoth c.newest c.kept.entries };
+    ghost invariant = { λ c. AreApart c.newest c.kept.entries };
 }
 
 // Whether this is the newest call.
@@ -56,8 +56,8 @@ fn is_newest<F>(newest: &Option<(CallNo, F)>, call: CallNo) -> bool
 }
 
 // The newest completion.
-fn done_of<F>(newest: &Option<(CallNo, F)>) -> Option<&F>
-    ensures { option_copied result ≡ done_of newest.now }
+fn newest_completion<F>(newest: &Option<(CallNo, F)>) -> Option<&F>
+    ensures { option_copied result ≡ newest_completion newest.now }
 {
     match newest {
         Some(entry) => Some(&entry.1),
@@ -67,7 +67,7 @@ fn done_of<F>(newest: &Option<(CallNo, F)>) -> Option<&F>
 
 // Takes the newest completion out.
 fn take_newest<F: Drop>(newest: &mut Option<(CallNo, F)>) -> Option<F>
-    ensures done { result ≡ done_of newest.old }
+    ensures done { result ≡ newest_completion newest.old }
     ensures gone { newest.new ≡ None }
 {
     match newest.take() {
@@ -134,7 +134,7 @@ impl<F: Completion + Drop> Callbacks<F> {
         ensures { option_copied result ≡ completion_of self.now call }
     {
         if is_newest(&self.newest, call) {
-            return done_of(&self.newest);
+            return newest_completion(&self.newest);
         }
         self.kept.get(&call)
     }

@@ -1,8 +1,8 @@
 -- Calls of an exchange, one after the other.
-use Rattle.std.proofs.Common.{◌≡◌, ◌≤◌, ◌<◌, inl, inr, ℕ, zero, suc, ◌+◌, ◌-◌, length, List, [], ◌∷◌, ◌++◌, map, take, drop, true, false, Option, Some, None, refl, ap, ◌∙◌, sym, arith, append_assoc, append-nil}
+use Rattle.std.proofs.Common.{◌≡◌, ◌≤◌, inl, inr, ℕ, zero, suc, ◌+◌, ◌-◌, length, List, [], ◌∷◌, ◌++◌, map, take, drop, true, false, Option, Some, None, refl, ap, ◌∙◌, sym, arith, append_assoc, append-nil}
 use Rattle.std.specs.Prelude.{◌⊎◌, Bool, Result, Ok, nat_lt, ◌==◌, is_some, if◌then◌else◌}
 use Rattle.std.proofs.Math.Seq.{take-add}
-use Rattle.std.proofs.lemmas.List.{take_all, drop_all, length-drop}
+use Rattle.std.proofs.lemmas.List.{take_all}
 use Rattle.hk_base.specs.declared.memory.Memory.{Memory}
 use Rattle.hk_lines.specs.Cut.{Cutting, fed}
 use Rattle.hk_outside.specs.declared.desk.Asked.{Asked}
@@ -14,16 +14,17 @@ use Rattle.hk_conn.specs.declared.pending.PendingUpdate.{PendingUpdate}
 use Rattle.hk_conn.specs.declared.said.Said.{Said}
 use Rattle.hk_conn.specs.declared.said.Stop.{Stop}
 use Rattle.hk_conn.specs.declared.said.Stop.TheVariants as stop
-use Rattle.hk_conn.specs.Calls.{Call, Makes, Runs, all_given, all_written, IsNew, IsAtRest, AreServed, PiecesAndPauses}
+use Rattle.hk_conn.specs.Calls.{Call, Runs, all_given, all_written, IsNew, IsAtRest, AreServed, PiecesAndPauses}
 use Rattle.hk_conn.specs.Calls.Call.{Gave, Stepped, Heard, Wrote}
-use Rattle.hk_conn.specs.Exchange.{behind, place_in, more_came, owed, owed_then, unwritten, Stands, IsExchange, IsIdle, Gives, Steps, HearsNext, Writes}
-use Rattle.hk_conn.specs.Heard.{AsksMore, told_of}
-use Rattle.hk_conn.specs.Pending.{Holding, pending_text}
+use Rattle.hk_conn.specs.Exchange.{behind, place_in, more_came, owed_then, unwritten, Stands, IsExchange, Gives, Steps, HearsNext, Writes}
+use Rattle.hk_conn.specs.Heard.{told_of}
+use Rattle.hk_conn.specs.Pending.{Holding}
 use Rattle.hk_conn.specs.Said.{said_in, is_last}
-use Rattle.hk_conn.specs.Served.{Out, before, replies, served, plain}
-use Rattle.hk_conn.specs.Serving.{Place, place_of, replies_from, behind_stop, ends_with}
+use Rattle.hk_conn.specs.Served.{Out, before, replies, served}
+use Rattle.hk_conn.specs.Serving.{Place}
 use Rattle.hk_conn.specs.Turns.{ahead, IsReader}
-use Rattle.hk_conn.proofs.Connected.{fed_ahead, nothing_at_first, no_replies}
+use Rattle.hk_conn.proofs.Connected.{fed_ahead, no_replies}
+use Rattle.hk_conn.proofs.Sound.{given_sound, stepped_sound, heard_sound, wrote_sound, some_wait, unwritten_now}
 use Rattle.hk_conn.proofs.Holding.{holding_starts, holding_moves, if_tells}
 
 abbrev all_said : ℕ → List ℕ → List ℕ → List (Option DeskReply) → Out
@@ -37,18 +38,6 @@ record Running {W : Type 0} (will : W → Result DeskReply Memory) (m : ℕ) (as
   pub goes : Holding will asks asks' (base ++ e.told.items) e.out.items e.updates.items (all_said m read) (behind e.stop e.held m (place_in e))
 
 -- ---- bytes came
-reader_fed : (c : Cutting) (h : Option StoreHead) (piece : List ℕ) → IsReader c h → IsReader (fed c piece) h
-reader_fed c h piece r = record {
-  limit = r.limit;
-  due = r.due;
-  small = r.small;
-  its_tag = r.its_tag;
-  free = λ lt. ap (λ x. x ++ drop c.dropping piece) (r.free (omega (arith, lt))) ∙ drop_all c.dropping piece (omega (arith, lt));
-}
-
-reader_cut : (c c' : Cutting) (h h' : Option StoreHead) (piece : List ℕ) → c' ≡ fed c piece → h' ≡ h → IsReader c h → IsReader c' h'
-reader_cut c c' h h' piece e f r = rw (e, f) (reader_fed c h piece r)
-
 cut_ahead : (c c' : Cutting) (h h' : Option StoreHead) (piece more : List ℕ) → c' ≡ fed c piece → h' ≡ h → ahead h' c' more ≡ ahead h c (piece ++ more)
 cut_ahead c c' h h' piece more e f = rw (e, f) (fed_ahead h c piece more)
 
@@ -59,21 +48,8 @@ fed_behind stop.Quit None m p p' piece more later e = refl
 fed_behind stop.TooLong None m p p' piece more later e = refl
 fed_behind s (Some it) m p p' piece more later e = ap (λ ss. replies m (it ∷ (if is_last it then [] else ss)) later) (sym e)
 
-fed_stands : (s : Stop) (held : Option Said) (p p' : Place) → (IsReader p.cutting p.pending → IsReader p'.cutting p'.pending) → Stands s held p → Stands (more_came s) held p'
-fed_stands stop.Need None p p' f k = f k.0
-fed_stands stop.Full None p p' f k = f k
-fed_stands stop.Quit None p p' f k = tt
-fed_stands stop.TooLong None p p' f k = tt
-fed_stands stop.Need (Some it) p p' f k = absurd k
-fed_stands stop.Full (Some it) p p' f k = (f k.0, k.1)
-fed_stands stop.Quit (Some it) p p' f k = absurd k
-fed_stands stop.TooLong (Some it) p p' f k = absurd k
-
 behind_kept : (s s' : Stop) (held held' : Option Said) (m : ℕ) (p : Place) (more : List ℕ) (later : List (Option DeskReply)) → s' ≡ s → held' ≡ held → behind s held m p more later ≡ behind s' held' m p more later
 behind_kept s s' held held' m p more later e h = rw (e, h) refl
-
-stands_kept : (s s' : Stop) (held held' : Option Said) (p : Place) → s' ≡ s → held' ≡ held → Stands s held p → Stands s' held' p
-stands_kept s s' held held' p e h k = rw (e, h) k
 
 -- the same replies, of more bytes
 holding_given : {W : Type 0} (will : W → Result DeskReply Memory) (m : ℕ) (a b : Option (List Asked)) (old out : List ℕ) (updates : List (PendingUpdate W)) (read piece : List ℕ) (f g : List ℕ → List (Option DeskReply) → Out) → Holding will a b old out updates (all_said m read) f
@@ -94,13 +70,7 @@ module _ {W : Type 0} (will : W → Result DeskReply Memory) (m : ℕ) (a b c : 
       let updates : e'.updates.items ≡ e.updates.items = ap (λ x. x.items) g.keeps.updates in
       let told : e'.told.items ≡ e.told.items = ap (λ x. x.items) g.keeps.told in
       record {
-        sound = record {
-          stands = stands_kept (more_came e.stop) e'.stop e.held e'.held (place_in e') g.stops g.keeps.held
-              (fed_stands e.stop e.held (place_in e) (place_in e') (reader_cut e.reader.cutter e'.reader.cutter e.reader.pending e'.reader.pending piece g.cutter g.pending) r.sound.stands);
-          none_told = λ i. told ∙ r.sound.none_told (sym updates ∙ i);
-          within = rw (same_at, out) r.sound.within;
-          alone = λ lt. updates ∙ r.sound.alone (rw same_at at lt);
-        };
+        sound = given_sound e e' piece r.sound g;
         base = r.base;
         written = rw (same_at, out) r.written;
         goes = rw (n, told, out, updates)
@@ -112,50 +82,33 @@ module _ {W : Type 0} (will : W → Result DeskReply Memory) (m : ℕ) (a b c : 
   running_stepped r y =
       let told : e'.told.items ≡ e.told.items = ap (λ x. x.items) y.told in
       record {
-        sound = record { stands = y.stands; none_told = λ i. told ∙ r.sound.none_told (y.waits i); within = (by_at e.at e'.at refl y.at).0; alone = (by_at e.at e'.at refl y.at).2 };
+        sound = stepped_sound e e' will m b c r.sound y;
         base = r.base;
-        written = r.written ∙ ap (λ x. r.base ++ x) (by_at e.at e'.at refl y.at).1;
+        written = r.written ∙ ap (λ x. r.base ++ x) (by_at e.at refl y.at);
         goes = rw told (y.goes a (r.base ++ e.told.items) (all_said m read) r.goes);
       }
     where
-      by_at : (n k : ℕ) → e.at ≡ n → e'.at ≡ e.at → (e'.at ≤ length e'.out.items) × (take e.at e.out.items ≡ take e'.at e'.out.items) × (0 < e'.at → e'.updates.items ≡ [])
-      by_at zero k z s = (let w : e'.at ≡ 0 = s ∙ z in omega (arith, w), rw (s, z) refl, λ lt. absurd (let w : e'.at ≡ 0 = s ∙ z in omega (arith, w, lt)))
-      by_at (suc n) k z s =
-          let kept = y.kept (omega (arith, z)) in
-          let out : e'.out.items ≡ e.out.items = ap (λ x. x.items) kept.0 in
-          let updates : e'.updates.items ≡ e.updates.items = ap (λ x. x.items) kept.1 in
-          (rw (s, out) r.sound.within, rw (s, out) refl, λ lt. updates ∙ r.sound.alone (rw s at lt))
+      by_at : (n : ℕ) → e.at ≡ n → e'.at ≡ e.at → take e.at e.out.items ≡ take e'.at e'.out.items
+      by_at zero z s = rw (s, z) refl
+      by_at (suc n) z s =
+          let out : e'.out.items ≡ e.out.items = ap (λ x. x.items) (y.kept (omega (arith, z))).0 in
+          rw (s, out) refl
 
   running_heard : Running will m a b read text e → HearsNext {F = Memory} will (Ok tt) b c e e' → Running will m a c read text e'
   running_heard r y = record {
-    sound = record { stands = heard_stands; none_told = y.none_told r.sound.none_told; within = (by_at e.at refl).0; alone = (by_at e.at refl).2 };
+    sound = heard_sound e e' will b c r.sound y;
     base = r.base;
-    written = r.written ∙ ap (λ x. r.base ++ x) (by_at e.at refl).1;
+    written = r.written ∙ ap (λ x. r.base ++ x) (by_at e.at refl);
     goes = holding_moves will a c (r.base ++ e'.told.items) e'.out.items e'.updates.items (all_said m read) (behind e.stop e.held m (place_in e)) (behind e'.stop e'.held m (place_in e')) (y.holding a r.base (all_said m read) (behind e.stop e.held m (place_in e)) r.goes) (λ more later. rw (y.kept.0, y.kept.1, y.kept.2) refl);
   }
     where
-      heard_stands : Stands e'.stop e'.held (place_in e')
-      heard_stands = rw (y.kept.0, y.kept.1, y.kept.2) r.sound.stands
-
-      by_at : (n : ℕ) → e.at ≡ n → (e'.at ≤ length e'.out.items) × (take e.at e.out.items ≡ take e'.at e'.out.items) × (0 < e'.at → e'.updates.items ≡ [])
-      by_at zero z = (let w : e'.at ≡ 0 = y.kept.3 ∙ z in omega (arith, w), rw (y.kept.3, z) refl, λ lt. absurd (let w : e'.at ≡ 0 = y.kept.3 ∙ z in omega (arith, w, lt)))
+      by_at : (n : ℕ) → e.at ≡ n → take e.at e.out.items ≡ take e'.at e'.out.items
+      by_at zero z = rw (y.kept.3, z) refl
       by_at (suc n) z =
-          let none = r.sound.alone (omega (arith, z)) in
-          let out : e'.out.items ≡ e.out.items = ap (λ x. x.items) (y.none none) in
-          (rw (y.kept.3, out) r.sound.within, rw (y.kept.3, out) refl, λ lt. y.next ∙ ap (λ x. drop 1 x) none)
+          let out : e'.out.items ≡ e.out.items = ap (λ x. x.items) (y.none (r.sound.alone (omega (arith, z)))) in
+          rw (y.kept.3, out) refl
 
 -- ---- text was written
-some_wait : {A : Type 0} (u : A) (us : List A) → nat_lt 0 (length (u ∷ us)) ≡ false → ⊥
-some_wait u us is = let le : length (u ∷ us) ≤ 0 = grind (arith, is) in let none : length (u ∷ us) ≡ 0 = omega (arith, le) in absurd (grind (arith, none))
-
-unwritten_now : {A : Type 0} (us : List A) (out : List ℕ) (at n : ℕ) → 1 ≤ n → n ≤ length (if nat_lt 0 (length us) then [] else drop at out) → (us ≡ []) × (n ≤ length (drop at out)) × ((if nat_lt 0 (length us) then [] else drop at out) ≡ drop at out)
-unwritten_now [] out at n some le = (refl, le, refl)
-unwritten_now (u ∷ us) out at n some le = absurd (by_test (nat_lt 0 (length (u ∷ us))) refl le)
-  where
-    by_test : (b : Bool) → nat_lt 0 (length (u ∷ us)) ≡ b → n ≤ length (if b then [] else drop at out) → ⊥
-    by_test true is none = absurd (omega (arith, some, none))
-    by_test false is some_out = absurd (some_wait u us is)
-
 holding_gone : {W : Type 0} (will : W → Result DeskReply Memory) (a b : Option (List Asked)) (base told out : List ℕ) (updates : List (PendingUpdate W)) (front after : List ℕ → List (Option DeskReply) → Out) → updates ≡ [] → told ≡ [] → Holding will a b (base ++ told) out updates front after
     → Holding will a b ((base ++ out) ++ told) [] updates front after
 holding_gone will a b base told out updates front after u t h = rw (u, t) (at (rw (u, t) at h))
@@ -177,9 +130,6 @@ module _ {W : Type 0} (will : W → Result DeskReply Memory) (m : ℕ) (a b c : 
       none_waits : e'.updates.items ≡ []
       none_waits = ap (λ x. x.items) w.updates ∙ now.0
 
-      stands : Stands e'.stop e'.held (place_in e')
-      stands = rw (w.reader, w.held, w.stops) r.sound.stands
-
       text_now : text ++ more ≡ r.base ++ take (e.at + length more) e.out.items
       text_now = ap (λ x. x ++ more) r.written ∙ append_assoc r.base (take e.at e.out.items) more ∙ ap (λ x. r.base ++ x) (ap (λ x. take e.at e.out.items ++ x) (front ∙ ap (λ x. take (length more) x) now.2) ∙ sym (take-add e.at (length more) e.out.items))
 
@@ -192,7 +142,7 @@ module _ {W : Type 0} (will : W → Result DeskReply Memory) (m : ℕ) (a b c : 
           let zero_at : e'.at ≡ 0 = rw is at w.at in
           let whole : e.at + length more ≡ length e.out.items = grind (arith, is) in
           record {
-            sound = record { stands = stands; none_told = λ i. none_told; within = omega (arith, zero_at); alone = λ lt. none_waits };
+            sound = wrote_sound e e' (length more) r.sound some le w;
             base = r.base ++ e.out.items;
             written = text_now ∙ ap (λ x. r.base ++ x) (ap (λ n. take n e.out.items) whole ∙ take_all (length e.out.items) e.out.items (omega arith)) ∙ sym (rw (zero_at, append-nil (r.base ++ e.out.items)) refl);
             goes = rw out (holding_gone will a c r.base e'.told.items e.out.items e'.updates.items (all_said m read) (behind e'.stop e'.held m (place_in e')) none_waits none_told on);
@@ -201,7 +151,7 @@ module _ {W : Type 0} (will : W → Result DeskReply Memory) (m : ℕ) (a b c : 
           let out : e'.out.items ≡ e.out.items = rw is at w.out in
           let further : e'.at ≡ e.at + length more = rw is at w.at in
           record {
-            sound = record { stands = stands; none_told = λ i. none_told; within = rw (further, out) (let le : length more ≤ length e.out.items - e.at = rw (length-drop e.at e.out.items) at now.1 in omega (arith, le, r.sound.within, some)); alone = λ lt. none_waits };
+            sound = wrote_sound e e' (length more) r.sound some le w;
             base = r.base;
             written = text_now ∙ sym (rw (further, out) refl);
             goes = rw out on;

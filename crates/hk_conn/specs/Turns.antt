@@ -11,7 +11,6 @@ use Rattle.hk_request.specs.declared.request.RequestFault.{RequestFault}
 use Rattle.hk_conn.specs.declared.said.Said.{Said}
 use Rattle.hk_conn.specs.declared.said.Said.TheVariants.{Refused, LongLine}
 use Rattle.hk_conn.specs.declared.said.ReaderStep.{ReaderStep}
-use Rattle.hk_conn.specs.declared.said.ReaderStep.TheVariants as ReaderStep
 use Rattle.hk_conn.specs.Said.{said_in, said_whole, store_at, Taken, is_last}
 
 -- a block is due where a head is kept, and else a line

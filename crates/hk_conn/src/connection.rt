@@ -1,6 +1,8 @@
 //! A connection: what comes is answered, and written.
 
-ghost use Rattle.std.specs.Prelude.{◌≡◌, ◌≤◌, ◌-◌, [], Err, IfOk};
+ghost use Rattle.std.specs.Prelude.{◌≡◌, ◌≤◌, ◌<◌, ◌-◌, ℕ, [], take, length, Ok, Err, IfOk, OnOk, OnErr};
+ghost use Rattle.std.specs.Io.KnownBytes.{Appends, WriteAppends};
+ghost use Rattle.std.specs.Io.{WritesAtMost};
 ghost use Rattle.hk_outside.specs.Causes.{Rose};
 ghost use Rattle.hk_conn.specs.Ends.{Serves};
 ghost use Rattle.hk_conn.specs.Turns.{IsReader};
@@ -15,9 +17,8 @@ use crate::exchange::Exchange;
 use crate::pending::{PendingUpdate, finish_all, let_go};
 use crate::said::Stop;
 use crate::step::take_step;
-use crate::stream::write_all;
 use hk_base::Memory;
-use hk_outside::{Connection, Desk, Sink, Source};
+use hk_outside::{Connection, Desk, Failed, Sink, Source};
 use std::alloc::Global;
 use std::collections::VecDeque;
 
@@ -66,6 +67,44 @@ fn pass<D: Desk>(
             return Ok(exchange.stop);
         }
     }
+}
+
+// Writes a front of the text, which leaves what is to be read.
+fn write_some<C: Connection>(conn: &mut C, text: &[u8]) -> Result<usize, Failed>
+    ensures bound { WritesAtMost result text.now }
+    ensures bytes { WriteAppends (C.held conn.old) (C.held conn.new) result text.now }
+    ensures later { C.Sink.faults conn.old ≤ C.Sink.faults conn.new }
+    ensures failed { OnErr result (Rose (C.Sink.faults conn.old) (C.Sink.faults conn.new)) }
+    ensures took_none { result ≡ Ok 0 → 0 < length text.now → Rose (C.Sink.faults conn.old) (C.Sink.faults conn.new) }
+    ensures left { C.left conn.new ≡ C.left conn.old }
+    ensures given { C.Source.given conn.new ≡ C.Source.given conn.old }
+    ensures reads { C.Source.faults conn.new ≡ C.Source.faults conn.old }
+{
+    conn.write(text)
+}
+
+// Writes all of the text, or a front of it.
+fn write_all<C: Connection>(conn: &mut C, text: &[u8]) -> Result<(), Failed>
+    ensures all { OnOk result (Appends (C.held conn.old) (C.held conn.new) text.now) }
+    ensures front { (n : ℕ) × Appends (C.held conn.old) (C.held conn.new) (take n text.now) }
+    ensures later { C.Sink.faults conn.old ≤ C.Sink.faults conn.new }
+    ensures failed { OnErr result (Rose (C.Sink.faults conn.old) (C.Sink.faults conn.new)) }
+    ensures left { C.left conn.new ≡ C.left conn.old }
+    ensures given { C.Source.given conn.new ≡ C.Source.given conn.old }
+    ensures reads { C.Source.faults conn.new ≡ C.Source.faults conn.old }
+{
+    let mut at = 0;
+    while at < text.len() {
+        let (_, rest) = text.split_at(at);
+        let Ok(count) = write_some(conn, rest) else {
+            return Err(Failed);
+        };
+        if count == 0 {
+            return Err(Failed);
+        }
+        at += count;
+    }
+    Ok(())
 }
 
 // Answers all that was said so far, and writes the replies: at once, unless they pass the size of a write.

@@ -36,7 +36,6 @@ mod pending;
 mod reader;
 mod said;
 mod step;
-mod stream;
 
 pub use connection::serve_connection;
 pub use ends::ConnEnd;

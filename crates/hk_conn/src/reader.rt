@@ -1,7 +1,10 @@
 //! Reads what a client says, in whatever pieces it comes.
 
 ghost use Rattle.std.specs.Prelude.{◌≡◌, ◌+◌, ◌≤◌, ◌<◌, ◌^◌, [], length, None, Some, Ok, IfOk, OnOk, OnErr};
+ghost use Rattle.std.specs.Io.KnownBytes.{ReadConsumes};
+ghost use Rattle.std.specs.Io.{ReadsAtMost};
 ghost use Rattle.hk_outside.specs.Causes.{Rose};
+ghost use Rattle.hk_outside.specs.Records.{RecordsRead};
 ghost use Rattle.hk_lines.specs.Cut.{fed, with_room};
 ghost use Rattle.hk_request.specs.Heads.{HasItsTag};
 ghost use Rattle.hk_request.specs.Reading.{head_of};
@@ -12,10 +15,9 @@ ghost use Rattle.hk_conn.specs.Pieces.{Pieces};
 
 use crate::ends::ConnEnd;
 use crate::said::{ReaderStep, Said};
-use crate::stream::read_some;
 use hk_base::Memory;
 use hk_lines::{Cutter, Step};
-use hk_outside::{Connection, Sink, Source};
+use hk_outside::{Connection, Failed, Sink, Source};
 use hk_request::{BlockFault, Head, Request, RequestCause, StoreHead, finish, read_request};
 use std::alloc::Global;
 
@@ -46,6 +48,19 @@ fn next_room(room: usize, count: usize) -> usize {
     } else {
         room
     }
+}
+
+// Reads some bytes, which leaves what was written.
+fn read_some<C: Connection>(conn: &mut C, room: &mut [u8]) -> Result<usize, Failed>
+    ensures bound { ReadsAtMost result room.new }
+    ensures bytes { ReadConsumes (C.left conn.old) (C.left conn.new) result room.new }
+    ensures given { RecordsRead (C.Source.given conn.old) (C.Source.given conn.new) result room.new }
+    ensures later { C.Source.faults conn.old ≤ C.Source.faults conn.new }
+    ensures failed { OnErr result (Rose (C.Source.faults conn.old) (C.Source.faults conn.new)) }
+    ensures held { C.held conn.new ≡ C.held conn.old }
+    ensures writes { C.Sink.faults conn.new ≡ C.Sink.faults conn.old }
+{
+    conn.read(room)
 }
 
 impl Reader {

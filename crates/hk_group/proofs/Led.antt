@@ -13,7 +13,7 @@ use Rattle.hk_worker.specs.declared.asking.OpenAsk.{OpenAsk}
 use Rattle.hk_worker.specs.Asking.{PostState}
 use Rattle.hk_worker.specs.Reading.{AsksByClock}
 use Rattle.hk_worker.specs.Opening.{BeginsByClock}
-use Rattle.hk_group.specs.Led.{IsLed, AsksLed, BeginsLed, ComesLate, ComeLate, AsksAgain, BeginsAgain, is_late, late_begun}
+use Rattle.hk_group.specs.Led.{IsLed, AsksLed, BeginsLed, ComesLate, ComeLate, AsksAgain, BeginsAgain, is_late, is_late_begun}
 
 -- by other outlets
 pub led_by : (old new : PostState) (outlets : List (Actor × LinkEnd)) → new ≡ record old { outlets = outlets } → IsLed old new
@@ -64,7 +64,7 @@ pub begun_once : (was_read : ReaderState → ℕ → Type 0) (reading : Option �
 begun_once was_read reading key op old new result told = ([], old, refl, told)
 
 pub begun_again : (was_read : ReaderState → ℕ → Type 0) (reading : Option ℕ) (key : List ℕ) (op : Op) (old mid new : PostState) (told result : Result (Begun OpenAsk) Memory)
-    → BeginsAgain was_read reading key op old mid told → late_begun told ≡ true → BeginsLed was_read reading key op mid new result → BeginsAgain was_read reading key op old new result
+    → BeginsAgain was_read reading key op old mid told → is_late_begun told ≡ true → BeginsLed was_read reading key op mid new result → BeginsAgain was_read reading key op old new result
 begun_again was_read reading key op old mid new (Ok (opened.Told reply)) result (late, last, come, begins) is more =
     (late ++ mid ∷ [], mid, come_later was_read reading key op old late last mid come (reply, is, begins), more)
 begun_again was_read reading key op old mid new (Ok (opened.Waits w)) result (late, last, come, begins) is more = absurd (false≢true is)
@@ -72,7 +72,7 @@ begun_again was_read reading key op old mid new (Err e) result (late, last, come
 
 -- by a clock that is still the same
 pub begun_later : {A : Type 0} (first clock : A) (was_read : A → ReaderState → ℕ → Type 0) (reading : A → Option ℕ) (key : List ℕ) (op : Op) (old mid new : PostState) (told result : Result (Begun OpenAsk) Memory)
-    → clock ≡ first → BeginsAgain (was_read first) (reading first) key op old mid told → late_begun told ≡ true → BeginsLed (was_read clock) (reading clock) key op mid new result
+    → clock ≡ first → BeginsAgain (was_read first) (reading first) key op old mid told → is_late_begun told ≡ true → BeginsLed (was_read clock) (reading clock) key op mid new result
     → BeginsAgain (was_read first) (reading first) key op old new result
 begun_later first clock was_read reading key op old mid new told result same before is more = begun_again (was_read first) (reading first) key op old mid new told result before is
     (subst (λ c. BeginsLed (was_read c) (reading c) key op mid new result) same more)

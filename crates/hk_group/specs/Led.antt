@@ -43,9 +43,9 @@ abbrev pub is_late : {E : Type 0} → Result DeskReply E → Bool
 is_late (Ok reply) = tells_late reply
 is_late (Err e) = false
 
-abbrev pub late_begun : {W E : Type 0} → Result (Begun W) E → Bool
-late_begun (Ok (opened.Told reply)) = tells_late reply
-late_begun result = false
+abbrev pub is_late_begun : {W E : Type 0} → Result (Begun W) E → Bool
+is_late_begun (Ok (opened.Told reply)) = tells_late reply
+is_late_begun result = false
 
 -- One ask came too late for the lease: it is told that the lease may be over.
 abbrev pub ComesLate : (ReaderState → ℕ → Type 0) → Option ℕ → List ℕ → Op → PostState → PostState → Type 0

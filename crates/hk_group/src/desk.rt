@@ -4,11 +4,11 @@ ghost use Rattle.std.specs.Prelude.{◌≡◌, None};
 ghost use Rattle.hk_outside.specs.Desk.{BeginSuits, IsSettled, Suits};
 ghost use Rattle.hk_outside.specs.declared.desk.DeskReply.TheVariants.{Told};
 ghost use Rattle.hk_worker.specs.Opening.{FinishesAtPost};
-ghost use Rattle.hk_group.specs.Led.{IsLed, AsksLed, BeginsLed, AsksAgain, BeginsAgain, tells_late, is_late, late_begun};
+ghost use Rattle.hk_group.specs.Led.{IsLed, AsksLed, BeginsLed, AsksAgain, BeginsAgain, tells_late, is_late, is_late_begun};
 
 use crate::completion::Unheard;
-use crate::leases::Leases;
-use crate::memory::{Load, MAX_DATA, MAX_ENTRIES, Reserve, data_in, empty_journals};
+use crate::journals::{Load, MAX_DATA, MAX_ENTRIES, empty_journals};
+use crate::needs::{Leases, Reserve, data_in};
 use hk_base::{Answer, Key, Memory, Op, Why};
 use hk_link::Bell;
 use hk_locked::Places;
@@ -208,7 +208,7 @@ impl<C: DeskClock + Drop, R: Wait + Drop, P: Places> Desk for GroupDesk<C, R, P>
         let until = self.upkeep.leases.until();
         let mut begun = self.begin_once(key, op, until);
         for _again in 1..MOST_ASKS {
-            if !late_begun(&begun) || !self.upkeep.leases.is_to_go_on(until) {
+            if !is_late_begun(&begun) || !self.upkeep.leases.is_to_go_on(until) {
                 return begun;
             }
             begun = self.begin_once(key, op, until);
@@ -254,8 +254,8 @@ fn is_late(told: &Result<DeskReply, Memory>) -> bool
 }
 
 // The same of one that begins.
-fn late_begun(begun: &Result<Begun<OpenAsk>, Memory>) -> bool
-    ensures { result ≡ late_begun begun.now }
+fn is_late_begun(begun: &Result<Begun<OpenAsk>, Memory>) -> bool
+    ensures { result ≡ is_late_begun begun.now }
 {
     match begun {
         Ok(begun) => match begun {

@@ -2,7 +2,7 @@
 
 use crate::gate::Open;
 use crate::lines::ROOM;
-use crate::memory::begin_memory;
+use crate::needs::begin_memory;
 use crossbeam_utils::sync::WaitGroup;
 use hk_outside::{Clock, Job};
 use hk_overseer::{ManagerPost, oversee};

@@ -2,8 +2,8 @@
 
 use crate::completion::Unheard;
 use crate::gate::{Ending, Open, Rings};
+use crate::journals::{Load, Trimming};
 use crate::lines::ROOM;
-use crate::memory::{Load, Trimming};
 use crate::working::{TURNS, tend};
 use hk_base::{Actor, Memory, Sequence};
 use hk_link::{Bell, Inlet, Outlet, link};

@@ -2,7 +2,8 @@
 
 use crate::completion::Unheard;
 use crate::gate::Open;
-use crate::memory::{Load, Trimming, begin_memory};
+use crate::journals::{Load, Trimming};
+use crate::needs::begin_memory;
 use crate::notices::tell_doubt;
 use crossbeam_utils::sync::WaitGroup;
 use hk_locked::Places;

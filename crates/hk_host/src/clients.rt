@@ -3,13 +3,13 @@
 ghost use Rattle.std.specs.Prelude.{◌≡◌, None, false};
 ghost use Rattle.hk_outside.specs.Causes.{Rose};
 
-use hk_accept::{Desks, MakeJob};
-use hk_base::Memory;
-use hk_hosts::{Address, DoorsAt};
-use hk_outside::{Clock, Connection, Doors, Failed, Job, NoDialer};
+use hk_accept::next_connection;
+use hk_hosts::{Address, DoorsAt, PromptConnection};
+use hk_loops::EventLoops;
+use hk_outside::{Clock, Doors, Failed, NoDialer};
 use hk_shared_state::{Notice, SharedState, rest};
 use std::io::Eprint;
-use std::sync::{Arc, Wait};
+use std::sync::Wait;
 
 // So long, in milliseconds, it is waited until a port is tried again that could not be opened.
 const REST_MILLIS: u64 = 1_000;
@@ -92,43 +92,19 @@ pub(crate) fn open_in_time<R: Wait + Eprint + Drop, C: Clock + Drop, D: DoorsAt>
     unreachable!()
 }
 
-/// The job of a client's connection.
-#[derive(Drop)]
-pub(crate) struct ClientJob<N: Drop, K: Drop> {
-    conn: N,
-    desks: Arc<K>,
-    number: u32,
-}
-
-/// Makes the jobs of clients: each is served at a desk of its own.
-#[derive(Drop)]
-pub(crate) struct ClientJobs<'a, K> {
-    pub(crate) desks: &'a Arc<K>,
-}
-
-impl<'a, N: Connection + Send + Drop + 'static, K: Desks + Send + Sync + Drop + 'static> MakeJob<N>
-    for ClientJobs<'a, K> {
-    type ConnJob = ClientJob<N, K>;
-
-    fn make_job(&self, conn: N, number: u32) -> Result<ClientJob<N, K>, Memory> {
-        let desks = self.desks.clone()?;
-        Ok(ClientJob {
-            conn,
-            desks,
-            number,
-        })
-    }
-}
-
-impl<N: Connection + Send + Drop + 'static, K: Desks + Send + Sync + Drop + 'static> Job
-    for ClientJob<N, K> {
-    // Serves the connection to its end. One for whose desk there is no memory is closed.
-    fn run(self) {
-        let ClientJob {
-            mut conn,
-            desks,
-            number,
-        } = self;
-        desks.serve(&mut conn, number);
+/// Has the loops serve each connection that comes through open doors, until no more come. One that no loop can serve, for want of memory, is closed.
+pub(crate) fn take_each<R: Wait, D: Doors, W: Send + Drop + 'static>(
+    rt: &R,
+    doors: &mut D,
+    loops: &EventLoops<D::Conn, W>,
+)
+where
+    D::Conn: PromptConnection,
+{
+    for _ in rt.forever() {
+        let Some(conn) = next_connection(rt, doors) else {
+            return;
+        };
+        let _ = loops.add(rt, conn);
     }
 }

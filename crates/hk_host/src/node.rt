@@ -16,16 +16,19 @@ use crate::watching::WatchJob;
 use hk_base::{Actor, Memory, NodeId, SHARDS};
 use hk_channel::Channel;
 use hk_group::{Group, GroupDesks, Member, start_each};
-use hk_hosts::Address;
+use hk_hosts::{Address, PromptConnection};
 use hk_inside::NodeState;
 use hk_lanes::{LaneDesks, Lanes, Tallies};
 use hk_link::Outlet;
 use hk_locked::Places;
+use hk_loops::{EventLoops, THREADS};
 use hk_outside::Spawner;
+use hk_peer::PromptCarrier;
 use hk_process::Sending;
 use hk_routes::Routes;
 use hk_shared_state::{Identity, SharedState, copy_of};
-use hk_worker::{DeskClock, Founded};
+use hk_worker::{DeskClock, Founded, OpenAsk};
+use std::alloc::Global;
 use std::io::Eprint;
 use std::sync::{Arc, Wait};
 
@@ -232,13 +235,68 @@ fn start_beat<
     Ok(())
 }
 
-/// Starts what keeps the node going: its workers, a loop for each queue to a manager, what opens lanes to other nodes, the beat, and what copies and watches. What is
-/// given makes the desks of its clients, and takes its letters.
+// Makes the desks shared.
+fn shared_desks<R: Wait + Drop, C: Drop, P: Places, X: Drop>(
+    alloc: Global,
+    desks: LaneDesks<R, C, P, X>,
+) -> Result<Arc<LaneDesks<R, C, P, X>>, Memory> {
+    Ok(Arc::new(alloc, desks)?)
+}
+
+// Starts the threads of the loop of this number.
+fn start_threads<
+    P: Places + Send + Sync + 'static,
+    R: Wait + Eprint + Copy + Send + Sync + Drop + 'static,
+    C: DeskClock + Send + Sync + Drop + 'static,
+    X: PromptCarrier + Send + Drop + 'static,
+    N: PromptConnection + Send + Drop + 'static,
+    S: Spawner,
+>(
+    shared: &SharedState<R, C>,
+    spawner: &mut S,
+    loops: &EventLoops<N, OpenAsk>,
+    number: usize,
+    desks: &Arc<LaneDesks<R, C, P, X>>,
+) -> Result<(), StartFault>
+    ensures { Starts (S.faults spawner.old) (S.faults spawner.new) result }
+{
+    for _ in 0..THREADS {
+        spawner.start_made(loops.job(shared.rt, shared.alloc, number, desks))?;
+    }
+    Ok(())
+}
+
+// Starts the threads of the loops that serve the node's clients at these desks.
+fn start_loops<
+    P: Places + Send + Sync + 'static,
+    R: Wait + Eprint + Copy + Send + Sync + Drop + 'static,
+    C: DeskClock + Send + Sync + Drop + 'static,
+    X: PromptCarrier + Send + Drop + 'static,
+    N: PromptConnection + Send + Drop + 'static,
+    S: Spawner,
+>(
+    shared: &SharedState<R, C>,
+    spawner: &mut S,
+    loops: &EventLoops<N, OpenAsk>,
+    desks: &Arc<LaneDesks<R, C, P, X>>,
+) -> Result<(), StartFault>
+    ensures { Starts (S.faults spawner.old) (S.faults spawner.new) result }
+{
+    for number in 0..loops.count() {
+        start_threads(shared, spawner, loops, number, desks)?;
+    }
+    spawner.start_made(loops.watch(shared.rt, shared.alloc))?;
+    Ok(())
+}
+
+/// Starts what keeps the node going: its workers, a loop for each queue to a manager, what opens lanes to other nodes, the beat, what copies and watches, and the threads
+/// of its clients' loops. What is given makes the desks of its clients, and takes its letters.
 pub(crate) fn start_node<
     P: Places + Send + Sync + 'static,
     R: Wait + Eprint + Copy + Send + Sync + Drop + 'static,
     C: DeskClock + Send + Sync + Drop + 'static,
     E: Dialers,
+    N: PromptConnection + Send + Drop + 'static,
     S: Spawner,
 >(
     shared: &Arc<SharedState<R, C>>,
@@ -248,7 +306,8 @@ pub(crate) fn start_node<
     spawner: &mut S,
     member: Member<R, C, P>,
     listen: &Address,
-) -> Result<LaneDesks<R, C, P, Channel<R, C, E::Dialer>>, StartFault>
+    loops: &EventLoops<N, OpenAsk>,
+) -> Result<Arc<LaneDesks<R, C, P, Channel<R, C, E::Dialer>>>, StartFault>
     ensures { Starts (S.faults spawner.old) (S.faults spawner.new) result }
 {
     let Member {
@@ -268,5 +327,8 @@ pub(crate) fn start_node<
     start_part(shared, part, spawner, &desks)?;
     let tallies = Tallies::new(shared.alloc)?;
     start_watching(shared, node, dialers, spawner, &desks, &tallies, listen)?;
-    Ok(LaneDesks::new(shared.rt, shared.alloc, desks, lanes, tallies))
+    let made = LaneDesks::new(shared.rt, shared.alloc, desks, lanes, tallies);
+    let desks = shared_desks(shared.alloc, made)?;
+    start_loops(&**shared, spawner, loops, &desks)?;
+    Ok(desks)
 }

@@ -10,26 +10,26 @@ ghost use Rattle.hk_base.specs.View.{first_view};
 ghost use Rattle.hk_group.specs.Founding.{IsGroup};
 ghost use Rattle.hk_host.specs.Starting.{Starts};
 
-use crate::clients::{ClientDoors, ClientJobs, can_open, open_in_time};
+use crate::clients::{ClientDoors, can_open, open_in_time, take_each};
 use crate::fault::{ServeFault, StartFault};
 use crate::lanes::NodeDoor;
 use crate::manager::{HostManager, Inside, start_host};
 use crate::node::{Part, founding_group, new_member, start_node};
 use crate::sending::Dialers;
-use hk_accept::take_each;
 use hk_base::{Memory, NodeId, View};
 use hk_channel::Channel;
 use hk_disk::LogFile;
 use hk_group::{Group, Member, found_joiner, found_without_lease};
-use hk_hosts::{Address, DoorsAt, Random};
+use hk_hosts::{Address, DoorsAt, PromptConnection, Random};
 use hk_inside::NodeState;
 use hk_lanes::LaneDesks;
 use hk_locked::Places;
+use hk_loops::EventLoops;
 use hk_outside::{Clock, Spawner, Status};
 use hk_peer::PromptCarrier;
 use hk_process::Sending;
 use hk_shared_state::{Identity, Mailbox, Notice, SharedState, Standing, Telling, rest};
-use hk_worker::{DeskClock, Founded, NodeCells, Tickets};
+use hk_worker::{DeskClock, Founded, NodeCells, OpenAsk, Tickets};
 use std::alloc::Global;
 use std::io::Eprint;
 use std::marker::Brand;
@@ -162,19 +162,12 @@ fn wait_until_ready<R: Wait + Drop, C: Drop>(shared: &SharedState<R, C>) -> Resu
 
 // Serves the clients that come through doors that are open, until the process is to end or its node leaves, and closes them.
 fn serve_open<
-    P: Places + Send + Sync + 'static,
     R: Wait + Eprint + Copy + Send + Sync + Drop + 'static,
     C: DeskClock + Send + Sync + Drop + 'static,
-    X: PromptCarrier + Send + Drop + 'static,
     K: DoorsAt,
-    S: Spawner,
->(
-    shared: &SharedState<R, C>,
-    desks: &Arc<LaneDesks<R, C, P, X>>,
-    listen: &Address,
-    doors: &mut K,
-    spawner: &mut S,
-)
+>(shared: &SharedState<R, C>, listen: &Address, doors: &mut K, loops: &EventLoops<K::Conn, OpenAsk>)
+where
+    K::Conn: PromptConnection,
     ensures { K.closed doors.new ≡ true }
 {
     let mut at = ClientDoors {
@@ -182,13 +175,7 @@ fn serve_open<
         address: listen,
         shared,
     };
-    take_each(
-        &shared.rt,
-        &mut at,
-        spawner,
-        &ClientJobs { desks },
-        u32::MAX,
-    );
+    take_each(&shared.rt, &mut at, loops);
     doors.close();
 }
 
@@ -226,19 +213,17 @@ fn end_left<R: Wait + Drop, C: Drop>(shared: &SharedState<R, C>) -> Result<Statu
 
 // Serves clients at the node, for as long as the process is to run.
 fn serve_clients<
-    P: Places + Send + Sync + 'static,
     R: Wait + Eprint + Copy + Send + Sync + Drop + 'static,
     C: DeskClock + Send + Sync + Drop + 'static,
-    X: PromptCarrier + Send + Drop + 'static,
     K: DoorsAt,
-    S: Spawner,
 >(
     shared: &SharedState<R, C>,
-    desks: &Arc<LaneDesks<R, C, P, X>>,
     listen: &Address,
     doors: &mut K,
-    spawner: &mut S,
+    loops: &EventLoops<K::Conn, OpenAsk>,
 ) -> Result<Status, ServeFault>
+where
+    K::Conn: PromptConnection,
     ensures ends { IfOk result (λ status. status ≡ Status.Done) }
     ensures closed { result ≡ Ok Status.Done → K.closed doors.new ≡ true }
 {
@@ -246,7 +231,7 @@ fn serve_clients<
         if !open_in_time(shared, doors, listen) {
             return Err(ServeFault::Out);
         }
-        serve_open(shared, desks, listen, doors, spawner);
+        serve_open(shared, listen, doors, loops);
         if !shared.is_leaving() {
             return end_of(shared);
         }
@@ -265,29 +250,24 @@ fn serve_ready<
     C: DeskClock + Send + Sync + Drop + 'static,
     X: PromptCarrier + Send + Drop + 'static,
     K: DoorsAt,
-    S: Spawner,
 >(
     shared: &SharedState<R, C>,
     entry: &NodeDoor<R, C, P, X>,
     node: NodeId,
-    desks: LaneDesks<R, C, P, X>,
+    desks: Arc<LaneDesks<R, C, P, X>>,
     serving: Serving<'_>,
     doors: &mut K,
-    spawner: &mut S,
+    loops: &EventLoops<K::Conn, OpenAsk>,
 ) -> Result<Status, ServeFault>
+where
+    K::Conn: PromptConnection,
     ensures ends { IfOk result (λ status. (status ≡ Status.Done) ⊎ (status ≡ Status.Memory)) }
     ensures closed { result ≡ Ok Status.Done → K.closed doors.new ≡ true }
 {
-    let Ok(desks) = Arc::new(shared.alloc, desks) else {
-        return Ok(Status::Memory);
-    };
-    let Ok(own) = Arc::try_clone(&desks) else {
-        return Ok(Status::Memory);
-    };
-    entry.open(own);
+    entry.open(desks);
     wait_until_ready(shared)?;
     tell_standing(shared, node, serving.data);
-    serve_clients(shared, &desks, serving.listen, doors, spawner)
+    serve_clients(shared, serving.listen, doors, loops)
 }
 
 // Starts the node that this member is, and serves its clients.
@@ -308,8 +288,11 @@ fn serve_member<
     serving: Serving<'_>,
     dialers: &E,
     doors: &mut K,
+    loops: &EventLoops<K::Conn, OpenAsk>,
     spawner: &mut S,
 ) -> Result<Status, ServeFault>
+where
+    K::Conn: PromptConnection,
     ensures ends { IfOk result EndsServe }
     ensures closed { result ≡ Ok Status.Done → K.closed doors.new ≡ true }
     ensures no_door_fault { result ≡ Ok Status.DoorFault → ⊥ }
@@ -323,6 +306,7 @@ fn serve_member<
         spawner,
         member,
         serving.listen,
+        loops,
     ) {
         Ok(desks) => serve_ready(
             &**shared,
@@ -331,7 +315,7 @@ fn serve_member<
             desks,
             serving,
             doors,
-            spawner,
+            loops,
         ),
         Err(fault) => Ok(fault.status()),
     }
@@ -354,8 +338,11 @@ fn serve_made<
     serving: Serving<'_>,
     dialers: &E,
     doors: &mut K,
+    loops: &EventLoops<K::Conn, OpenAsk>,
     spawner: &mut S,
 ) -> Result<Status, ServeFault>
+where
+    K::Conn: PromptConnection,
     ensures ends { IfOk result EndsServe }
     ensures closed { result ≡ Ok Status.Done → K.closed doors.new ≡ true }
     ensures no_door_fault { result ≡ Ok Status.DoorFault → ⊥ }
@@ -363,7 +350,7 @@ fn serve_made<
 {
     match made {
         Ok(member) => serve_member(
-            shared, entry, sending, part, member, serving, dialers, doors, spawner,
+            shared, entry, sending, part, member, serving, dialers, doors, loops, spawner,
         ),
         Err(_) => Ok(Status::Memory),
     }
@@ -388,8 +375,11 @@ fn serve_founded<
     serving: Serving<'_>,
     dialers: &E,
     doors: &mut K,
+    loops: &EventLoops<K::Conn, OpenAsk>,
     spawner: &mut S,
 ) -> Result<Status, ServeFault>
+where
+    K::Conn: PromptConnection,
     requires named { node_names P.places founded.node ≡ names_of founded }
     ensures ends { IfOk result EndsServe }
     ensures closed { result ≡ Ok Status.Done → K.closed doors.new ≡ true }
@@ -398,7 +388,7 @@ fn serve_founded<
 {
     let made = new_member::<R, C, P>(&**shared, clock, founded, group);
     serve_made(
-        shared, entry, sending, part, made, serving, dialers, doors, spawner,
+        shared, entry, sending, part, made, serving, dialers, doors, loops, spawner,
     )
 }
 
@@ -543,8 +533,11 @@ fn serve_part<
     serving: Serving<'_>,
     dialers: &E,
     doors: &mut K,
+    loops: &EventLoops<K::Conn, OpenAsk>,
     spawner: &mut S,
 ) -> Result<Status, ServeFault>
+where
+    K::Conn: PromptConnection,
     requires places { AreForAny P.places (names_of_cells (arc_value shared.now).identity.skew cells) }
     requires view { started.seed.view ≡ first_view (length (arc_value shared.now).identity.hosts) }
     ensures ends { IfOk result EndsServe }
@@ -575,6 +568,7 @@ fn serve_part<
             serving,
             dialers,
             doors,
+            loops,
             spawner,
         ),
         Err(_) => Ok(Status::Memory),
@@ -600,8 +594,11 @@ fn serve_process<
     dialers: &E,
     serving: Serving<'_>,
     doors: &mut K,
+    loops: &EventLoops<K::Conn, OpenAsk>,
     spawner: &mut S,
 ) -> Result<Status, ServeFault>
+where
+    K::Conn: PromptConnection,
     requires manager { IfSome manager (λ m. m.place < length (arc_value shared.now).identity.hosts) }
     requires places { AreForAny P.places (names_of_cells (arc_value shared.now).identity.skew cells) }
     ensures ends { IfOk result EndsServe }
@@ -617,7 +614,7 @@ fn serve_process<
     };
     match wait_for_part(&**shared) {
         Ok(part) => serve_part(
-            shared, cells, started, part, serving, dialers, doors, spawner,
+            shared, cells, started, part, serving, dialers, doors, loops, spawner,
         ),
         Err(fault) => Err(fault),
     }
@@ -650,8 +647,11 @@ pub fn serve_host<
     dialers: &E,
     serving: Serving<'_>,
     doors: &mut K,
+    loops: &EventLoops<K::Conn, OpenAsk>,
     spawner: &mut S,
 ) -> Result<Status, ServeFault>
+where
+    K::Conn: PromptConnection,
     requires { IfSome manager (λ m. m.place < length identity.hosts) }
     ensures ends { IfOk result EndsServe }
     ensures closed { result ≡ Ok Status.Done → K.closed doors.new ≡ true }
@@ -666,7 +666,7 @@ pub fn serve_host<
     }
     match NodeCells::new(&rt, alloc) {
         Ok(cells) => serve_process::<Brand, R, C, F, E, D, X, K, S>(
-            &shared, cells, manager, inside, dialers, serving, doors, spawner,
+            &shared, cells, manager, inside, dialers, serving, doors, loops, spawner,
         ),
         Err(_) => Ok(Status::Memory),
     }

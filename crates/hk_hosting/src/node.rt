@@ -13,6 +13,7 @@ use hk_host::{Dialers, HostManager, Inside, ServeFault, Serving, serve_host};
 use hk_host_words::{NodeWords, Verbosity};
 use hk_hosts::{Address, DoorsAt, HostDialer, HostDoors, Random, SystemRandom};
 use hk_inside::HostTickets;
+use hk_loops::EventLoops;
 use hk_managing::{ManagerStart, begin_manager};
 use hk_outside::{Clock, Status, SteadyClock};
 use hk_restore::Terms;
@@ -280,6 +281,7 @@ pub(crate) fn run_node<
     if !has_place(&identity, &manager) {
         return Err(HostEnd::Refused);
     }
+    let loops = EventLoops::new(&rt, alloc, workers)?;
     let served = serve_host(
         rt,
         alloc,
@@ -295,6 +297,7 @@ pub(crate) fn run_node<
             telling,
         },
         &mut HostDoors::new(rt, alloc),
+        &loops,
         &mut LooseSpawner::new(rt),
     );
     told_end(&rt, alloc, &listen, &path, served)

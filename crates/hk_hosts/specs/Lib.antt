@@ -3,3 +3,4 @@ pub mod Parts
 pub mod Laws
 pub mod Dialling
 pub mod Lists
+pub mod Now

@@ -4,12 +4,14 @@ ghost use Rattle.std.specs.Prelude.{◌≡◌, None, Some, [], refl, IfOk};
 ghost use Rattle.std.specs.List.{concat};
 
 use crate::ender::Ender;
+use crate::now::{Came, PromptConnection};
 use crate::prompt::{Manner, PromptEnd};
 use hk_base::Memory;
 use hk_outside::{Connection, Failed, MemoryConnection, ReaderSource, Sink, Source, WriterSink};
 use std::alloc::Global;
 use std::io::{self, Read};
 use std::net::TcpStream;
+use std::os::fd::{AsRawFd, RawFd};
 use std::sync::Arc;
 use std::time::Duration;
 
@@ -49,12 +51,21 @@ impl Patient for MemoryConnection {
 
 // What a connection's reader has of its stream.
 #[derive(Drop)]
-struct End(Arc<TcpStream>);
+struct End {
+    stream: Arc<TcpStream>,
+    manner: Arc<Manner>,
+}
 
 impl Read for End {
     fn read(&mut self, room: &mut [u8]) -> io::Result<usize> {
-        let mut stream = &*self.0;
-        stream.read(room)
+        let mut stream = &*self.stream;
+        match stream.read(room) {
+            Ok(count) => Ok(count),
+            Err(error) => {
+                self.manner.note_error(&error);
+                Err(error)
+            }
+        }
     }
 }
 
@@ -77,8 +88,11 @@ impl HostConnection {
         // what is written leaves at once; where that can't be had, the connection is slower
         let _ = stream.set_nodelay(true);
         let stream = Arc::new(alloc, stream)?;
-        let source = ReaderSource::new(End(stream.clone()?));
         let manner = Arc::new(alloc, Manner::patient())?;
+        let source = ReaderSource::new(End {
+            stream: stream.clone()?,
+            manner: manner.clone()?,
+        });
         let end = PromptEnd::new(alloc, stream.clone()?, manner.clone()?);
         let sink = WriterSink::new(end);
         Ok(HostConnection {
@@ -124,6 +138,45 @@ impl Connection for HostConnection {
     ghost write_keeps = { λ c. refl };
 
     ghost one_record = { λ c. refl };
+}
+
+impl PromptConnection for HostConnection {
+    fn stop_waiting(&self) -> Result<(), Failed> {
+        self.stream.set_nonblocking(true).or(Err(Failed))
+    }
+
+    fn descriptor(&self) -> RawFd {
+        self.stream.as_raw_fd()
+    }
+
+    fn read_now(&mut self, room: &mut [u8]) -> Result<Came, Failed> {
+        match self.source.read(room) {
+            Ok(count) => {
+                if count == 0 {
+                    return Ok(Came::End);
+                }
+                Ok(Came::Bytes(count))
+            }
+            Err(Failed) => {
+                if self.manner.would_have_waited() {
+                    return Ok(Came::Nothing);
+                }
+                Err(Failed)
+            }
+        }
+    }
+
+    fn write_now(&mut self, piece: &[u8]) -> Result<Option<usize>, Failed> {
+        match self.sink.write(piece) {
+            Ok(count) => Ok(Some(count)),
+            Err(Failed) => {
+                if self.manner.would_have_waited() {
+                    return Ok(None);
+                }
+                Err(Failed)
+            }
+        }
+    }
 }
 
 // How long a call may wait.

@@ -9,7 +9,8 @@
 //! rose.
 //!
 //! What no clause says: that a name means the host that is meant, that a connection reaches it, that a call waits no
-//! longer than it was told, that an [`Ender`] ends its connection, and that random bytes can't be guessed.
+//! longer than it was told, that an [`Ender`] ends its connection, and that random bytes can't be guessed; nor that
+//! a call of a [`PromptConnection`] that stopped waiting does not wait.
 #![tactic(auto)]
 
 mod address;
@@ -18,6 +19,7 @@ mod dial;
 mod doors;
 mod ender;
 mod hosts;
+mod now;
 mod parts;
 mod prompt;
 mod random;
@@ -30,6 +32,7 @@ pub use dial::{DialAt, HostDialer};
 pub use doors::{DoorsAt, HostDoors};
 pub use ender::Ender;
 pub use hosts::{Hosts, HostsFault, put_hosts, read_hosts};
+pub use now::{Came, PromptConnection};
 pub use random::{FakeRandom, Random, SystemRandom};
 
 /// Each text is one of one address at most, and what is printed of an address is read as that address, whatever port is the

@@ -8,11 +8,13 @@ use std::net::TcpStream;
 use std::sync::Arc;
 use std::sync::atomic::{AtomicBool, Ordering};
 
-/// How a connection writes.
+/// How a connection reads and writes.
 #[derive(Drop)]
 pub(crate) struct Manner {
     prompt: AtomicBool,
     keeps: AtomicBool,
+    // A call failed since it would have had to wait, and nobody asked yet.
+    would_wait: AtomicBool,
 }
 
 impl Manner {
@@ -21,6 +23,7 @@ impl Manner {
         Manner {
             prompt: AtomicBool::new(false),
             keeps: AtomicBool::new(false),
+            would_wait: AtomicBool::new(false),
         }
     }
 
@@ -40,6 +43,18 @@ impl Manner {
     /// Whether something is kept.
     pub(crate) fn keeps(&self) -> bool {
         self.keeps.load(Ordering::SeqCst)
+    }
+
+    /// A call failed so.
+    pub(crate) fn note_error(&self, error: &io::Error) {
+        if error.kind() == ErrorKind::WouldBlock {
+            self.would_wait.store(true, Ordering::SeqCst);
+        }
+    }
+
+    /// Whether the last call that failed would have had to wait. It is told once.
+    pub(crate) fn would_have_waited(&self) -> bool {
+        self.would_wait.swap(false, Ordering::SeqCst)
     }
 }
 
@@ -128,7 +143,13 @@ impl Write for PromptEnd {
             return self.write_now(piece);
         }
         let mut stream = &*self.stream;
-        stream.write(piece)
+        match stream.write(piece) {
+            Ok(count) => Ok(count),
+            Err(error) => {
+                self.manner.note_error(&error);
+                Err(error)
+            }
+        }
     }
 
     fn flush(&mut self) -> io::Result<()> {

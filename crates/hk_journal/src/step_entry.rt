@@ -4,7 +4,7 @@ ghost use Rattle.std.specs.Prelude.{◌≡◌, IfOk};
 ghost use Rattle.hk_journal.specs.Journal.{entry_of};
 
 use hk_base::{Letter, Letters, Memory, Replies, Reply, Sequence};
-use hk_node::{NodeEvent, NodeOut};
+use hk_node::{NodeEvent, NodeOut, StepReplies};
 use std::alloc::Global;
 
 /// One step of a node.
@@ -17,7 +17,7 @@ pub struct JournalEntry {
     /// The letters that the step gave.
     pub letters: Letters,
     /// The replies that the step gave.
-    pub replies: Replies,
+    pub replies: StepReplies,
 }
 
 /// The steps of one node, in their order.
@@ -33,7 +33,7 @@ pub fn entry(
     ensures { IfOk result (λ entry. entry ≡ entry_of ticket event out.now) }
 {
     let letters = share_letters(alloc, out.letters.as_slice())?;
-    let replies = share_replies(alloc, out.replies.as_slice())?;
+    let replies = share_replies(alloc, &out.replies)?;
     Ok(JournalEntry {
         ticket,
         event,
@@ -90,7 +90,7 @@ fn share_reply(reply: &Reply) -> Result<Reply, Memory>
     })
 }
 
-fn share_replies(alloc: Global, replies: &[Reply]) -> Result<Replies, Memory>
+fn share_several(alloc: Global, replies: &[Reply]) -> Result<Replies, Memory>
     ensures { IfOk result (λ same. same ≡ replies.now) }
 {
     let mut same = Sequence::new(alloc);
@@ -100,12 +100,28 @@ fn share_replies(alloc: Global, replies: &[Reply]) -> Result<Replies, Memory>
     Ok(same)
 }
 
+fn share_replies(alloc: Global, replies: &StepReplies) -> Result<StepReplies, Memory>
+    ensures { IfOk result (λ same. same ≡ replies.now) }
+{
+    match replies.as_slice() {
+        [] => Ok(StepReplies::nothing()),
+        [reply] => {
+            let reply = share_reply(reply)?;
+            Ok(StepReplies::one(reply))
+        }
+        several => {
+            let several = share_several(alloc, several)?;
+            Ok(StepReplies::many(several))
+        }
+    }
+}
+
 fn share_entry(alloc: Global, entry: &JournalEntry) -> Result<JournalEntry, Memory>
     ensures { IfOk result (λ same. same ≡ entry.now) }
 {
     let event = share_event(alloc, &entry.event)?;
     let letters = share_letters(alloc, entry.letters.as_slice())?;
-    let replies = share_replies(alloc, entry.replies.as_slice())?;
+    let replies = share_replies(alloc, &entry.replies)?;
     Ok(JournalEntry {
         ticket: entry.ticket,
         event,

@@ -1,6 +1,6 @@
 //! Desks that send what they say.
 
-ghost use Rattle.std.specs.Prelude.{◌≡◌, None};
+ghost use Rattle.std.specs.Prelude.{◌≡◌, ◌<◌, None, length};
 ghost use Rattle.hk_outside.specs.Desk.{BeginSuits, IsSettled, Suits};
 ghost use Rattle.hk_worker.specs.Opening.{FinishesAtPost};
 ghost use Rattle.hk_group.specs.Led.{AsksAgain, BeginsAgain};
@@ -13,8 +13,10 @@ use hk_accept::Desks;
 use hk_base::{Key, Memory, Op};
 use hk_conn::serve_connection;
 use hk_group::{GroupDesk, GroupDesks};
+use hk_hosts::PromptConnection;
 use hk_link::Outlet;
 use hk_locked::Places;
+use hk_loops::{EventLoop, LoopDesks, WornDesk};
 use hk_outside::{Begun, Connection, Desk, DeskReply, Source};
 use hk_peer::{Course, PromptCarrier, serve_peer};
 use hk_worker::{DeskClock, OpenAsk};
@@ -24,6 +26,9 @@ use std::sync::{Arc, Wait};
 // How often one key of one request is asked. The desk waits for a key that is busy as long as anybody is to wait.
 const PATIENCE: u32 = 1;
 
+// After so many asks a desk of a loop's thread is made anew: each asks its post 32 times at most, which may be asked 4,294,967,295 times.
+const MOST_ASKS: u64 = 33_554_432;
+
 /// A desk that sends the letters of its updates itself, before it waits for what they are told.
 #[derive(Drop)]
 pub struct LaneDesk<C: DeskClock + Drop, R: Wait + Drop, P: Places, X: Drop> {
@@ -31,6 +36,8 @@ pub struct LaneDesk<C: DeskClock + Drop, R: Wait + Drop, P: Places, X: Drop> {
     desk: GroupDesk<C, R, P>,
     lanes: Arc<Lanes<X>>,
     counters: Arc<CachePadded<Counters>>,
+    // So often it was asked.
+    asks: u64,
 }
 
 impl<C: DeskClock + Drop, R: Wait + Drop, P: Places, X: PromptCarrier + Drop> Desk
@@ -45,6 +52,7 @@ impl<C: DeskClock + Drop, R: Wait + Drop, P: Places, X: PromptCarrier + Drop> De
         ensures suits { Suits op.now result }
         ensures told { AsksAgain (C.was_read self.old.desk.clock.value) (C.reading self.old.desk.clock.value) key.now op.now self.old.desk.post self.new.desk.post result }
     {
+        self.asks = self.asks.saturating_add(1);
         let told = self.desk.ask(key, op);
         if let Ok(reply) = &told {
             self.counters.note(op, reply);
@@ -56,6 +64,7 @@ impl<C: DeskClock + Drop, R: Wait + Drop, P: Places, X: PromptCarrier + Drop> De
         ensures suits { BeginSuits (λ waits. waits.op) op.now result }
         ensures told { BeginsAgain (C.was_read self.old.desk.clock.value) (C.reading self.old.desk.clock.value) key.now op.now self.old.desk.post self.new.desk.post result }
     {
+        self.asks = self.asks.saturating_add(1);
         let begun = self.desk.begin(key, op);
         if let Ok(Begun::Told(reply)) = &begun {
             self.counters.note(op, reply);
@@ -75,6 +84,13 @@ impl<C: DeskClock + Drop, R: Wait + Drop, P: Places, X: PromptCarrier + Drop> De
             self.counters.note_update(reply);
         }
         told
+    }
+}
+
+impl<C: DeskClock + Drop, R: Wait + Drop, P: Places, X: PromptCarrier + Drop> WornDesk
+    for LaneDesk<C, R, P, X> {
+    fn is_worn(&self) -> bool {
+        self.asks >= MOST_ASKS
     }
 }
 
@@ -139,6 +155,7 @@ impl<R: Wait + Copy + Drop, C: DeskClock + Drop, P: Places, X: PromptCarrier + D
             desk: self.desks.desk(number)?,
             lanes,
             counters,
+            asks: 0,
         })
     }
 }
@@ -152,6 +169,30 @@ impl<
     fn serve<N: Connection>(&self, conn: &mut N, number: u32) {
         if let Ok(mut desk) = self.desk(number) {
             serve_connection(self.alloc, conn, &mut desk, PATIENCE);
+        }
+    }
+}
+
+impl<
+    R: Wait + Copy + Send + Sync + Drop + 'static,
+    C: DeskClock + Send + Sync + Drop + 'static,
+    P: Places + Send + Sync + 'static,
+    X: PromptCarrier + Send + Drop + 'static,
+> LoopDesks for LaneDesks<R, C, P, X> {
+    type Waits = OpenAsk;
+
+    fn serve_turns<Q: Wait, N: PromptConnection + Drop>(
+        &self,
+        rt: &Q,
+        event_loop: &EventLoop<N, OpenAsk>,
+        room: &mut [u8],
+        number: u32,
+    )
+        requires { 0 < length room.old }
+        ensures { length room.new ≡ length room.old }
+    {
+        if let Ok(mut desk) = self.desk(number) {
+            event_loop.serve(rt, &mut desk, room, PATIENCE);
         }
     }
 }

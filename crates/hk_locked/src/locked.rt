@@ -38,7 +38,7 @@ use hk_base::{Answer, CallNo, Key, Letter, Letters, Memory, NodeId, Op, Replies,
 use hk_callback::{Callbacks, Completion};
 use hk_due::{Due, OpenKeys, due_of_key};
 use hk_journal::{Journal, share_journal};
-use hk_node::{Node, NodeEvent};
+use hk_node::{Node, NodeEvent, ReplyList, StepReplies};
 use hk_shard::{Held, Shard, ShardOut};
 use hk_snap::cell_of;
 use hk_told::{Ask, AskState, Asks};
@@ -97,13 +97,42 @@ fn fire<F: Completion + Drop>(completions: &mut Callbacks<F>, reply: &Reply) {
     }
 }
 
-// Calls the completions of these replies, and tells their asks.
-fn deliver<F: Completion + Drop>(completions: &mut Callbacks<F>, asks: &mut Asks, replies: Replies)
+// Calls the completion of the reply's call, and tells its ask.
+fn deliver_one<F: Completion + Drop>(completions: &mut Callbacks<F>, asks: &mut Asks, reply: Reply)
+    ensures { Delivers (reply ∷ []) (asks_in asks.old) (asks_in asks.new) }
+{
+    fire(completions, &reply);
+    asks.deliver(reply);
+}
+
+// The same of each of these replies.
+#[inline(never)]
+fn deliver_all<F: Completion + Drop>(
+    completions: &mut Callbacks<F>,
+    asks: &mut Asks,
+    replies: Replies,
+)
     ensures { Delivers replies (asks_in asks.old) (asks_in asks.new) }
 {
     for reply in replies.into_vec() {
         fire(completions, &reply);
         asks.deliver(reply);
+    }
+}
+
+// Calls the completions of a step's replies, and tells their asks.
+#[tactic(auto, using(crate::proofs::Keeping::heard_nothing))]
+fn deliver<F: Completion + Drop>(
+    completions: &mut Callbacks<F>,
+    asks: &mut Asks,
+    replies: StepReplies,
+)
+    ensures { Delivers replies (asks_in asks.old) (asks_in asks.new) }
+{
+    match replies.into_list() {
+        ReplyList::Nothing => {}
+        ReplyList::One(reply) => deliver_one(completions, asks, reply),
+        ReplyList::Many(replies) => deliver_all(completions, asks, replies),
     }
 }
 
@@ -161,14 +190,27 @@ fn new_ask(key: &Key, ticket: u64) -> Result<Ask, Memory>
     })
 }
 
-// The answer of the one reply, if there is one.
-fn answer_of(replies: Replies) -> Option<Answer>
+// The answer of the last of these replies, which are one or none.
+#[inline(never)]
+fn last_answer(replies: Replies) -> Option<Answer>
     requires { (call : CallNo) × AreOneOrNone call replies }
     ensures { (call : CallNo) → AreOneOrNone call replies → replies ≡ replies_with call result }
 {
     match replies.into_vec().pop() {
         Some(reply) => Some(reply.answer),
         None => None,
+    }
+}
+
+// The answer of the one reply, if there is one.
+fn answer_of(replies: StepReplies) -> Option<Answer>
+    requires { (call : CallNo) × AreOneOrNone call replies }
+    ensures { (call : CallNo) → AreOneOrNone call replies → replies ≡ replies_with call result }
+{
+    match replies.into_list() {
+        ReplyList::Nothing => None,
+        ReplyList::One(reply) => Some(reply.answer),
+        ReplyList::Many(replies) => last_answer(replies),
     }
 }
 

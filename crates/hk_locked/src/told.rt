@@ -3,7 +3,8 @@
 ghost use Rattle.std.specs.Prelude.{◌≡◌};
 ghost use Rattle.hk_locked.specs.Steps.{told_asks};
 
-use hk_base::{CallNo, Replies};
+use hk_base::CallNo;
+use hk_node::StepReplies;
 
 /// Whose asks a step told.
 #[derive(Clone, Copy)]
@@ -18,7 +19,7 @@ pub enum ToldAsks {
 
 /// Whose asks these replies tell.
 #[tactic(auto, unfolding(crate::specs::Steps::told_asks))]
-pub(crate) fn told_asks(replies: &Replies) -> ToldAsks
+pub(crate) fn told_asks(replies: &StepReplies) -> ToldAsks
     ensures { result ≡ told_asks replies.now }
 {
     match replies.as_slice() {

@@ -20,7 +20,7 @@ use Rattle.hk_base.specs.declared.call.CallNo.{CallNo}
 use Rattle.hk_base.specs.declared.call.Op.{Op}
 use Rattle.hk_base.specs.declared.memory.Memory.{Memory}
 use Rattle.hk_base.specs.Range.{IsWithin}
-use Rattle.hk_node.specs.declared.node.calls.Decision.{Decision}
+use Rattle.hk_node.specs.declared.node.step.Decision.{Decision}
 use Rattle.hk_node.specs.Calls.{at_state}
 use Rattle.hk_node.specs.Decided.{decided, is_invalid}
 use Rattle.hk_node.specs.Steps.{on_found, resent, replayed}

@@ -10,8 +10,8 @@ use Rattle.hk_key.specs.declared.row.Row.{Row}
 use Rattle.hk_key.specs.Table.{begin}
 use Rattle.hk_rmw.specs.declared.outcome.Turn.{Turn}
 use Rattle.hk_rmw.specs.declared.outcome.Turn.TheVariants.{Change, Stay}
-use Rattle.hk_node.specs.declared.node.calls.Decision.{Decision}
-use Rattle.hk_node.specs.declared.node.calls.Decision.TheVariants.{Now, Begin}
+use Rattle.hk_node.specs.declared.node.step.Decision.{Decision}
+use Rattle.hk_node.specs.declared.node.step.Decision.TheVariants.{Now, Begin}
 use Rattle.hk_node.specs.Node.{NodeState, members_of}
 use Rattle.hk_node.specs.Stepped.{Stepped, row_step}
 use Rattle.hk_node.specs.Calls.{kind_of, register_in, answers}

@@ -3,6 +3,7 @@ pub mod Node
 pub mod Heard
 pub mod Sends
 pub mod Stepped
+pub mod ReplyLists
 pub mod Calls
 pub mod Copies
 pub mod Open

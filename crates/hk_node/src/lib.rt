@@ -19,7 +19,6 @@
 mod event;
 mod heard;
 mod laws;
-mod letters;
 mod node;
 mod out;
 mod put;
@@ -32,5 +31,5 @@ pub use laws::{
     told_were_waiting,
 };
 pub use node::Node;
-pub use out::NodeOut;
+pub use out::{NodeOut, ReplyList, StepReplies};
 pub use report::{PriorRow, PriorRows, Report, Undo};

@@ -8,7 +8,6 @@ ghost use Rattle.std.specs.Option.{option_copied};
 ghost use Rattle.hk_base.specs.declared.time.TheConstants.{MAX_TIME};
 ghost use Rattle.hk_node.specs.Node.{epoch_in};
 
-mod calls;
 mod copy;
 mod copying;
 mod finish;

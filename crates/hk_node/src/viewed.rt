@@ -10,7 +10,7 @@ ghost use Rattle.hk_node.specs.Copies.{is_valid};
 ghost use Rattle.hk_node.specs.Index.{at_key, HasOpen};
 ghost use Rattle.hk_node.specs.Viewed.{IsFitRow, view_letters, view_told, view_new, view_old};
 
-use crate::letters::post_sent;
+use crate::out::post_sent;
 use crate::report::{PriorRow, PriorRows};
 use hk_base::{Key, Letters, Memory, NodeId, Replies, View};
 use hk_key::{BoxedRow, Row};

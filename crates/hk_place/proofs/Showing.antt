@@ -16,7 +16,7 @@ use Rattle.hk_joint_reads.specs.declared.read.Joint.{Joint}
 use Rattle.hk_joint_reads.specs.declared.read.Joint.TheVariants.{Found}
 use Rattle.hk_joint_reads.specs.Reads.{tickets_of, looks_of, shown_of, with_shown, snapshots, unfound, IsFound}
 use Rattle.hk_joint_reads.proofs.Still.{AreBelow, each_below, other_all, none_told}
-use Rattle.hk_place.specs.Cut.{WasShown, IsReaderOf, FoundsWereShown}
+use Rattle.hk_place.specs.Cut.{WasShown, IsReaderOf, FoundWereShown}
 
 module _ (s : ShardState) (r : Reader) (ours : IsReaderOf s r) where
   one : (key : List ℕ) (seen : List Publication) (o : Option Snapshot) (rest : List Snapshot) → last_shown seen ≡ o → IsPrefix seen (seen_at r.ends (cell_of key)) → AllByRecursion (WasShown s) rest
@@ -41,8 +41,8 @@ module _ (s : ShardState) (r : Reader) (ours : IsReaderOf s r) where
 same_found : (xs ys : List Snapshot) → Found xs ≡ Found ys → ys ≡ xs
 same_found xs ys e = cc
 
-pub founds_were_shown : FoundsWereShown
-founds_were_shown s old new keys end skew reading found ours read =
+pub found_were_shown : FoundWereShown
+found_were_shown s old new keys end skew reading found ours read =
     let looks : List KeyLoads = looks_of keys (tickets_of keys read.first) read.second in
     let none : unfound looks end read.now skew ≡ None = none_told (unfound looks end read.now skew) (Found (snapshots looks)) (other_all looks end read.now skew) (subst IsFound read.told tt) in
     let is : found ≡ snapshots looks = same_found (snapshots looks) found (sym (read.told ∙ ap (λ (o : Option Joint). unwrap_or o (Found (snapshots looks))) none)) in

@@ -60,8 +60,8 @@ JointReadsAreCuts = (s : ShardState) (found : List Snapshot) (moment : ℕ) → 
     → place_of (past_of s) found ≡ Ok moment → IsCut (past_of s) moment found
 
 -- What a joint read finds, its reader was shown.
-abbrev pub FoundsWereShown : Type 0
-FoundsWereShown = (s : ShardState) (old new : Reader) (keys : List (List ℕ)) (end skew : ℕ) (reading : Option ℕ) (found : List Snapshot) → IsReaderOf s new
+abbrev pub FoundWereShown : Type 0
+FoundWereShown = (s : ShardState) (old new : Reader) (keys : List (List ℕ)) (end skew : ℕ) (reading : Option ℕ) (found : List Snapshot) → IsReaderOf s new
     → IsJointRead old new keys end skew reading (Found found) → AllByRecursion (WasShown s) found
 
 -- None of them was shown before the journal began: of a row that no step of the journal left, the journal can't tell how long it stood.

@@ -1,8 +1,13 @@
 //! The keys of a get.
 
-ghost use Rattle.std.specs.Prelude.{◌≡◌, ◌∷◌, [], length};
+ghost use Rattle.std.specs.Prelude.{◌≡◌, ◌∷◌, [], length, map};
+ghost use Rattle.hk_request.specs.Fields.{Gives};
+ghost use Rattle.hk_request.specs.Reading.{keys_of};
 
+use crate::request::RequestCause;
+use crate::words::read_key;
 use hk_base::Key;
+use std::alloc::Global;
 use std::marker::Model;
 
 // Where the keys stand: a list of one is in the value.
@@ -61,4 +66,20 @@ impl Keys {
             Listed::Many(keys) => keys.as_slice(),
         }
     }
+}
+
+// The keys that words are, or the first fault.
+pub(crate) fn read_keys(alloc: Global, others: &[&[u8]]) -> Result<Keys, RequestCause>
+    ensures { Gives result (keys_of (map (λ w. w.now) others.now)) }
+{
+    let Ok(mut keys) = Vec::with_capacity(alloc, others.len()) else {
+        return Err(RequestCause::Memory);
+    };
+    for word in others {
+        let key = read_key(alloc, word)?;
+        if keys.push(key).is_err() {
+            return Err(RequestCause::Memory);
+        }
+    }
+    Ok(Keys::from_vec(keys))
 }

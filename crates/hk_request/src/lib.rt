@@ -22,13 +22,11 @@
 //! block ends as it must.
 #![tactic(auto)]
 
-mod block;
 mod keys;
 mod line;
 mod request;
 mod words;
 
-pub use block::finish;
 pub use keys::Keys;
-pub use line::read_request;
+pub use line::{finish, read_request};
 pub use request::{BlockFault, Head, Request, RequestCause, RequestFault, StoreHead, Verb};

@@ -1,20 +1,22 @@
-//! The line of a request.
+//! The line of a request, and the block behind that of a store.
 
-ghost use Rattle.std.specs.Prelude.{◌≡◌, ◌∷◌, ◌<◌, ◌^◌, [], false, map, Ok, IfOk, IfSome};
+ghost use Rattle.std.specs.Prelude.{◌≡◌, ◌∷◌, ◌+◌, ◌<◌, ◌≤◌, ◌^◌, [], false, length, map, is_some, Ok, IfOk, IfSome};
 ghost use Rattle.std.specs.Option.{option_map};
+ghost use Rattle.hk_base.specs.declared.data.TheConstants.{MAX_DATA_LEN};
+ghost use Rattle.hk_request.specs.Blocks.{IsFinished, op_of};
 ghost use Rattle.hk_request.specs.Fields.{Gives};
 ghost use Rattle.hk_request.specs.Words.{words_of};
 ghost use Rattle.hk_request.specs.Grammar.{IsHead, IsReadAs};
-ghost use Rattle.hk_request.specs.Heads.{HasItsTagIfStore};
-ghost use Rattle.hk_request.specs.Reading.{ReadsHead, IsWithin, IsWithinHead, head_of, head_of_words, asked_of, keys_of, get_of, store_of, untagged_of, cas_of, change_of, step_of, delete_of, deletion_of, alone_of, skip_of};
+ghost use Rattle.hk_request.specs.Heads.{HasItsTag, HasItsTagIfStore, is_cas};
+ghost use Rattle.hk_request.specs.Reading.{ReadsHead, IsWithin, IsWithinHead, head_of, head_of_words, asked_of, get_of, store_of, untagged_of, cas_of, change_of, step_of, delete_of, deletion_of, alone_of, skip_of};
 
-use crate::keys::Keys;
-use crate::request::{Head, Request, RequestCause, RequestFault, StoreHead, Verb};
+use crate::keys::{Keys, read_keys};
+use crate::request::{BlockFault, Head, Request, RequestCause, RequestFault, StoreHead, Verb};
 use crate::words::{
-    Command, Words, find_command, has_block, number, number_at, read_expiry, read_flags, read_key,
-    read_noreply, read_size, read_tag, split,
+    Command, Words, find_command, has_block, is, number, number_at, read_expiry, read_flags,
+    read_key, read_noreply, read_size, read_tag, split,
 };
-use hk_base::{Key, Op};
+use hk_base::{Content, Data, Key, Op};
 use std::alloc::Global;
 
 /// Reads a line, which is given without the two bytes that end it. The answer is what the grammar makes of its words,
@@ -160,21 +162,6 @@ fn read_get(alloc: Global, others: &[&[u8]], tags: bool) -> Result<Head, Request
     Ok(Head::Whole(Request::Get { keys, tags }))
 }
 
-fn read_keys(alloc: Global, others: &[&[u8]]) -> Result<Keys, RequestCause>
-    ensures { Gives result (keys_of (map (λ w. w.now) others.now)) }
-{
-    let Ok(mut keys) = Vec::with_capacity(alloc, others.len()) else {
-        return Err(RequestCause::Memory);
-    };
-    for word in others {
-        let key = read_key(alloc, word)?;
-        if keys.push(key).is_err() {
-            return Err(RequestCause::Memory);
-        }
-    }
-    Ok(Keys::from_vec(keys))
-}
-
 // A store without a tag.
 #[tactic(auto, unfolding(crate::specs::Reading::untagged_of))]
 fn read_untagged(alloc: Global, verb: Verb, others: &[&[u8]]) -> Result<Head, RequestCause>
@@ -307,4 +294,51 @@ fn read_deletion(alloc: Global, key: &[u8], noreply: bool) -> Result<Head, Reque
 {
     let key = read_key(alloc, key)?;
     Ok(update(key, Op::Delete, noreply))
+}
+
+/// The request of a head and its block, which has two bytes more than the head says. `BadEnd` comes exactly where
+/// these two are no carriage return and line feed.
+pub fn finish(alloc: Global, head: StoreHead, block: &[u8]) -> Result<Request, BlockFault>
+    requires within { head.bytes ≤ MAX_DATA_LEN }
+    requires whole { length block.now ≡ head.bytes + 2 }
+    requires its_tag { HasItsTag head }
+    ensures { IsFinished result head block.now }
+{
+    let StoreHead {
+        verb,
+        key,
+        flags,
+        tag,
+        bytes,
+        noreply,
+    } = head;
+    let (front, end) = block.split_at(bytes as usize);
+    if !is(end, b"\r\n") {
+        return Err(BlockFault::BadEnd);
+    }
+    let bytes = match Data::read(alloc, front) {
+        Ok(bytes) => bytes,
+        Err(_) => return Err(BlockFault::Memory),
+    };
+    Ok(Request::Update {
+        key,
+        op: op_of(verb, tag, Content { flags, bytes }),
+        noreply,
+    })
+}
+
+// The operation of a store. A cas has a tag.
+fn op_of(verb: Verb, tag: Option<u64>, content: Content) -> Op
+    requires { is_some tag ≡ is_cas verb }
+    ensures { result ≡ op_of verb tag content }
+{
+    match verb {
+        Verb::Set => Op::Write(content),
+        Verb::Cas => match tag {
+            Some(tag) => Op::Cas { tag, content },
+            None => unreachable!(),
+        },
+        Verb::Add => Op::Add(content),
+        Verb::Replace => Op::Replace(content),
+    }
 }

@@ -2,13 +2,13 @@
 
 use hk_assemble::{Gap, assemble, tickets_rise};
 use hk_base::{
-    Actor, Answer, Body, CallNo, Content, Data, Key, Kind, Letter, Letters, NodeId, Op, Replies,
-    Reply, Sequence, Stamp,
+    Actor, Answer, Body, CallNo, Content, Data, Key, Kind, Letter, Letters, NodeId, Op, Reply,
+    Sequence, Stamp,
 };
 use hk_event::Header;
 use hk_journal::JournalEntry;
 use hk_merge::{Journals, Note, Notes, same_letter};
-use hk_node::NodeEvent;
+use hk_node::{NodeEvent, StepReplies};
 use hk_safety::{Run, order_of};
 use hk_script::print_event;
 use std::alloc::Global;
@@ -81,7 +81,7 @@ fn entry(
         ticket,
         event,
         letters,
-        replies: Replies::new(alloc),
+        replies: StepReplies::nothing(),
     }
 }
 
@@ -102,13 +102,10 @@ fn receipt(rt: &impl Abort, alloc: Global) -> JournalEntry {
 fn completion(rt: &impl Abort, alloc: Global) -> JournalEntry {
     let event = NodeEvent::Receive(ack(rt, alloc));
     let mut entry = entry(rt, alloc, 3, event, Some(val(rt, alloc)));
-    entry
-        .replies
-        .push(Reply {
-            call: CallNo(1),
-            answer: Answer::Stored,
-        })
-        .expect(rt, "memory");
+    entry.replies = StepReplies::one(Reply {
+        call: CallNo(1),
+        answer: Answer::Stored,
+    });
     entry
 }
 

@@ -1,11 +1,11 @@
 //! What is written of the journals and notes of a storm of one node, one worker and one call, which is drawn from 1: a read of `k1`.
 
 use hk_base::{
-    Actor, Answer, Body, CallNo, Key, Letter, Letters, NodeId, Op, Replies, Reply, Sequence, Stamp,
+    Actor, Answer, Body, CallNo, Key, Letter, Letters, NodeId, Op, Reply, Sequence, Stamp,
 };
 use hk_journal::{Journal, JournalEntry};
 use hk_merge::Note;
-use hk_node::NodeEvent;
+use hk_node::{NodeEvent, StepReplies};
 use hk_outside::{MemorySink, Status};
 use hk_storm::{StormGroup, StormGroups, StormOpts, are_groups, conclude, is_storm};
 use std::alloc::Global;
@@ -15,7 +15,7 @@ fn key(rt: &impl Abort, alloc: Global, bytes: &[u8]) -> Key {
     Key::read(alloc, bytes).expect(rt, "a key")
 }
 
-fn entry(alloc: Global, ticket: u64, event: NodeEvent, replies: Replies) -> JournalEntry {
+fn entry(alloc: Global, ticket: u64, event: NodeEvent, replies: StepReplies) -> JournalEntry {
     JournalEntry {
         ticket,
         event,
@@ -24,14 +24,11 @@ fn entry(alloc: Global, ticket: u64, event: NodeEvent, replies: Replies) -> Jour
     }
 }
 
-fn told_missing(rt: &impl Abort, alloc: Global, call: u64) -> Replies {
-    let mut replies = Replies::new(alloc);
-    let reply = Reply {
+fn told_missing(call: u64) -> StepReplies {
+    StepReplies::one(Reply {
         call: CallNo(call),
         answer: Answer::Missing,
-    };
-    replies.push(reply).expect(rt, "memory");
-    replies
+    })
 }
 
 // A read of a key that holds nothing.
@@ -41,7 +38,7 @@ fn read_of(rt: &impl Abort, alloc: Global, ticket: u64, bytes: &[u8]) -> Journal
         key: key(rt, alloc, bytes),
         op: Op::Read,
     };
-    entry(alloc, ticket, event, told_missing(rt, alloc, ticket))
+    entry(alloc, ticket, event, told_missing(ticket))
 }
 
 // A VAL of node 0 to itself.
@@ -65,13 +62,13 @@ fn val(rt: &impl Abort, alloc: Global) -> Letter {
 // A VAL, which comes to node 0 though nobody sent it.
 fn forged(rt: &impl Abort, alloc: Global) -> JournalEntry {
     let event = NodeEvent::Receive(val(rt, alloc));
-    entry(alloc, 3, event, Replies::new(alloc))
+    entry(alloc, 3, event, StepReplies::nothing())
 }
 
 // Nothing is waiting there, so nothing is sent.
 fn resent(rt: &impl Abort, alloc: Global) -> JournalEntry {
     let event = NodeEvent::Resend(key(rt, alloc, b"k1"));
-    entry(alloc, 1, event, Replies::new(alloc))
+    entry(alloc, 1, event, StepReplies::nothing())
 }
 
 fn group(rt: &impl Abort, alloc: Global, journal: Journal) -> StormGroup {

@@ -29,10 +29,8 @@ mod laws;
 mod replaced;
 mod shard;
 mod show;
-mod step;
 
 pub use cells::ShardCells;
 pub use held::Held;
 pub use laws::{cells_show_the_part, leases_never_fall, local_reads_are_reads};
-pub use shard::{Shard, shard_of};
-pub use step::ShardOut;
+pub use shard::{Shard, ShardOut, shard_of};

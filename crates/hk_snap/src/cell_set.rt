@@ -23,7 +23,8 @@ use std::sync::Wait;
 /// How many cells a shard has.
 pub const CELLS: usize = 32;
 
-/// The cell in which a key's row is published: the sum of its bytes, divided by 8, modulo 32.
+/// The cell in which a key's row is published: the sum of its bytes, divided by `SHARDS`, modulo `CELLS`. So keys of one shard
+/// are spread over all its cells.
 pub fn cell_of(key: &Key) -> u8
     ensures cell { result ≡ cell_of key.now }
     ensures below { result < 32 }

@@ -1,34 +1,99 @@
-//! An ask of one operation at the shards of a node, and an update that waits there.
+//! How an operation is asked at the shards of a node: the number of its step, the step under the shard's lock, and what comes of that.
 
-ghost use Rattle.std.specs.Prelude.{◌≡◌, ◌≤◌, ◌<◌, ℕ, None, IfOk, OnErr};
+ghost use Rattle.std.specs.Prelude.{◌≡◌, ◌<◌, IfOk, OnErr};
 ghost use Rattle.std.specs.List.{AllByRecursion};
 ghost use Rattle.hk_base.specs.Range.{IsLetter};
 ghost use Rattle.hk_outside.specs.Desk.{Suits};
 ghost use Rattle.hk_locked.specs.Locked.{ReaderState};
 ghost use Rattle.hk_locked.specs.Makes.{CallsAt};
-ghost use Rattle.hk_locked.specs.Steps.{IsGrown, IsLeft, StartsAt, LooksOften, LooksOftenFor};
+ghost use Rattle.hk_locked.specs.Steps.{IsGrown, IsLeft, StartsAt};
 ghost use Rattle.hk_worker.specs.Moments.{WasCalled};
 ghost use Rattle.hk_worker.specs.Asking.{Tells};
-ghost use Rattle.hk_worker.specs.Opening.{FinishesAt, IsOpen, OpensAt, OpenedSuits};
+ghost use Rattle.hk_worker.specs.Opening.{IsOpen, OpensAt, OpenedSuits};
 ghost use Rattle.hk_worker.specs.Sending.{SendsOrFails};
 
 use crate::shards::Shards;
-use crate::waiting::{Patience, wait_for};
+use crate::waiting::{TURNS, give_up, wait, wait_for};
 use hk_base::{Actor, Answer, CallNo, Key, Memory, Op};
 use hk_callback::Completion;
 use hk_link::Outlet;
 use hk_locked::{LockedShard, Places, ShardReader, Started};
 use hk_outside::{Begun, DeskReply};
 use hk_overseer::{ring_all, send_all};
-use hk_told::AskState;
 use std::alloc::Global;
+use std::sync::atomic::{AtomicU64, Ordering};
 use std::sync::{MutexGuard, Wait};
 
-/// After so many looks the outcome of an update is told as unknown.
-pub const TURNS: u64 = 100_000;
+/// Gives the numbers of steps, which rise. All nodes of one program share one.
+#[derive(Drop)]
+pub struct Tickets {
+    next: AtomicU64,
+}
 
-// Once the patience is over, so many looks follow under one lock.
-const BURST: u64 = 1_000;
+impl Tickets {
+    /// The first number is 1. It takes no memory.
+    pub fn new() -> Tickets {
+        Tickets {
+            next: AtomicU64::new(1),
+        }
+    }
+
+    // Raises the next number by one, if it is still this one, which is below 2^64 - 1.
+    fn raise(&self, number: u64) -> bool {
+        self.next
+            .compare_exchange(
+                number,
+                number.saturating_add(1),
+                Ordering::SeqCst,
+                Ordering::SeqCst,
+            )
+            .is_ok()
+    }
+
+    /// The next number. 2^64 - 1 is given again and again. It takes no memory.
+    pub fn draw<R: Wait>(&self, rt: &R) -> u64 {
+        let number = self.next.load(Ordering::SeqCst);
+        if number == u64::MAX || self.raise(number) {
+            return number;
+        }
+        self.draw_late(rt)
+    }
+
+    // The same where another thread drew meanwhile.
+    fn draw_late<R: Wait>(&self, rt: &R) -> u64 {
+        for _ in rt.forever() {
+            let number = self.next.load(Ordering::SeqCst);
+            if number == u64::MAX || self.raise(number) {
+                return number;
+            }
+        }
+        unreachable!()
+    }
+
+    /// The next number above this one. It takes no memory, and waits for ever where there is none.
+    pub fn draw_above<R: Wait>(&self, rt: &R, past: u64) -> u64
+        ensures { past < result }
+    {
+        let number = self.draw(rt);
+        if past < number {
+            return number;
+        }
+        self.draw_above_late(rt, past)
+    }
+
+    // The same where the number that was drawn was not above it.
+    fn draw_above_late<R: Wait>(&self, rt: &R, past: u64) -> u64
+        ensures { past < result }
+    {
+        for _ in rt.forever() {
+            let number = self.draw(rt);
+            if past < number {
+                return number;
+            }
+        }
+        unreachable!()
+    }
+}
 
 /// An update that waits at a post: its key and operation, the number of its call, the ticket of the call's step, and since when it waits, in milliseconds that asks of
 /// the post have waited.
@@ -124,27 +189,6 @@ fn start<F: Completion + Copy + Drop, P: Places, R: Wait>(
     Ok(started)
 }
 
-// So many looks at the ask. Where no memory was found, nobody waits for what it is told.
-fn look<F: Completion + Copy + Drop, P: Places>(
-    held: &mut LockedShard<F, P>,
-    reader: &mut ShardReader<P>,
-    key: &Key,
-    call: CallNo,
-    ticket: u64,
-    looks: u64,
-) -> Result<AskState, Memory>
-    requires { 1 ≤ looks }
-    ensures looks { IfOk result (λ look. LooksOftenFor looks key.now ticket reader.old reader.new look) }
-    ensures grown { IsGrown key.now reader.old reader.new }
-    ensures left { OnErr result (IsLeft call held.new) }
-{
-    let Ok(look) = held.look_on(reader, key, call, ticket, looks) else {
-        held.give_up(call);
-        return Err(Memory);
-    };
-    Ok(look)
-}
-
 /// Waits a while until the key is Valid, and makes the call, under the shard's lock.
 pub(crate) fn begin<F: Completion + Copy + Drop, P: Places, R: Wait>(
     rt: &R,
@@ -165,76 +209,6 @@ pub(crate) fn begin<F: Completion + Copy + Drop, P: Places, R: Wait>(
     let mut held = lock_settled(rt, shards, outlets, reader.number(), key);
     let ticket = shards.tickets().draw_above(rt, held.last_ticket());
     start(rt, alloc, &mut *held, reader, ticket, call, key, op, tell)
-}
-
-// So many looks, under the shard's lock.
-fn turn<F: Completion + Copy + Drop, P: Places, R: Wait>(
-    rt: &R,
-    shards: &Shards<F, P>,
-    reader: &mut ShardReader<P>,
-    key: &Key,
-    call: CallNo,
-    ticket: u64,
-    looks: u64,
-) -> Result<AskState, Memory>
-    requires { 1 ≤ looks }
-    ensures looks { IfOk result (λ look. LooksOftenFor looks key.now ticket reader.old reader.new look) }
-    ensures grown { IsGrown key.now reader.old reader.new }
-{
-    let mut held = shards.lock_of(reader.number()).lock(rt);
-    look(&mut *held, reader, key, call, ticket, looks)
-}
-
-// How many of the looks that are left are made now.
-fn looks_now(patience: &Patience, left: u64) -> u64
-    requires { 1 ≤ left }
-    ensures some { 1 ≤ result }
-    ensures most { result ≤ left }
-{
-    if patience.is_over() {
-        return BURST.min(left);
-    }
-    1
-}
-
-// Looks until the ask of the call was told something, 100,000 times at most. Those that are left once its patience is over follow at once.
-fn wait<F: Completion + Copy + Drop, P: Places, R: Wait>(
-    rt: &R,
-    shards: &Shards<F, P>,
-    reader: &mut ShardReader<P>,
-    outlets: &[(Actor, Outlet)],
-    key: &Key,
-    call: CallNo,
-    ticket: u64,
-    patience: &mut Patience,
-) -> Result<Option<Answer>, Memory>
-    ensures waits { IfOk result (λ told. (turns : ℕ) × (told ≡ None → turns ≡ 100000) × LooksOften turns key.now ticket reader.old reader.new told) }
-    ensures grown { IsGrown key.now reader.old reader.new }
-{
-    let told = shards.told_to(call);
-    let mut looked = 0;
-    while looked < TURNS {
-        let seen = told.seen();
-        let looks = looks_now(patience, TURNS - looked);
-        match turn(rt, shards, reader, key, call, ticket, looks)? {
-            AskState::Told(answer) => return Ok(Some(answer)),
-            AskState::Waits => wait_for(rt, shards, outlets, key, told, seen, patience),
-            AskState::Gone => return Err(Memory),
-        }
-        looked += looks;
-    }
-    Ok(None)
-}
-
-// Nobody waits any more for what the call is told.
-fn give_up<F: Completion + Copy + Drop, P: Places, R: Wait>(
-    rt: &R,
-    shards: &Shards<F, P>,
-    shard: u8,
-    call: CallNo,
-) {
-    let mut held = shards.lock_of(shard).lock(rt);
-    held.give_up(call);
 }
 
 /// Asks an operation: waits a while until the key is Valid, makes the call, sends its letters, and where its update waits looks until it was told.
@@ -296,7 +270,7 @@ pub(crate) fn ask<F: Completion + Copy + Drop, P: Places, R: Wait>(
 
 /// What the step of a call came to: it was answered at once, or its update waits, and its letters are not rung for yet. Where no memory was found to keep what waits,
 /// the update has begun all the same, and nobody waits for what it is told.
-pub(crate) fn begun<F: Completion + Copy + Drop, P: Places, R: Wait>(
+pub(crate) fn tell_or_wait<F: Completion + Copy + Drop, P: Places, R: Wait>(
     rt: &R,
     shards: &Shards<F, P>,
     outlets: &[(Actor, Outlet)],
@@ -323,27 +297,4 @@ pub(crate) fn begun<F: Completion + Copy + Drop, P: Places, R: Wait>(
             Err(memory)
         }
     }
-}
-
-/// Rings for what was sent, and looks until an update that waits was told, or the patience is over.
-pub(crate) fn finish_ask<F: Completion + Copy + Drop, P: Places, R: Wait>(
-    rt: &R,
-    shards: &Shards<F, P>,
-    reader: &mut ShardReader<P>,
-    outlets: &[(Actor, Outlet)],
-    key: &Key,
-    call: CallNo,
-    ticket: u64,
-    patience: &mut Patience,
-) -> Result<DeskReply, Memory>
-    ensures finishes { IfOk result (λ reply. FinishesAt key.now ticket reader.old reader.new reply) }
-    ensures grown { IsGrown key.now reader.old reader.new }
-{
-    ring_all(rt, outlets);
-    let shard = reader.number();
-    if let Some(answer) = wait(rt, shards, reader, outlets, key, call, ticket, patience)? {
-        return Ok(DeskReply::Told(answer));
-    }
-    give_up(rt, shards, shard, call);
-    Ok(DeskReply::Unknown { turns: TURNS })
 }

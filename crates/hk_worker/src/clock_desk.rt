@@ -12,8 +12,9 @@ ghost use Rattle.hk_outside.specs.Desk.{BeginSuits, IsSettled, Suits, answers, s
 ghost use Rattle.hk_outside.specs.declared.desk.DeskReply.TheVariants.{Told};
 ghost use Rattle.hk_locked.specs.Locked.{ReaderState};
 ghost use Rattle.hk_locked.specs.Places.{NodeNames};
+ghost use Rattle.hk_locked.specs.Steps.{IsGrown};
 ghost use Rattle.hk_worker.specs.Asking.{AsksAtPost, PostState, Tells, reader_of};
-ghost use Rattle.hk_worker.specs.Reading.{AsksByClock, HasLooked, HasRisen, TellsByClock, TellsRead};
+ghost use Rattle.hk_worker.specs.Reading.{AsksByClock, HasLooked, HasRisen, TellsByClock, TellsRead, holds_by_lease};
 ghost use Rattle.hk_worker.specs.Sending.{Sends, SendsByClock};
 ghost use Rattle.hk_worker.specs.Opening.{BeginsAtPost, BeginsByClock, BeginSends, BeginSendsByClock, FinishesAtPost, OpenedSuits, begun_by_lease, told_by_lease};
 
@@ -21,12 +22,14 @@ use crate::asking::OpenAsk;
 use crate::desk::NodeDesk;
 use crate::desk_clock::DeskClock;
 use crate::post::Post;
-use crate::reading::{give, holds_by_lease, look, raise};
+use crate::reading::{give, look};
+use crate::shards::Shards;
 use hk_base::{Answer, Key, MAX_TIME, Memory, Op};
 use hk_callback::Completion;
-use hk_locked::Places;
+use hk_locked::{Places, ShardReader};
 use hk_outside::{Begun, Desk, DeskReply};
 use hk_shard::shard_of;
+use std::alloc::Global;
 use std::sync::{Arc, Wait};
 
 // A reading as it counts: one above the limit is the limit.
@@ -35,6 +38,52 @@ fn within(reading: u64) -> u64
     ensures below { result ≤ MAX_TIME }
 {
     reading.min(MAX_TIME)
+}
+
+// Whether the reader's shard was ticked to such a reading.
+fn has_ticked<P: Places>(reader: &ShardReader<P>, now: u64) -> bool
+    ensures { IsTrue result → now ≤ reader.now.lease.now }
+{
+    now <= reader.ticked()
+}
+
+// Raises the clock of the reader's shard to a reading, where that rose since the reader's last tick.
+fn raise<F: Completion + Copy + Drop, P: Places, R: Wait>(
+    rt: &R,
+    alloc: Global,
+    shards: &Shards<F, P>,
+    reader: &mut ShardReader<P>,
+    now: u64,
+) -> Result<(), Memory>
+    requires { now ≤ MAX_TIME }
+    ensures grown { (key : List ℕ) → IsGrown key reader.old reader.new }
+    ensures risen { OnOk result (now ≤ reader.new.lease.now) }
+{
+    if has_ticked(reader, now) {
+        return Ok(());
+    }
+    shards.tick(rt, alloc, reader, now)?;
+    Ok(())
+}
+
+// Whether the answer holds only while the lease runs: it tells what the key holds, and no update began.
+pub(crate) fn holds_by_lease(answer: &Answer) -> bool
+    ensures { result ≡ holds_by_lease answer.now }
+{
+    match answer {
+        Answer::Found { .. } => true,
+        Answer::Missing => true,
+        Answer::Exists => true,
+        Answer::NotFound => true,
+        Answer::NotNumber => true,
+        Answer::NotStored => true,
+        Answer::Exhausted(_) => true,
+        Answer::Stored => false,
+        Answer::Number(_) => false,
+        Answer::Deleted => false,
+        Answer::Aborted(_) => false,
+        Answer::Busy(_) => false,
+    }
 }
 
 // Whether what was told holds only while the lease runs.
@@ -209,6 +258,7 @@ impl<F: Completion + Copy + Drop, P: Places> Post<F, P> {
         let reading = clock.now();
         self.raise(rt, key, reading)?;
         let begun = self.begin(rt, key, op);
+        // what needs no lease is given as it is, without being moved once more
         if !begun_by_lease(&begun) {
             return begun;
         }

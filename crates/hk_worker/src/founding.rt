@@ -8,9 +8,9 @@ ghost use Rattle.hk_node.specs.Made.{founder, joiner};
 ghost use Rattle.hk_shard.specs.Shard.{IsNew};
 ghost use Rattle.hk_worker.specs.Founding.{AreOver, IsOver, names_of, names_of_cells};
 
+use crate::asking::Tickets;
 use crate::eight::{Eight, each_made};
 use crate::shards::Founded;
-use crate::tickets::Tickets;
 use crate::waiting::Waits;
 use hk_base::{Memory, NodeId, View};
 use hk_link::Bell;

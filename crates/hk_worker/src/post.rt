@@ -10,8 +10,9 @@ ghost use Rattle.hk_worker.specs.Sending.{Sends};
 ghost use Rattle.hk_worker.specs.Opening.{BeginsAtPost, BeginSends, FinishesAtPost, OpenedSuits};
 ghost use Rattle.hk_worker.specs.Working.{HasWorked, WereQuietBelow};
 
-use crate::asking::{OpenAsk, ask, begin, begun, finish_ask};
+use crate::asking::{OpenAsk, ask, begin, tell_or_wait};
 use crate::shards::Shards;
+use crate::waiting::finish_ask;
 use hk_base::{Actor, Answer, CallNo, Key, MAX_TIME, Memory, NodeId, Op, SHARDS};
 use hk_callback::Completion;
 use hk_link::Outlet;
@@ -177,7 +178,7 @@ impl<F: Completion + Copy + Drop, P: Places> Post<F, P> {
             letters,
         } = started;
         send_all(rt, &mut self.outlets, shard, letters);
-        begun(
+        tell_or_wait(
             rt,
             &self.shards,
             self.outlets.as_slice(),

@@ -22,16 +22,28 @@
 //! what was counted has passed. A thread that is woken again and again does not run out of looks before its time: behind 50,000 of them it sleeps where nobody
 //! can wake it.
 
+ghost use Rattle.std.specs.Prelude.{◌≡◌, ◌≤◌, ℕ, None, IfOk, OnErr};
+ghost use Rattle.hk_locked.specs.Steps.{IsGrown, IsLeft, LooksOften, LooksOftenFor};
+ghost use Rattle.hk_worker.specs.Opening.{FinishesAt};
+
 use crate::changes::Changes;
 use crate::shards::Shards;
-use hk_base::{Actor, Key};
+use hk_base::{Actor, Answer, CallNo, Key, Memory};
 use hk_callback::Completion;
 use hk_link::Outlet;
-use hk_locked::Places;
+use hk_locked::{LockedShard, Places, ShardReader};
+use hk_outside::DeskReply;
 use hk_overseer::ring_all;
+use hk_told::AskState;
 use std::sync::Wait;
 use std::sync::atomic::AtomicU64;
 use std::time::Duration;
+
+/// After so many looks the outcome of an update is told as unknown.
+pub const TURNS: u64 = 100_000;
+
+// Once the patience is over, so many looks follow under one lock.
+const BURST: u64 = 1_000;
 
 // So long, in milliseconds, an ask waits for what it is told at least, before its outcome is unknown, where nobody said for how long.
 const ANSWER: u64 = 2_000;
@@ -174,4 +186,118 @@ pub(crate) fn wait_for<F: Completion + Copy + Drop, P: Places, R: Wait>(
     if patience.is_to_ask() {
         shards.want(rt, key);
     }
+}
+
+// So many looks at the ask. Where no memory was found, nobody waits for what it is told.
+fn look<F: Completion + Copy + Drop, P: Places>(
+    held: &mut LockedShard<F, P>,
+    reader: &mut ShardReader<P>,
+    key: &Key,
+    call: CallNo,
+    ticket: u64,
+    looks: u64,
+) -> Result<AskState, Memory>
+    requires { 1 ≤ looks }
+    ensures looks { IfOk result (λ look. LooksOftenFor looks key.now ticket reader.old reader.new look) }
+    ensures grown { IsGrown key.now reader.old reader.new }
+    ensures left { OnErr result (IsLeft call held.new) }
+{
+    let Ok(look) = held.look_on(reader, key, call, ticket, looks) else {
+        held.give_up(call);
+        return Err(Memory);
+    };
+    Ok(look)
+}
+
+// So many looks, under the shard's lock.
+fn turn<F: Completion + Copy + Drop, P: Places, R: Wait>(
+    rt: &R,
+    shards: &Shards<F, P>,
+    reader: &mut ShardReader<P>,
+    key: &Key,
+    call: CallNo,
+    ticket: u64,
+    looks: u64,
+) -> Result<AskState, Memory>
+    requires { 1 ≤ looks }
+    ensures looks { IfOk result (λ look. LooksOftenFor looks key.now ticket reader.old reader.new look) }
+    ensures grown { IsGrown key.now reader.old reader.new }
+{
+    let mut held = shards.lock_of(reader.number()).lock(rt);
+    look(&mut *held, reader, key, call, ticket, looks)
+}
+
+// How many of the looks that are left are made now.
+fn looks_now(patience: &Patience, left: u64) -> u64
+    requires { 1 ≤ left }
+    ensures some { 1 ≤ result }
+    ensures most { result ≤ left }
+{
+    if patience.is_over() {
+        return BURST.min(left);
+    }
+    1
+}
+
+/// Looks until the ask of the call was told something, 100,000 times at most. Those that are left once its patience is over follow at once.
+pub(crate) fn wait<F: Completion + Copy + Drop, P: Places, R: Wait>(
+    rt: &R,
+    shards: &Shards<F, P>,
+    reader: &mut ShardReader<P>,
+    outlets: &[(Actor, Outlet)],
+    key: &Key,
+    call: CallNo,
+    ticket: u64,
+    patience: &mut Patience,
+) -> Result<Option<Answer>, Memory>
+    ensures waits { IfOk result (λ told. (turns : ℕ) × (told ≡ None → turns ≡ 100000) × LooksOften turns key.now ticket reader.old reader.new told) }
+    ensures grown { IsGrown key.now reader.old reader.new }
+{
+    let told = shards.told_to(call);
+    let mut looked = 0;
+    while looked < TURNS {
+        let seen = told.seen();
+        let looks = looks_now(patience, TURNS - looked);
+        match turn(rt, shards, reader, key, call, ticket, looks)? {
+            AskState::Told(answer) => return Ok(Some(answer)),
+            AskState::Waits => wait_for(rt, shards, outlets, key, told, seen, patience),
+            AskState::Gone => return Err(Memory),
+        }
+        looked += looks;
+    }
+    Ok(None)
+}
+
+/// Nobody waits any more for what the call is told.
+pub(crate) fn give_up<F: Completion + Copy + Drop, P: Places, R: Wait>(
+    rt: &R,
+    shards: &Shards<F, P>,
+    shard: u8,
+    call: CallNo,
+) {
+    let mut held = shards.lock_of(shard).lock(rt);
+    held.give_up(call);
+}
+
+/// Rings for what was sent, and looks until an update that waits was told, or the patience is over.
+pub(crate) fn finish_ask<F: Completion + Copy + Drop, P: Places, R: Wait>(
+    rt: &R,
+    shards: &Shards<F, P>,
+    reader: &mut ShardReader<P>,
+    outlets: &[(Actor, Outlet)],
+    key: &Key,
+    call: CallNo,
+    ticket: u64,
+    patience: &mut Patience,
+) -> Result<DeskReply, Memory>
+    ensures finishes { IfOk result (λ reply. FinishesAt key.now ticket reader.old reader.new reply) }
+    ensures grown { IsGrown key.now reader.old reader.new }
+{
+    ring_all(rt, outlets);
+    let shard = reader.number();
+    if let Some(answer) = wait(rt, shards, reader, outlets, key, call, ticket, patience)? {
+        return Ok(DeskReply::Told(answer));
+    }
+    give_up(rt, shards, shard, call);
+    Ok(DeskReply::Unknown { turns: TURNS })
 }

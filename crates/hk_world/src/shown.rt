@@ -1,7 +1,7 @@
 //! What an event shows.
 
-use hk_base::{CallNo, Letters, NodeId, Replies, View};
-use hk_node::Report;
+use hk_base::{CallNo, Letters, NodeId, View};
+use hk_node::{Report, StepReplies};
 
 /// A node that acted, and what the event did to it.
 #[derive(Drop)]
@@ -26,7 +26,7 @@ pub struct Shown {
     /// The letters that were sent, in the order of their numbers.
     pub letters: Letters,
     /// The calls that were answered, in key order.
-    pub replies: Replies,
+    pub replies: StepReplies,
     /// The node that acted, and what the event did to it. None where no node did.
     pub acted: Option<Acted>,
 }

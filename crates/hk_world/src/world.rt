@@ -22,7 +22,7 @@ use crate::fault::WorldFault;
 use crate::laws::worlds_stay_sound;
 use crate::process::{ManagerProcess, Process};
 use crate::shown::Shown;
-use founders::{founders, founding_clocks, founding_managers, founding_view};
+use founders::{founders, founding_clocks, founding_managers};
 use hk_base::{Letter, Memory, NodeId, View};
 use hk_clocks::Clocks;
 use hk_event::{Event, Header};
@@ -69,7 +69,7 @@ impl World {
         ensures { IfOk result (λ world. world ≡ start header) }
     {
         worlds_stay_sound();
-        let view = founding_view(alloc, header)?;
+        let view = View::first(alloc, header.nodes)?;
         let processes = founders(alloc, header, &view)?;
         let managers = founding_managers(alloc, header, &view)?;
         let clocks = founding_clocks(alloc, header)?;

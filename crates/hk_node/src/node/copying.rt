@@ -7,10 +7,9 @@ ghost use Rattle.hk_node.specs.Copies.{told, asks_copy, gives_copy};
 ghost use Rattle.hk_node.specs.Outs.{IsOutOf};
 
 use super::Node;
-use crate::letters::post;
-use crate::out::NodeOut;
+use crate::out::{NodeOut, StepReplies, post};
 use crate::report::Undo;
-use hk_base::{Body, Key, Letters, Memory, NodeId, Replies, share_key};
+use hk_base::{Body, Key, Letters, Memory, NodeId, share_key};
 use hk_copy::batch;
 use std::alloc::Global;
 
@@ -25,7 +24,7 @@ impl Node {
         };
         let mut letters = Letters::new(alloc);
         post(&mut letters, self.id, view, to, body)?;
-        Ok(self.tells(alloc, letters, Replies::new(alloc), Undo::Nothing))
+        Ok(self.tells(alloc, letters, StepReplies::nothing(), Undo::Nothing))
     }
 
     /// Asks another member for the rows behind the last one that was copied. A ready node does not.

@@ -11,11 +11,10 @@ ghost use Rattle.hk_node.specs.Report.{IsMade, rows_report};
 ghost use Rattle.hk_node.specs.Outs.{IsOutOf, IsOutOfRow};
 
 use super::{Node, epoch_in};
-use crate::letters::{post_sent, replies};
-use crate::out::NodeOut;
+use crate::out::{NodeOut, StepReplies, post_sent, replies};
 use crate::put::{change_row, drop_closed_row, list_opened, list_row, put_first};
 use crate::report::{PriorRows, Report, Undo};
-use hk_base::{Answer, CallNo, Key, Letters, Memory, NodeId, Replies, Reply, View};
+use hk_base::{Answer, CallNo, Key, Letters, Memory, NodeId, Reply, View};
 use hk_key::{BoxedRow, Out, Row};
 use std::alloc::Global;
 use std::collections::BTreeSet;
@@ -40,7 +39,7 @@ pub(super) fn put_stepped(
 {
     let mut letters = Letters::new(alloc);
     post_sent(&mut letters, id, view, key, &row, &out.send)?;
-    let replies = replies(alloc, key, out.reply)?;
+    let replies = replies(key, out.reply);
     let old = place.get().state;
     let new = row.state;
     list_opened(index, key, old, &row)?;
@@ -65,7 +64,7 @@ impl Node {
         &self,
         alloc: Global,
         letters: Letters,
-        replies: Replies,
+        replies: StepReplies,
         undo: Undo,
     ) -> NodeOut
         ensures letters { result.letters ≡ letters }
@@ -97,7 +96,7 @@ impl Node {
         ensures undo { result.undo ≡ undo }
         ensures node { IsNode self.now }
     {
-        self.tells(alloc, Letters::new(alloc), Replies::new(alloc), undo)
+        self.tells(alloc, Letters::new(alloc), StepReplies::nothing(), undo)
     }
 
     /// Nothing happens. It takes no memory.
@@ -108,18 +107,11 @@ impl Node {
     }
 
     /// A call is answered at once, and nothing changes.
-    pub(super) fn answers(
-        &self,
-        alloc: Global,
-        key: &Key,
-        call: CallNo,
-        answer: Answer,
-    ) -> Result<NodeOut, Memory>
-        ensures { IfOk result (λ out. IsOutOf out self.now (answers self.now key.now call answer)) }
+    pub(super) fn answers(&self, alloc: Global, key: &Key, call: CallNo, answer: Answer) -> NodeOut
+        ensures { IsOutOf result self.now (answers self.now key.now call answer) }
     {
-        let mut told = Replies::new(alloc);
-        told.push(Reply { call, answer })?;
-        Ok(self.tells(alloc, Letters::new(alloc), told, Undo::Nothing))
+        let told = StepReplies::one(Reply { call, answer });
+        self.tells(alloc, Letters::new(alloc), told, Undo::Nothing)
     }
 
     /// The first row of a key made a step: its letters and its reply are made, and last it is put in its place.
@@ -144,7 +136,7 @@ impl Node {
         let epoch = self.epoch();
         let mut letters = Letters::new(alloc);
         post_sent(&mut letters, self.id, view, key, &row, &out.send)?;
-        let replies = replies(alloc, key, out.reply)?;
+        let replies = replies(key, out.reply);
         list_row(&mut self.index, key, &row)?;
         let rows = put_first(&mut self.rows, alloc, key, row)?;
         Ok(NodeOut {

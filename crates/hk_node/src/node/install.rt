@@ -8,7 +8,7 @@ ghost use Rattle.hk_node.specs.Outs.{IsOutOf};
 
 use super::Node;
 use crate::heard::share;
-use crate::out::NodeOut;
+use crate::out::{NodeOut, StepReplies};
 use crate::put::{give_rows_back, mend};
 use crate::report::{Report, Undo};
 use crate::viewed::view_rows;
@@ -48,7 +48,7 @@ impl Node {
         give_rows_back(&mut self.rows, viewed.fresh.into_vec());
         Ok(NodeOut {
             letters: viewed.letters,
-            replies: viewed.replies,
+            replies: StepReplies::many(viewed.replies),
             installed: Some(view.epoch),
             report: Report {
                 epoch,

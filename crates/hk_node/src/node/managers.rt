@@ -14,9 +14,9 @@ ghost use Rattle.hk_node.specs.Outs.{IsOutOf};
 
 use super::Node;
 use crate::heard::{has_majority, is_greatest, raised};
-use crate::out::NodeOut;
+use crate::out::{NodeOut, StepReplies};
 use crate::report::Undo;
-use hk_base::{Actor, Body, Letter, Letters, Memory, Replies, Sequence, View};
+use hk_base::{Actor, Body, Letter, Letters, Memory, Sequence, View};
 use hk_lease::node_end;
 use std::alloc::Global;
 use std::mem;
@@ -166,6 +166,6 @@ impl Node {
         }
         let mut letters = Letters::new(alloc);
         letters.push(self.lease_ask(manager))?;
-        Ok(self.tells(alloc, letters, Replies::new(alloc), Undo::Nothing))
+        Ok(self.tells(alloc, letters, StepReplies::nothing(), Undo::Nothing))
     }
 }

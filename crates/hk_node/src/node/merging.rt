@@ -14,10 +14,10 @@ ghost use Rattle.hk_node.specs.Copying.{IsQuiet, IsMerge, change_of, put_change,
 ghost use Rattle.hk_node.specs.Outs.{IsOutOf};
 
 use super::Node;
-use crate::out::NodeOut;
+use crate::out::{NodeOut, StepReplies};
 use crate::put::{give_rows_back, list_rows, swap_row};
 use crate::report::{PriorRow, PriorRows, Report, Undo};
-use hk_base::{CopyItem, CopyItems, Key, Letters, Memory, NodeId, Replies, share_key};
+use hk_base::{CopyItem, CopyItems, Key, Letters, Memory, NodeId, share_key};
 use hk_key::{BoxedRow, Row};
 use std::alloc::Global;
 use std::collections::BTreeMap;
@@ -198,7 +198,7 @@ impl Node {
         self.ready = done;
         Ok(NodeOut {
             letters: Letters::new(alloc),
-            replies: Replies::new(alloc),
+            replies: StepReplies::nothing(),
             installed: None,
             report: Report {
                 epoch,

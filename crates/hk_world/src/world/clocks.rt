@@ -14,10 +14,10 @@ use super::post::nothing;
 use super::scan::{tick_live, tick_managers};
 use crate::fault::WorldFault;
 use crate::shown::{Acted, Shown};
-use hk_base::{Actor, Letters, NodeId, Replies};
+use hk_base::{Actor, Letters, NodeId};
 use hk_event::Refused;
 use hk_manager::steps_keep_managers;
-use hk_node::{Node, NodeEvent, Report, steps_keep_nodes};
+use hk_node::{Node, NodeEvent, Report, StepReplies, steps_keep_nodes};
 use std::alloc::Global;
 
 // The clock of a node rises. It takes no memory.
@@ -43,7 +43,7 @@ fn rested(alloc: Global, node: NodeId, report: Report) -> Shown
         installed: None,
         first_letter: 0,
         letters: Letters::new(alloc),
-        replies: Replies::new(alloc),
+        replies: StepReplies::nothing(),
         acted: Some(Acted { node, report }),
     }
 }

@@ -19,13 +19,6 @@ use hk_node::Node;
 use std::alloc::Global;
 use std::collections::BTreeMap;
 
-/// The first view.
-pub(super) fn founding_view(alloc: Global, header: Header) -> Result<View, Memory>
-    ensures { IfOk result (λ view. view ≡ founding_view header) }
-{
-    View::first(alloc, header.nodes)
-}
-
 /// The founders, each in the first view.
 pub(super) fn founders(
     alloc: Global,

@@ -10,8 +10,9 @@ ghost use Rattle.hk_world.specs.Posted.{manager_posted};
 use super::numbers::numbered;
 use super::post::{Sent, first_number, send};
 use crate::shown::Shown;
-use hk_base::{Letter, Letters, Memory, Replies, View};
+use hk_base::{Letter, Letters, Memory, View};
 use hk_manager::{Manager, ManagerOut};
+use hk_node::StepReplies;
 use std::alloc::Global;
 
 // The epoch of the last view.
@@ -105,7 +106,7 @@ pub(super) fn post_of_manager(
             installed: None,
             first_letter,
             letters: told.letters,
-            replies: Replies::new(alloc),
+            replies: StepReplies::nothing(),
             acted: None,
         }),
         Err(error) => {

@@ -12,8 +12,8 @@ ghost use Rattle.hk_world.specs.Steps.{nothing, first_number, view_of};
 ghost use Rattle.hk_world.specs.Posted.{posted};
 
 use crate::shown::{Acted, Shown};
-use hk_base::{CallNo, Letter, Letters, Memory, NodeId, Replies, View};
-use hk_node::{Node, NodeOut};
+use hk_base::{CallNo, Letter, Letters, Memory, NodeId, View};
+use hk_node::{Node, NodeOut, StepReplies};
 use std::alloc::Global;
 
 /// Nothing is shown.
@@ -27,7 +27,7 @@ pub(super) fn nothing(alloc: Global) -> Shown
         installed: None,
         first_letter: 0,
         letters: Letters::new(alloc),
-        replies: Replies::new(alloc),
+        replies: StepReplies::nothing(),
         acted: None,
     }
 }

@@ -9,8 +9,9 @@ ghost use Rattle.hk_world.specs.Sound.{IsStepOf};
 use super::World;
 use crate::fault::WorldFault;
 use crate::shown::Shown;
-use hk_base::{Change, Letters, Members, Memory, NodeId, Replies, View};
+use hk_base::{Change, Letters, Members, Memory, NodeId, View};
 use hk_event::Refused;
+use hk_node::StepReplies;
 use std::alloc::Global;
 
 // The members but one.
@@ -84,7 +85,7 @@ fn agreed(alloc: Global, view: View) -> Shown
         installed: None,
         first_letter: 0,
         letters: Letters::new(alloc),
-        replies: Replies::new(alloc),
+        replies: StepReplies::nothing(),
         acted: None,
     }
 }

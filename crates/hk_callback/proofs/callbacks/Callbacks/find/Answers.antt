@@ -4,7 +4,7 @@ use Rattle.hk_callback.proofs.callbacks.Callbacks.find.Goals as goal
 
 pub returns-then-is_newest : goal.returns-then-is_newest
 returns-then-is_newest g c =
-    c.done_of.ensures ∙ rw (sym c.self.view_is) (find_newest c.args.call c.self.inside.newest c.self.inside.kept.entries (sym c.is_newest.ensures ∙ c.if-is_newest.true))
+    c.newest_completion.ensures ∙ rw (sym c.self.view_is) (find_newest c.args.call c.self.inside.newest c.self.inside.kept.entries (sym c.is_newest.ensures ∙ c.if-is_newest.true))
 
 pub returns : goal.returns
 returns g c = c.get.ensures.value ∙ rw (sym c.self.view_is) (find_kept c.args.call c.self.inside.newest c.self.inside.kept.entries (sym c.is_newest.ensures ∙ c.if-is_newest.false))

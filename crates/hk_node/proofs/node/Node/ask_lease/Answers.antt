@@ -10,4 +10,4 @@ returns-clause-out c =
     out_as c.tells.result c.args.self.now (asking c.args.self.now c.args.manager) _ (asks_one c.args.self.now c.args.manager there)
     (out_of_still c.args.self.now (asking c.args.self.now c.args.manager) c.tells.result c.tells.ensures.node refl
     (c.tells.ensures.letters ∙ c.in_ok-push.ensures.ok ∙ ap (λ (l : List Letter). l ++ c.lease_ask.result ∷ []) c.new-letters.ensures ∙ ap (λ (l : Letter). l ∷ []) c.lease_ask.ensures)
-    (c.tells.ensures.replies ∙ c.new.ensures) c.tells.ensures.installed c.tells.ensures.undo c.tells.ensures.report)
+    (c.tells.ensures.replies ∙ c.nothing.ensures) c.tells.ensures.installed c.tells.ensures.undo c.tells.ensures.report)

@@ -56,19 +56,16 @@ invariant_of-self-in-Begin c =
 pub returns-in-Now-clause-node : goal.returns-in-Now-clause-node
 returns-in-Now-clause-node c =
     let over : nat_lt (lease_end c.args.self.now) (c.args.self.now.clock + c.args.self.now.skew) ≡ false = search rules in
-    subst (λ (n : NodeState). OnOk c.answers-in-Now.result (n ≡ (called c.args.self.now c.args.call c.args.key.now c.args.op.now).node)) (sym (node_still _ c.args.self.now c.self.inside.index.keys c.self.inside.index.keys c.self.inside.whole c.args.key.now c.in-Some-get_mut.place.now c.in-Some-get_mut.place.now _ c.self.view_is c.self.invariant c.in-Some-get_mut.ensures.value (c.get_mut.follows.holds c.in-Some-get_mut.place.now).0 refl))
-    (answered_now c.answers-in-Now.result c.args.self.now c.args.call c.args.key.now c.args.op.now c.in-Now.answer over
+    subst (λ (n : NodeState). n ≡ (called c.args.self.now c.args.call c.args.key.now c.args.op.now).node) (sym (node_still _ c.args.self.now c.self.inside.index.keys c.self.inside.index.keys c.self.inside.whole c.args.key.now c.in-Some-get_mut.place.now c.in-Some-get_mut.place.now _ c.self.view_is c.self.invariant c.in-Some-get_mut.ensures.value (c.get_mut.follows.holds c.in-Some-get_mut.place.now).0 refl))
+    (answered_now (Ok c.answers-in-Now.result) c.args.self.now c.args.call c.args.key.now c.args.op.now c.in-Now.answer over
     (sym (ap (λ d. decided d c.args.self.now c.args.call c.args.key.now) c.in-Now.is) ∙ decides_found (Ok c.in_ok-answer.field-0) _ c.args.self.now c.args.key.now c.args.op.now c.get.result.now c.self.view_is (found_now _ c.args.self.now c.args.key.now _ c.self.view_is c.in-Some-get_mut.ensures.value ∙ ap Some (sym c.get.ensures)) c.in_ok-answer.ensures.step c.args.call))
 
 pub returns-in-Now-clause-out : goal.returns-in-Now-clause-out
 returns-in-Now-clause-out c =
     let over : nat_lt (lease_end c.args.self.now) (c.args.self.now.clock + c.args.self.now.skew) ≡ false = search rules in
-    answered_out c.answers-in-Now.result c.args.self.now c.args.call c.args.key.now c.args.op.now c.in-Now.answer over
+    answered_out (Ok c.answers-in-Now.result) c.args.self.now c.args.call c.args.key.now c.args.op.now c.in-Now.answer over
     (sym (ap (λ d. decided d c.args.self.now c.args.call c.args.key.now) c.in-Now.is) ∙ decides_found (Ok c.in_ok-answer.field-0) _ c.args.self.now c.args.key.now c.args.op.now c.get.result.now c.self.view_is (found_now _ c.args.self.now c.args.key.now _ c.self.view_is c.in-Some-get_mut.ensures.value ∙ ap Some (sym c.get.ensures)) c.in_ok-answer.ensures.step c.args.call)
-    (subst (λ (n : NodeState). IfOk c.answers-in-Now.result (λ out. IsOutOf out n (answers n c.args.key.now c.args.call c.in-Now.answer))) (node_still _ c.args.self.now c.self.inside.index.keys c.self.inside.index.keys c.self.inside.whole c.args.key.now c.in-Some-get_mut.place.now c.in-Some-get_mut.place.now _ c.self.view_is c.self.invariant c.in-Some-get_mut.ensures.value (c.get_mut.follows.holds c.in-Some-get_mut.place.now).0 refl) c.answers-in-Now.ensures)
-
-pub returns-in-Now-clause-err : goal.returns-in-Now-clause-err
-returns-in-Now-clause-err c = on_err c.answers-in-Now.result _ (node_still _ c.args.self.now c.self.inside.index.keys c.self.inside.index.keys c.self.inside.whole c.args.key.now c.in-Some-get_mut.place.now c.in-Some-get_mut.place.now _ c.self.view_is c.self.invariant c.in-Some-get_mut.ensures.value (c.get_mut.follows.holds c.in-Some-get_mut.place.now).0 refl)
+    (subst (λ (n : NodeState). IsOutOf c.answers-in-Now.result n (answers n c.args.key.now c.args.call c.in-Now.answer)) (node_still _ c.args.self.now c.self.inside.index.keys c.self.inside.index.keys c.self.inside.whole c.args.key.now c.in-Some-get_mut.place.now c.in-Some-get_mut.place.now _ c.self.view_is c.self.invariant c.in-Some-get_mut.ensures.value (c.get_mut.follows.holds c.in-Some-get_mut.place.now).0 refl) c.answers-in-Now.ensures)
 
 pub returns-in_ok-told-in-Begin-clause-node : goal.returns-in_ok-told-in-Begin-clause-node
 returns-in_ok-told-in-Begin-clause-node c =

@@ -11,7 +11,7 @@ pub returns-clause-out : goal.returns-clause-out
 returns-clause-out c = finished c.args.self.now _ c.in-Some.view c.args.key.now (record { row = c.args.row; out = c.args.out }) _
     c.self.view_is (search rules) c.self.invariant.node (subst (λ (n : NodeState). IsMade n.rows c.args.key.now c.args.row) (sym c.self.view_is) c.requires.made)
     (c.in_ok-post_sent.ensures ∙ ap (λ l. l ++ sent (at_view c.self.inside.id c.in-Some.view) c.args.key.now c.args.row c.args.out.send) c.new-letters.ensures)
-    c.in_ok-replies.ensures refl refl (report_as _ c.args.self.now c.epoch-epoch.result false c.in_ok-rows.rows _ c.self.view_is c.epoch-epoch.ensures c.in_ok-rows.ensures.prior)
+    c.replies-replies.ensures refl refl (report_as _ c.args.self.now c.epoch-epoch.result false c.in_ok-rows.rows _ c.self.view_is c.epoch-epoch.ensures c.in_ok-rows.ensures.prior)
 
 pub invariant_of-self-2 : goal.invariant_of-self-2
 invariant_of-self-2 c = record {

@@ -49,7 +49,7 @@ returns-clause-node c = install_node _ c.args.view.now c.self.invariant.node c.r
 pub returns-clause-out : goal.returns-clause-out
 returns-clause-out c = let told : NodeOut = record {
   letters = c.in_ok-viewed.viewed.letters;
-  replies = c.in_ok-viewed.viewed.replies;
+  replies = c.many.result;
   installed = Some c.args.view.now.epoch;
   report = record { epoch = c.epoch-epoch.result; readied = false; rows = c.in_ok-viewed.viewed.prior };
   undo = Undo.View c.replace-view_before.result c.replace-activated_before.result;
@@ -58,5 +58,5 @@ returns-clause-out c = let told : NodeOut = record {
     (install_out _ c.args.view.now c.self.invariant.node c.requires.view
     (subst (λ (n : NodeState). (nat_lt (epoch_of n) c.args.view.now.epoch && is_member n.id c.args.view.now.members) ≡ true) (sym c.self.view_is) c.requires.later)
     c.args.activated (subst (λ (n : NodeState). length c.args.activated ≡ n.managers) (sym c.self.view_is) c.requires.activated)
-    told c.in_ok-viewed.viewed.prior c.in_ok-viewed.ensures.letters c.in_ok-viewed.ensures.replies refl (beside_is _ _ _ _ c.replace-view_before.ensures.value c.replace-activated_before.ensures.value)
+    told c.in_ok-viewed.viewed.prior c.in_ok-viewed.ensures.letters (c.many.ensures ∙ c.in_ok-viewed.ensures.replies) refl (beside_is _ _ _ _ c.replace-view_before.ensures.value c.replace-activated_before.ensures.value)
     (report_as _ c.args.self.now c.epoch-epoch.result false c.in_ok-viewed.viewed.prior _ c.self.view_is c.epoch-epoch.ensures refl) c.in_ok-viewed.ensures.prior)

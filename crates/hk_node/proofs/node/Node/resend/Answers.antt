@@ -27,4 +27,4 @@ returns-clause-out c = resent_told _ c.args.self.now c.in-Some.view c.args.key.n
     (found_now _ c.args.self.now c.args.key.now _ c.self.view_is c.in-Some-get.ensures.value ∙ ap Some (sym c.get-row.ensures))
     (c.tells.ensures.letters ∙ c.in_ok-post_sent.ensures ∙ ap (λ l. l ++ sent (at_view c.self.inside.id c.in-Some.view) c.args.key.now c.get-row.result.now c.resend-out.result.send) c.new-letters.ensures
     ∙ ap (λ o. sent (at_view c.self.inside.id c.in-Some.view) c.args.key.now c.get-row.result.now o.send) c.resend-out.ensures)
-    (c.tells.ensures.replies ∙ c.new.ensures) c.tells.ensures.installed c.tells.ensures.undo (c.tells.ensures.report ∙ sym (ap (λ (n : NodeState). rows_report n []) c.self.view_is))
+    (c.tells.ensures.replies ∙ c.nothing.ensures) c.tells.ensures.installed c.tells.ensures.undo (c.tells.ensures.report ∙ sym (ap (λ (n : NodeState). rows_report n []) c.self.view_is))

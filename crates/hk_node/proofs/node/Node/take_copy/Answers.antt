@@ -39,5 +39,5 @@ returns-clause-out c =
     let next : is_next c.args.after.now c.self.inside.cursor ≡ true = search rules in
     let unready : c.self.inside.ready ≡ false = search rules in
     taken_told _ c.args.self.now c.args.after.now c.args.done c.args.items.now c.in_ok-changes.changes.entries _ c.self.view_is c.self.invariant.node unready next c.in_ok-changes.ensures
-    c.new.ensures c.new-2.ensures refl (ap Cursor c.replace-cursor.ensures.value)
+    c.new.ensures c.nothing.ensures refl (ap Cursor c.replace-cursor.ensures.value)
     (report_as _ c.args.self.now c.epoch-epoch.result c.args.done c.from_vec.result _ c.self.view_is c.epoch-epoch.ensures (c.from_vec.ensures ∙ c.in_ok-prior.ensures.prior))

@@ -9,5 +9,5 @@ pub returns : goal.returns
 returns c = record {
   out = told_out _ c.args.self.now c.in-Some.view c.args.body c.args.to c.tells.result c.self.view_is (search rules)
       (c.tells.ensures.letters ∙ c.in_ok-post.ensures ∙ ap (λ l. l ++ letters_to (at_view c.self.inside.id c.in-Some.view) c.args.body (c.args.to ∷ [])) c.new-letters.ensures)
-      (c.tells.ensures.replies ∙ c.new.ensures) c.tells.ensures.installed c.tells.ensures.undo (c.tells.ensures.report ∙ sym (ap (λ (n : NodeState). rows_report n []) c.self.view_is)) c.self.invariant.node;
+      (c.tells.ensures.replies ∙ c.nothing.ensures) c.tells.ensures.installed c.tells.ensures.undo (c.tells.ensures.report ∙ sym (ap (λ (n : NodeState). rows_report n []) c.self.view_is)) c.self.invariant.node;
 }

@@ -1,5 +1,5 @@
-use Rattle.std.proofs.Common.{sym, ap, ◌∙◌}
-use Rattle.hk_told.proofs.Apart.{is_apart, at_itself}
+use Rattle.std.proofs.Common.{sym, ◌∙◌}
+use Rattle.hk_told.proofs.Apart.{is_apart}
 use Rattle.hk_told.proofs.Newest.{apart_one}
 use Rattle.hk_told.proofs.asks.Asks.keep.Goals as goal
 
