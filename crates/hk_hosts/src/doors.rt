@@ -8,7 +8,7 @@ use crate::address::Address;
 use crate::conn::{HostConnection, Patient};
 use hk_outside::{Failed, MemoryDoors};
 use std::alloc::Global;
-use std::net::{Net, OpenListener, TcpListener, TcpStream};
+use std::net::{Net, TcpListener, TcpStream, ToSocketAddrs};
 
 /// What connections come through.
 pub trait DoorsAt {
@@ -102,12 +102,17 @@ impl<R: Net<Listener = TcpListener, Stream = TcpStream> + Copy> HostDoors<R> {
     }
 }
 
-// Opens the port of an address.
+// Opens the first of these ports that can be opened. As many clients as the system allows may wait for `accept`: of a hundred that come at once the last would else try again a
+// second later.
 fn bound<R: Net<Listener = TcpListener, Stream = TcpStream>>(
     rt: &R,
     address: &Address,
 ) -> Option<TcpListener> {
-    TcpListener::bind(rt, (address.bare_host()?, address.port)).ok()
+    let mut addrs = (address.bare_host()?, address.port).to_socket_addrs(rt).ok()?;
+    let listener = addrs.find_map(|addr| mio::net::TcpListener::bind(rt, addr).ok())?;
+    let listener = TcpListener::from(listener);
+    listener.set_nonblocking(false).ok()?;
+    Some(listener)
 }
 
 impl<R: Net<Listener = TcpListener, Stream = TcpStream> + Copy> DoorsAt for HostDoors<R> {
