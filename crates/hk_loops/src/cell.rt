@@ -22,12 +22,18 @@ const HAS_TURN: u64 = 1;
 // The same, and meanwhile it became ready once more.
 const READY_AGAIN: u64 = 2;
 
-// A connection between two turns.
+// A connection, and what was said over it.
 #[derive(Drop)]
-struct Client<N: Drop, W: Drop> {
+struct Talk<N: Drop, W: Drop> {
     conn: N,
     exchange: Exchange<W>,
-    ghost sound: { IsExchange exchange } by { IsExchange-prop exchange },
+}
+
+// A connection between two turns. For each turn it is taken out of its cell: that moves one word.
+#[derive(Drop)]
+struct Client<N: Drop, W: Drop> {
+    talk: Box<Talk<N, W>>,
+    ghost sound: { IsExchange talk.value.exchange } by { IsExchange-prop talk.value.exchange },
 }
 
 /// A connection of an event loop, which one thread serves at a time.
@@ -58,23 +64,21 @@ impl<N: PromptConnection + Drop, W: Drop> Client<N, W> {
         requires room { 0 < length room.old }
         ensures { length room.new ≡ length room.old }
     {
-        let Client {
-            mut conn,
-            mut exchange,
-        } = self;
+        let Client { mut talk } = self;
+        let Talk { conn, exchange } = &mut *talk;
         match take_turn(
             rt,
             alloc,
-            &mut conn,
+            conn,
             desk,
-            &mut exchange,
+            exchange,
             room,
             others,
             patience,
             ends,
         ) {
             Ok(Turned::Over) => (Turned::Over, None),
-            Ok(turned) => (turned, Some(Client { conn, exchange })),
+            Ok(turned) => (turned, Some(Client { talk })),
             Err(_) => (Turned::Over, None),
         }
     }
@@ -84,11 +88,12 @@ impl<N: PromptConnection + Drop, W: Drop> Cell<N, W> {
     /// A new connection, at this place.
     pub(crate) fn new(alloc: Global, place: usize, conn: N) -> Result<Cell<N, W>, Memory> {
         let exchange = Exchange::new(alloc)?;
+        let talk = Box::new(alloc, Talk { conn, exchange })?;
         Ok(Cell {
             place,
             turn: AtomicU64::new(RESTS),
             ends: AtomicBool::new(false),
-            client: Mutex::new(Some(Client { conn, exchange })),
+            client: Mutex::new(Some(Client { talk })),
         })
     }
 
