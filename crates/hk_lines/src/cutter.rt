@@ -185,6 +185,9 @@ impl Cutter {
         ensures within { IfSome result (λ n. n + 2 ≤ length self.old.unread) }
         ensures fits { IfSome result (λ n. n + 2 < 2 ^ 64) }
     {
+        if self.buffer.unread_len() == 0 {
+            return None;
+        }
         let end = line_end(self.window(), self.searched);
         if end.is_none() {
             self.searched = self.window().len();
