@@ -108,7 +108,9 @@ fn bound<R: Net<Listener = TcpListener, Stream = TcpStream>>(
     rt: &R,
     address: &Address,
 ) -> Option<TcpListener> {
-    let mut addrs = (address.bare_host()?, address.port).to_socket_addrs(rt).ok()?;
+    let mut addrs = (address.bare_host()?, address.port)
+        .to_socket_addrs(rt)
+        .ok()?;
     let listener = addrs.find_map(|addr| mio::net::TcpListener::bind(rt, addr).ok())?;
     let listener = TcpListener::from(listener);
     listener.set_nonblocking(false).ok()?;

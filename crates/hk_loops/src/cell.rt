@@ -67,15 +67,7 @@ impl<N: PromptConnection + Drop, W: Drop> Client<N, W> {
         let Client { mut talk } = self;
         let Talk { conn, exchange } = &mut *talk;
         match take_turn(
-            rt,
-            alloc,
-            conn,
-            desk,
-            exchange,
-            room,
-            others,
-            patience,
-            ends,
+            rt, alloc, conn, desk, exchange, room, others, patience, ends,
         ) {
             Ok(Turned::Over) => (Turned::Over, None),
             Ok(turned) => (turned, Some(Client { talk })),
