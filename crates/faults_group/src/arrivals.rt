@@ -2,6 +2,7 @@
 
 use crate::happening::{Asker, Happening};
 use crate::judge::Judge;
+use crate::let_go::let_go;
 use crate::mistake::Mistake;
 use crate::node::Taken;
 use crate::world::World;
@@ -68,15 +69,22 @@ impl<R: Wait + Eprint + Copy + Drop> World<R> {
     /// A letter of a group comes to whom it is for.
     pub fn take_letter(&mut self, founding: u64, parcel: Parcel) -> Result<(), Memory> {
         match parcel.letter.to {
-            Actor::Manager(place) => {
-                let at = usize::from(place);
-                if let Some(process) = self.running(at) {
-                    process.put_letter(founding, parcel);
-                }
-                self.schedule_turn(at)
+            Actor::Manager(place) => self.tell_manager(usize::from(place), founding, parcel),
+            Actor::Node(number) => {
+                let told = self.tell_node(number, founding, &parcel);
+                let_go(parcel);
+                told
             }
-            Actor::Node(number) => self.tell_node(number, founding, &parcel),
         }
+    }
+
+    // The manager of a host takes a letter.
+    fn tell_manager(&mut self, at: usize, founding: u64, parcel: Parcel) -> Result<(), Memory> {
+        match self.running(at) {
+            Some(process) => process.put_letter(founding, parcel),
+            None => let_go(parcel),
+        }
+        self.schedule_turn(at)
     }
 
     // The node of this number takes a letter.
@@ -119,8 +127,9 @@ impl<R: Wait + Eprint + Copy + Drop> World<R> {
     /// An inquiry comes to the manager of a place.
     pub fn take_ask(&mut self, asker: Asker, at: usize, inquiry: Inquiry) -> Result<(), Memory> {
         let until = self.now.saturating_add(self.lease());
-        if let Some(process) = self.running(at) {
-            process.put_ask(asker, until, inquiry)?;
+        match self.running(at) {
+            Some(process) => process.put_ask(asker, until, inquiry)?,
+            None => let_go(inquiry),
         }
         self.schedule_turn(at)
     }
@@ -133,18 +142,30 @@ impl<R: Wait + Eprint + Copy + Drop> World<R> {
         response: Response,
     ) -> Result<(), Memory> {
         if asker.is_command {
-            return self.go_on_with_init(asker.life, place, &response);
+            let went_on = self.go_on_with_init(asker.life, place, &response);
+            let_go(response);
+            return went_on;
         }
         self.share_number(&response);
         let now = self.now;
-        let Some(process) = self.process(asker.host, asker.life) else {
-            return Ok(());
-        };
-        let asked = process.take_answer(asker, place, now, response);
-        if let Some(inquiry) = asked {
-            self.send(asker.host, inquiry)?;
+        match self.process(asker.host, asker.life) {
+            Some(process) => {
+                let asked = process.take_answer(asker, place, now, response);
+                self.ask_on(asker.host, asked)
+            }
+            None => {
+                let_go(response);
+                Ok(())
+            }
         }
-        self.schedule_turn(asker.host)
+    }
+
+    // What the process of a host asks next goes out, and its manager is to make a turn.
+    fn ask_on(&mut self, host: usize, asked: Option<Happening>) -> Result<(), Memory> {
+        if let Some(inquiry) = asked {
+            self.send(host, inquiry)?;
+        }
+        self.schedule_turn(host)
     }
 
     // A number that is given to one process is given to all, by mistake.

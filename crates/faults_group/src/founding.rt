@@ -43,6 +43,27 @@ impl Command {
     fn asker(&self) -> Asker {
         asker_of(self.host, self.number)
     }
+
+    // Notes what a manager answered LOOK. It gives who asks FOUND now, and with which founding, once all have.
+    fn note(
+        &mut self,
+        alloc: Global,
+        now: u64,
+        place: u8,
+        tickets: HostTickets,
+    ) -> Result<Option<(Asker, u64, FoundingHosts)>, Memory> {
+        if let Some(known) = self.tickets.get_mut(usize::from(place)) {
+            *known = Some(tickets);
+        }
+        if now.saturating_sub(self.begun) > INIT_LASTS {
+            return Ok(None);
+        }
+        let Some(hosts) = self.all_tickets(alloc)? else {
+            return Ok(None);
+        };
+        self.is_sent = true;
+        Ok(Some((self.asker(), self.founding, hosts)))
+    }
 }
 
 // A command asks, which is typed at a host.
@@ -122,7 +143,7 @@ impl<R: Wait + Eprint + Copy + Drop> World<R> {
         Ok(())
     }
 
-    // Notes what a manager answered LOOK. It gives who asks FOUND now, and with which founding, once all have.
+    // The command of this number notes what a manager answered LOOK, if it has not sent FOUND.
     fn note_state(
         &mut self,
         number: u64,
@@ -132,17 +153,7 @@ impl<R: Wait + Eprint + Copy + Drop> World<R> {
         let (alloc, now) = (self.alloc, self.now);
         for command in self.commands.iter_mut() {
             if command.number == number && !command.is_sent {
-                if let Some(known) = command.tickets.get_mut(usize::from(place)) {
-                    *known = Some(tickets);
-                }
-                if now.saturating_sub(command.begun) > INIT_LASTS {
-                    return Ok(None);
-                }
-                let Some(hosts) = command.all_tickets(alloc)? else {
-                    return Ok(None);
-                };
-                command.is_sent = true;
-                return Ok(Some((command.asker(), command.founding, hosts)));
+                return command.note(alloc, now, place, tickets);
             }
         }
         Ok(None)
@@ -167,9 +178,14 @@ impl<R: Wait + Eprint + Copy + Drop> World<R> {
         let Response::State(state) = response else {
             return Ok(());
         };
-        let Some((asker, founding, all)) = self.note_state(number, place, state.tickets)? else {
-            return Ok(());
-        };
+        match self.note_state(number, place, state.tickets)? {
+            Some((asker, founding, all)) => self.found(asker, founding, &all),
+            None => Ok(()),
+        }
+    }
+
+    // FOUND goes to all managers at once.
+    fn found(&mut self, asker: Asker, founding: u64, all: &FoundingHosts) -> Result<(), Memory> {
         for place in 0..self.terms.managers {
             let hosts = FoundingHosts::from_vec(all.as_slice().to_vec(self.alloc)?);
             if self.founds_at(place) {

@@ -4,15 +4,48 @@ use crate::clock::Pace;
 use crate::disk::{Disk, DiskLog};
 use crate::happening::Happening;
 use crate::identity::identity_of;
-use crate::manager::{HostShared, Manager};
+use crate::judge::Judge;
+use crate::let_go::let_go;
+use crate::manager::Manager;
 use crate::mistake::Mistake;
-use crate::node::NodeShard;
+use crate::node::{Node, NodeShard};
 use crate::process::{Process, new_shared};
-use crate::world::World;
+use crate::world::{Host, World};
 use hk_base::{Memory, SHARDS};
 use hk_inside::HostTickets;
+use std::alloc::Global;
 use std::io::Eprint;
 use std::sync::{Arc, Mutex, Wait};
+
+impl<R: Wait + Drop> Host<R> {
+    // The log for a process that begins. There is none where one runs, or the host stays down. By mistake the disk is
+    // empty.
+    fn begin(
+        &mut self,
+        rt: R,
+        alloc: Global,
+        is_empty: bool,
+    ) -> Result<Option<DiskLog<R>>, Memory> {
+        if self.running.is_some() || self.is_down {
+            return Ok(None);
+        }
+        self.lives = self.lives.saturating_add(1);
+        if is_empty {
+            self.disk = Arc::new(alloc, Mutex::new(Disk::new(alloc)))?;
+        }
+        Ok(Some(DiskLog::new(rt, Arc::try_clone(&self.disk)?)))
+    }
+}
+
+// Notes the views that a node begins with.
+fn note_views(judge: &mut Judge, alloc: Global, node: &Node) -> Result<(), Memory> {
+    for (shard, held) in (0..SHARDS).zip(node.shards.iter()) {
+        if let Some(view) = &held.view {
+            judge.note_begun(alloc, shard, view)?;
+        }
+    }
+    Ok(())
+}
 
 impl<R: Wait + Eprint + Copy + Drop> World<R> {
     /// The processes of all hosts are to begin.
@@ -39,38 +72,41 @@ impl<R: Wait + Eprint + Copy + Drop> World<R> {
             node: self.draws.ticket(),
         };
         let pace = self.draw_pace(at);
+        let is_empty = self.mistake == Mistake::EmptyDisks;
         let Some(host) = self.hosts.get_mut(at) else {
             return Ok(());
         };
-        if host.running.is_some() || host.is_down {
+        let Some(log) = host.begin(self.rt, self.alloc, is_empty)? else {
             return Ok(());
-        }
-        host.lives = host.lives.saturating_add(1);
-        if self.mistake == Mistake::EmptyDisks {
-            host.disk = Arc::new(self.alloc, Mutex::new(Disk::new(self.alloc)))?;
-        }
-        let log = DiskLog::new(self.rt, Arc::try_clone(&host.disk)?);
+        };
+        let life = host.lives;
+        let process = self.new_process(at, life, pace, log, drawn)?;
+        self.run(at, process);
+        self.schedule(0, Happening::Beat { host: at, life })
+    }
+
+    // A process of a host, with its manager, whose tickets were drawn.
+    fn new_process(
+        &self,
+        at: usize,
+        life: u64,
+        pace: Pace,
+        log: DiskLog<R>,
+        drawn: HostTickets,
+    ) -> Result<Process<R>, Memory> {
         let identity = identity_of(self.alloc, &self.terms, at, drawn.node)?;
         let shared = new_shared(self.rt, self.alloc, identity)?;
         shared.clock.rise(pace.reading(self.now));
         let manager = Manager::begin(&shared, log, drawn)?;
-        self.run(at, pace, shared, manager)
+        Ok(Process::new(at, life, pace, shared, manager))
     }
 
-    // The process runs, with its manager.
-    fn run(
-        &mut self,
-        at: usize,
-        pace: Pace,
-        shared: Arc<HostShared<R>>,
-        manager: Option<Manager<R>>,
-    ) -> Result<(), Memory> {
-        let Some(host) = self.hosts.get_mut(at) else {
-            return Ok(());
-        };
-        let life = host.lives;
-        host.running = Some(Process::new(at, life, pace, shared, manager));
-        self.schedule(0, Happening::Beat { host: at, life })
+    // The process runs.
+    fn run(&mut self, at: usize, process: Process<R>) {
+        match self.hosts.get_mut(at) {
+            Some(host) => let_go(host.running.replace(process)),
+            None => let_go(process),
+        }
     }
 
     fn stop_disk(&mut self, at: usize) {
@@ -90,7 +126,7 @@ impl<R: Wait + Eprint + Copy + Drop> World<R> {
             let ran = self.now.saturating_sub(process.pace.born);
             self.counts.ran = self.counts.ran.saturating_add(ran);
         }
-        host.running = None;
+        let_go(host.running.take());
         self.stop_disk(at);
     }
 
@@ -145,11 +181,7 @@ impl<R: Wait + Eprint + Copy + Drop> World<R> {
         };
         self.judge
             .note_holder(node.number, process.shared.identity.ticket)?;
-        for (shard, held) in (0..SHARDS).zip(node.shards.iter()) {
-            if let Some(view) = &held.view {
-                self.judge.note_begun(self.alloc, shard, view)?;
-            }
-        }
+        note_views(&mut self.judge, self.alloc, node)?;
         self.numbers.push(node.number)?;
         self.counts.nodes = self.counts.nodes.saturating_add(1);
         Ok(())

@@ -17,6 +17,7 @@ mod happening;
 mod hosts;
 mod identity;
 mod judge;
+mod let_go;
 mod looks;
 mod manager;
 mod mistake;
@@ -28,6 +29,7 @@ mod world;
 
 use crate::counts::Counts;
 use crate::judge::Fault;
+use crate::let_go::let_go;
 use crate::mistake::{Mistake, mistake_of};
 use crate::world::World;
 use hk_base::Memory;
@@ -74,6 +76,7 @@ fn run_group<R: Wait + Eprint + Copy + Drop>(
     let made = make_all(&mut world, plan.events);
     world.end_all();
     let told = (world.judge.fault, world.counts);
+    let_go(world);
     made?;
     Ok(told)
 }

@@ -10,6 +10,7 @@ ghost use Rattle.hk_base.specs.declared.time.TheConstants.{MAX_TIME};
 use crate::clock::{HostClock, Pace};
 use crate::happening::{Asker, Happening};
 use crate::identity::{MOST_MANAGERS, text_of};
+use crate::let_go::let_go;
 use crate::manager::{HostShared, Manager};
 use crate::mistake::Mistake;
 use crate::node::Node;
@@ -111,15 +112,39 @@ fn claimed_by(inquiry: &Inquiry) -> Option<NodeId> {
     }
 }
 
+// What changes of what the parts of a process share.
+#[derive(Drop)]
+struct Changing {
+    clock: Arc<HostClock>,
+    mailbox: Mailbox,
+    standing: Standing,
+}
+
+impl Changing {
+    // As it is when this process begins.
+    fn new(alloc: Global, identity: &Identity) -> Result<Changing, Memory> {
+        let clock = Arc::new(alloc, HostClock::new())?;
+        let mailbox = Mailbox::new(alloc)?;
+        let standing = Standing::new(alloc, identity.managers())?;
+        Ok(Changing {
+            clock,
+            mailbox,
+            standing,
+        })
+    }
+}
+
 /// What the parts of a process share, as it begins.
 pub fn new_shared<R: Wait + Drop>(
     rt: R,
     alloc: Global,
     identity: Identity,
 ) -> Result<Arc<HostShared<R>>, Memory> {
-    let standing = Standing::new(alloc, identity.managers())?;
-    let clock = Arc::new(alloc, HostClock::new())?;
-    let mailbox = Mailbox::new(alloc)?;
+    let Changing {
+        clock,
+        mailbox,
+        standing,
+    } = Changing::new(alloc, &identity)?;
     let shared = SharedState {
         rt,
         alloc,
@@ -298,7 +323,7 @@ impl<R: Wait + Eprint + Copy + Drop> Process<R> {
 
     // Its manager is stopped for good.
     fn withdraw(&mut self) {
-        self.manager = None;
+        let_go(self.manager.take());
         let mut guard = self.shared.standing.lock(&self.shared.rt);
         let standing = &mut *guard;
         standing.manager = None;
@@ -414,13 +439,21 @@ impl<R: Wait + Eprint + Copy + Drop> Process<R> {
         }
     }
 
+    // Its manager, where that is of this group.
+    fn manager_of(&mut self, founding: u64) -> Option<&mut Manager<R>> {
+        if self.shared.founding() == founding {
+            self.manager.as_mut()
+        } else {
+            None
+        }
+    }
+
     /// Its manager takes a letter of a group.
     pub fn put_letter(&mut self, founding: u64, parcel: Parcel) {
-        if self.shared.founding() != founding {
-            return;
-        }
-        if let Some(manager) = &mut self.manager {
-            manager.put(&self.shared.rt, parcel);
+        let rt = self.shared.rt;
+        match self.manager_of(founding) {
+            Some(manager) => manager.put(&rt, parcel),
+            None => let_go(parcel),
         }
     }
 
@@ -428,7 +461,10 @@ impl<R: Wait + Eprint + Copy + Drop> Process<R> {
     pub fn put_ask(&mut self, asker: Asker, until: u64, inquiry: Inquiry) -> Result<(), Memory> {
         match &mut self.manager {
             Some(manager) => manager.ask(&*self.shared, asker, until, inquiry),
-            None => Ok(()),
+            None => {
+                let_go(inquiry);
+                Ok(())
+            }
         }
     }
 

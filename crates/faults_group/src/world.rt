@@ -7,6 +7,7 @@ use crate::founding::Command;
 use crate::happening::Happening;
 use crate::identity::GroupTerms;
 use crate::judge::Judge;
+use crate::let_go::let_go;
 use crate::mistake::Mistake;
 use crate::network::Network;
 use crate::node::NodeShard;
@@ -149,7 +150,7 @@ impl<R: Wait + Eprint + Copy + Drop> World<R> {
     pub fn schedule(&mut self, delay: u64, happening: Happening) -> Result<(), Memory> {
         self.sequence = self.sequence.wrapping_add(1);
         let at = (self.now.saturating_add(delay), self.sequence);
-        self.queue.insert(at, happening)?;
+        let_go(self.queue.insert(at, happening)?);
         Ok(())
     }
 
@@ -240,7 +241,10 @@ impl<R: Wait + Eprint + Copy + Drop> World<R> {
         match self.travels(from, &happening) {
             Some(delay) => self.schedule(delay, happening),
             // it is lost on its way
-            None => Ok(()),
+            None => {
+                let_go(happening);
+                Ok(())
+            }
         }
     }
 

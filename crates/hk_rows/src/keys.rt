@@ -2,7 +2,6 @@
 
 use hk_base::{Data, DataFault, Key, KeyFault, NodeId, Stamp};
 use std::alloc::{AllocError, Global};
-use std::test::Fail;
 
 #[test]
 fn keys_at_their_limits(rt: HostRuntime) {
@@ -30,7 +29,7 @@ fn zeros(alloc: Global, count: usize) -> Result<Vec<u8>, AllocError> {
 }
 
 #[test]
-fn data_at_its_limit(rt: HostRuntime) -> Result<(), Fail> {
+fn data_at_its_limit(rt: HostRuntime) {
     let alloc = rt.alloc();
     let rows = [
         (0, None),
@@ -38,10 +37,9 @@ fn data_at_its_limit(rt: HostRuntime) -> Result<(), Fail> {
         (1_048_577, Some(DataFault::TooLarge { len: 1_048_577 })),
     ];
     for (count, fault) in rows {
-        let bytes = zeros(alloc, count)?;
+        let bytes = zeros(alloc, count).expect(&rt, "memory");
         assert_eq!(rt; Data::read(alloc, bytes.as_slice()).err(), fault);
     }
-    Ok(())
 }
 
 #[test]

@@ -2,7 +2,6 @@
 
 use hk_base::{Members, NodeId, View};
 use hk_lease::{Grants, NotPast, node_end};
-use std::test::Fail;
 
 #[test]
 fn the_end_that_a_majority_granted(rt: HostRuntime) {
@@ -13,24 +12,23 @@ fn the_end_that_a_majority_granted(rt: HostRuntime) {
 }
 
 #[test]
-fn grants_outside_a_view_are_past_or_not(rt: HostRuntime) -> Result<(), Fail> {
+fn grants_outside_a_view_are_past_or_not(rt: HostRuntime) {
     let alloc = rt.alloc();
     let mut members = Members::new(alloc);
-    members.push(NodeId(0))?;
+    members.push(NodeId(0)).expect(&rt, "memory");
     let view = View {
         epoch: 2,
         members,
         next: 2,
     };
     let mut grants = Grants::new(alloc);
-    grants.grant(NodeId(0), 500)?;
-    grants.grant(NodeId(1), 100)?;
-    grants.grant(NodeId(1), 90)?;
+    grants.grant(NodeId(0), 500).expect(&rt, "memory");
+    grants.grant(NodeId(1), 100).expect(&rt, "memory");
+    grants.grant(NodeId(1), 90).expect(&rt, "memory");
     let not_past = NotPast {
         node: NodeId(1),
         end: 100,
     };
     assert_eq!(rt; grants.all_past(&view, 100), Err(not_past));
     assert_eq!(rt; grants.all_past(&view, 101), Ok(()));
-    Ok(())
 }

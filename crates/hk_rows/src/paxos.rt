@@ -3,7 +3,6 @@
 use hk_base::{Ballot, Sequence, View, Voted};
 use hk_paxos::{Acceptor, Promise, Proposer};
 use std::alloc::Global;
-use std::test::Fail;
 
 fn ballot(round: u32, manager: u8) -> Ballot {
     Ballot { round, manager }
@@ -76,10 +75,10 @@ fn promise() -> Promise {
 }
 
 #[test]
-fn a_proposer_of_three_counts_each_manager_once(rt: HostRuntime) -> Result<(), Fail> {
+fn a_proposer_of_three_counts_each_manager_once(rt: HostRuntime) {
     let alloc = rt.alloc();
     let at = ballot(2, 0);
-    let mut proposer = Proposer::new(alloc, 2, at, view(alloc, 2, 3), 3)?;
+    let mut proposer = Proposer::new(alloc, 2, at, view(alloc, 2, 3), 3).expect(&rt, "memory");
     assert!(rt; matches!(proposer.on_accepted(alloc, 0, at), Ok(None)));
     assert!(rt; matches!(proposer.on_promise(alloc, 0, promise()), Ok(None)));
     assert!(rt; matches!(proposer.on_promise(alloc, 0, promise()), Ok(None)));
@@ -91,14 +90,13 @@ fn a_proposer_of_three_counts_each_manager_once(rt: HostRuntime) -> Result<(), F
     let chosen = proposer.on_accepted(alloc, 1, at);
     assert!(rt; matches!(chosen, Ok(Some(View { next: 3, .. }))));
     assert!(rt; matches!(proposer.on_accepted(alloc, 2, at), Ok(None)));
-    Ok(())
 }
 
 #[test]
-fn a_proposer_takes_what_was_accepted(rt: HostRuntime) -> Result<(), Fail> {
+fn a_proposer_takes_what_was_accepted(rt: HostRuntime) {
     let alloc = rt.alloc();
     let at = ballot(2, 0);
-    let mut proposer = Proposer::new(alloc, 2, at, view(alloc, 2, 3), 3)?;
+    let mut proposer = Proposer::new(alloc, 2, at, view(alloc, 2, 3), 3).expect(&rt, "memory");
     let told = Promise {
         ballot: at,
         accepted: Some(Voted {
@@ -109,5 +107,4 @@ fn a_proposer_takes_what_was_accepted(rt: HostRuntime) -> Result<(), Fail> {
     assert!(rt; matches!(proposer.on_promise(alloc, 1, told), Ok(None)));
     let proposed = proposer.on_promise(alloc, 2, promise());
     assert!(rt; matches!(proposed, Ok(Some(View { next: 7, .. }))));
-    Ok(())
 }

@@ -4,6 +4,7 @@ use hk_base::{
     Actor, Answer, Body, Content, CopyItem, CopyItems, Data, Key, Kind, Letter, Members, NodeId,
     Op, Stamp, View,
 };
+use hk_rows_shared::let_go;
 use std::alloc::Global;
 use std::process::Abort;
 
@@ -19,12 +20,14 @@ fn reads_keys_and_shares_them(rt: HostRuntime) {
 fn check_operation(rt: &impl Abort, op: &Op) {
     let same = op.share().expect(rt, "memory");
     assert!(rt; same == *op);
+    let_go(same);
 }
 
 // Asserts that an answer is shared.
 fn check_answer(rt: &impl Abort, answer: &Answer) {
     let same = answer.share().expect(rt, "memory");
     assert!(rt; same == *answer);
+    let_go(same);
 }
 
 #[test]
@@ -32,8 +35,12 @@ fn shares_contents_operations_and_answers(rt: HostRuntime) {
     let bytes = Data::read(rt.alloc(), b"hello").expect(&rt, "memory");
     let content = Content { flags: 7, bytes };
     let same = content.share().expect(&rt, "memory");
-    check_operation(&rt, &Op::Write(same));
-    check_answer(&rt, &Answer::Found { content, tag: 5 });
+    let op = Op::Write(same);
+    check_operation(&rt, &op);
+    let_go(op);
+    let answer = Answer::Found { content, tag: 5 };
+    check_answer(&rt, &answer);
+    let_go(answer);
 }
 
 #[test]
@@ -97,4 +104,6 @@ fn shares_letters(rt: HostRuntime) {
     let same = letter.share(alloc).expect(&rt, "memory");
     assert_eq!(rt; (same.epoch, same.to), (2, Actor::Node(NodeId(3))));
     assert!(rt; is_last_batch_of(&same.body, 1));
+    let_go(letter);
+    let_go(same);
 }

@@ -1,21 +1,21 @@
 //! Batches of rows in memory.
 
-use hk_base::{Content, CopyItem, Data, Key, Kind, Stamp};
+use crate::values::{content, key};
+use hk_base::{CopyItem, Key, Kind, Stamp};
 use hk_copy::{MemoryRows, PushFault, batch};
 use std::alloc::Global;
 use std::process::Abort;
 
-fn row(rt: &impl Abort, alloc: Global, key: &[u8]) -> CopyItem {
-    let bytes = Data::read(alloc, b"5").expect(rt, "memory");
+fn row(rt: &impl Abort, alloc: Global, name: &[u8]) -> CopyItem {
     CopyItem {
-        key: Key::read(alloc, key).expect(rt, "memory"),
+        key: key(rt, alloc, name),
         stamp: Stamp {
             version: 2,
             node: 0,
         },
         kind: Kind::Write,
         valid: true,
-        content: Some(Content { flags: 0, bytes }),
+        content: Some(content(rt, alloc, b"5")),
     }
 }
 
@@ -41,8 +41,8 @@ fn gives_the_rows_one_by_one(rt: HostRuntime) {
     let mut rows = MemoryRows::new(alloc);
     rows.push(row(&rt, alloc, b"a")).expect(&rt, "a row");
     rows.push(row(&rt, alloc, b"b")).expect(&rt, "a row");
-    let a = Key::read(alloc, b"a").expect(&rt, "memory");
-    let b = Key::read(alloc, b"b").expect(&rt, "memory");
+    let a = key(&rt, alloc, b"a");
+    let b = key(&rt, alloc, b"b");
     let table = [
         ("from the start", None, Some(&a), false),
         ("behind a", Some(&a), Some(&b), true),

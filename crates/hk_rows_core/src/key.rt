@@ -5,8 +5,10 @@ ghost use Rattle.hk_base.specs.Range.{IsWithin};
 ghost use Rattle.hk_base.specs.Stamp.{tag_of};
 ghost use Rattle.hk_key.specs.Sound.{IsSound};
 
+use crate::values::content;
 use hk_base::{Answer, CallNo, Content, Data, Kind, Members, NodeId, Reply, Stamp, State, View};
 use hk_key::{Aim, Row, Sending, What};
+use hk_rows_shared::let_go;
 use std::alloc::Global;
 use std::process::Abort;
 
@@ -20,13 +22,6 @@ const LAST: Stamp = Stamp {
     version: 281_474_976_710_655,
     node: 0,
 };
-
-fn content(rt: &impl Abort, alloc: Global, bytes: &[u8]) -> Content {
-    Content {
-        flags: 0,
-        bytes: Data::read(alloc, bytes).expect(rt, "memory"),
-    }
-}
 
 // A view of nodes 0 and 1.
 fn pair(rt: &impl Abort, alloc: Global) -> View {
@@ -52,6 +47,7 @@ fn ends_at_the_version_limit(rt: HostRuntime) {
     };
     let aim = Aim::One(NodeId(1));
     assert_eq!(rt; out.send, Some(Sending { aim, what: ack }));
+    let_go(out);
     assert_eq!(rt; row.state, State::Invalid);
     row.on_val(LAST_WRITE);
     assert_eq!(rt; row.state, State::Valid);
@@ -71,6 +67,7 @@ fn ends_at_the_version_limit(rt: HostRuntime) {
         what: What::InvPending,
     };
     assert_eq!(rt; out.send, Some(inv));
+    let_go(out);
     assert_eq!(rt; (row.state, row.stamp), (State::Write, LAST));
 }
 
@@ -96,6 +93,7 @@ fn replays_an_invalid_row(rt: HostRuntime) {
         what: What::Val { stamp },
     };
     assert_eq!(rt; out.send, Some(val));
+    let_go(out);
     assert_eq!(rt; row.state, State::Valid);
 }
 

@@ -16,4 +16,6 @@ mod run;
 #[cfg(test)]
 mod script;
 #[cfg(test)]
+mod values;
+#[cfg(test)]
 mod world;

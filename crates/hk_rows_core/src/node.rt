@@ -3,11 +3,12 @@
 ghost use Rattle.hk_base.specs.Range.{IsBody, IsLetter};
 ghost use Rattle.hk_node.specs.Sound.{IsNodeEvent};
 
+use crate::values::{content, key};
 use hk_base::{
-    Actor, Answer, Body, CallNo, Content, Data, Key, Kind, Letter, Members, NodeId, Op, Stamp,
-    View, Why,
+    Actor, Answer, Body, CallNo, Content, Kind, Letter, Members, NodeId, Op, Stamp, View, Why,
 };
 use hk_node::{Node, NodeEvent, NodeOut};
+use hk_rows_shared::let_go;
 use std::alloc::Global;
 use std::process::Abort;
 
@@ -15,11 +16,6 @@ const LAST_WRITE: Stamp = Stamp {
     version: 281_474_976_710_654,
     node: 1,
 };
-
-fn content(rt: &impl Abort, alloc: Global, bytes: &[u8]) -> Content {
-    let bytes = Data::read(alloc, bytes).expect(rt, "memory");
-    Content { flags: 0, bytes }
-}
 
 fn letter(epoch: u64, body: Body) -> Letter
     requires { IsBody body }
@@ -49,17 +45,15 @@ fn founder(rt: &impl Abort, alloc: Global) -> Node {
 fn step(rt: &impl Abort, alloc: Global, node: &mut Node, event: NodeEvent) -> NodeOut
     requires { IsNodeEvent event }
 {
-    node.step(alloc, &event).expect(rt, "memory")
-}
-
-fn key(rt: &impl Abort, alloc: Global) -> Key {
-    Key::read(alloc, b"k").expect(rt, "memory")
+    let out = node.step(alloc, &event).expect(rt, "memory");
+    let_go(event);
+    out
 }
 
 fn call(rt: &impl Abort, alloc: Global, node: &mut Node, op: Op) -> NodeOut {
     let event = NodeEvent::Call {
         call: CallNo(1),
-        key: key(rt, alloc),
+        key: key(rt, alloc, b"k"),
         op,
     };
     step(rt, alloc, node, event)
@@ -78,21 +72,21 @@ fn counts(out: &NodeOut) -> (usize, usize, usize) {
 // The node takes an update of its key, which leaves this.
 fn take_update(rt: &impl Abort, alloc: Global, node: &mut Node, content: Content) {
     let inv = Body::Inv {
-        key: key(rt, alloc),
+        key: key(rt, alloc, b"k"),
         stamp: LAST_WRITE,
         kind: Kind::Write,
         content: Some(content),
     };
-    step(rt, alloc, node, NodeEvent::Receive(letter(1, inv)));
+    let_go(step(rt, alloc, node, NodeEvent::Receive(letter(1, inv))));
 }
 
 // The node takes word that the update is complete.
 fn take_end(rt: &impl Abort, alloc: Global, node: &mut Node) {
     let val = Body::Val {
-        key: key(rt, alloc),
+        key: key(rt, alloc, b"k"),
         stamp: LAST_WRITE,
     };
-    step(rt, alloc, node, NodeEvent::Receive(letter(1, val)));
+    let_go(step(rt, alloc, node, NodeEvent::Receive(letter(1, val))));
 }
 
 // A founder whose key has the last stamp from which nothing can be written.
@@ -111,6 +105,7 @@ fn writes_end_at_the_version_limit(rt: HostRuntime) {
     let out = call(&rt, alloc, &mut node, op);
     assert!(rt; is_first_answer(&out, &Answer::Exhausted(LAST_WRITE)));
     assert_eq!(rt; counts(&out), (0, 1, 0));
+    let_go(out);
 }
 
 #[test]
@@ -119,24 +114,27 @@ fn increments_go_one_further(rt: HostRuntime) {
     let mut node = at_the_limit(&rt, alloc);
     let out = call(&rt, alloc, &mut node, Op::Incr(1));
     assert_eq!(rt; counts(&out), (1, 0, 1));
+    let_go(out);
     let last = Stamp {
         version: 281_474_976_710_655,
         node: 0,
     };
-    let stamp = node.row(&key(&rt, alloc)).map(|row| row.stamp);
+    let stamp = node.row(&key(&rt, alloc, b"k")).map(|row| row.stamp);
     assert_eq!(rt; stamp, Some(last));
 }
 
 // What a read-modify-write of the other member leaves at a founder, whose key it makes Invalid: how many letters are sent.
 fn invalidate(rt: &impl Abort, alloc: Global, node: &mut Node, epoch: u64) -> usize {
     let inv = Body::Inv {
-        key: key(rt, alloc),
+        key: key(rt, alloc, b"k"),
         stamp: LAST_WRITE,
         kind: Kind::Rmw,
         content: None,
     };
     let out = step(rt, alloc, node, NodeEvent::Receive(letter(epoch, inv)));
-    out.letters.len()
+    let count = out.letters.len();
+    let_go(out);
+    count
 }
 
 #[test]
@@ -144,17 +142,19 @@ fn drops_letters_of_old_epochs(rt: HostRuntime) {
     let alloc = rt.alloc();
     let mut node = founder(&rt, alloc);
     assert_eq!(rt; invalidate(&rt, alloc, &mut node, 0), 0);
-    assert!(rt; node.row(&key(&rt, alloc)).is_none());
+    assert!(rt; node.row(&key(&rt, alloc, b"k")).is_none());
 }
 
 #[test]
 fn a_shadow_has_no_lease(rt: HostRuntime) {
     let alloc = rt.alloc();
     let mut node = Node::joiner(alloc, NodeId(2), 10, 0).expect(&rt, "memory");
-    step(&rt, alloc, &mut node, NodeEvent::Grant { end: 1000 });
+    let_go(step(&rt, alloc, &mut node, NodeEvent::Grant { end: 1000 }));
     let out = call(&rt, alloc, &mut node, Op::Read);
     let busy = Answer::Busy(Why::Lease { end: 0, now: 1 });
     assert!(rt; is_first_answer(&out, &busy));
+    let_go(busy);
+    let_go(out);
 }
 
 // How many letters an event sends.
@@ -162,7 +162,9 @@ fn sends(rt: &impl Abort, alloc: Global, node: &mut Node, event: NodeEvent) -> u
     requires { IsNodeEvent event }
 {
     let out = step(rt, alloc, node, event);
-    out.letters.len()
+    let count = out.letters.len();
+    let_go(out);
+    count
 }
 
 #[test]
@@ -170,10 +172,10 @@ fn replays_and_sends_again(rt: HostRuntime) {
     let alloc = rt.alloc();
     let mut node = founder(&rt, alloc);
     invalidate(&rt, alloc, &mut node, 1);
-    let replay = NodeEvent::Replay(key(&rt, alloc));
+    let replay = NodeEvent::Replay(key(&rt, alloc, b"k"));
     assert_eq!(rt; sends(&rt, alloc, &mut node, replay), 1);
-    assert!(rt; node.open(None) == Some(&key(&rt, alloc)));
-    let resend = NodeEvent::Resend(key(&rt, alloc));
+    assert!(rt; node.open(None) == Some(&key(&rt, alloc, b"k")));
+    let resend = NodeEvent::Resend(key(&rt, alloc, b"k"));
     assert_eq!(rt; sends(&rt, alloc, &mut node, resend), 1);
 }
 
@@ -181,7 +183,7 @@ fn replays_and_sends_again(rt: HostRuntime) {
 fn steps_and_is_copied(rt: HostRuntime) {
     let alloc = rt.alloc();
     let mut node = founder(&rt, alloc);
-    step(&rt, alloc, &mut node, NodeEvent::Grant { end: 2000 });
+    let_go(step(&rt, alloc, &mut node, NodeEvent::Grant { end: 2000 }));
     let same = node.copy(alloc).expect(&rt, "memory");
     assert_eq!(rt; same.granted(), 2000);
 }

@@ -2,7 +2,8 @@
 
 ghost use Rattle.hk_world.specs.Sound.{IsEvent};
 
-use hk_base::{CallNo, Content, Data, Key, MAX_VERSION, NodeId, Op, Stamp};
+use crate::values::{content, key};
+use hk_base::{CallNo, MAX_VERSION, NodeId, Op, Stamp};
 use hk_event::{Event, Header};
 use hk_history::Entry;
 use hk_joint::joint_order;
@@ -21,18 +22,13 @@ fn begun(rt: &impl Abort, alloc: Global) -> Run {
     Run::new(alloc, header).expect(rt, "memory")
 }
 
-fn key(rt: &impl Abort, alloc: Global, name: &[u8]) -> Key {
-    Key::read(alloc, name).expect(rt, "a key")
-}
-
 fn set(rt: &impl Abort, alloc: Global, node: u16, name: &[u8], data: &[u8]) -> Event
     ensures { IsEvent result }
 {
-    let bytes = Data::read(alloc, data).expect(rt, "data");
     Event::Call {
         node: NodeId(node),
         key: key(rt, alloc, name),
-        op: Op::Write(Content { flags: 0, bytes }),
+        op: Op::Write(content(rt, alloc, data)),
     }
 }
 

@@ -2,6 +2,7 @@
 
 use hk_base::{Actor, Change, Data, Key, NodeId, Op};
 use hk_event::Event;
+use hk_rows_shared::let_go;
 use hk_script::{LineFault, print_event, print_header, read_event, read_header};
 use std::alloc::Global;
 use std::process::Abort;
@@ -11,11 +12,12 @@ fn again(rt: &impl Abort, alloc: Global, line: &[u8]) -> Vec<u8> {
     let event = read_event(alloc, line).expect(rt, "an event");
     let mut out = Vec::new(alloc);
     print_event(&event, &mut out).expect(rt, "memory");
+    let_go(event);
     out
 }
 
 fn is_bad(alloc: Global, line: &[u8]) -> bool {
-    matches!(read_event(alloc, line), Err(LineFault::Bad))
+    read_event(alloc, line).err() == Some(LineFault::Bad)
 }
 
 #[test]
@@ -98,10 +100,13 @@ fn reads_what_is_meant(rt: HostRuntime) {
     let bytes = Data::read(alloc, b"a b").expect(&rt, "memory");
     let cas = read_event(alloc, b"call 1 cas k 7 a%20b 42").expect(&rt, "an event");
     assert!(rt; is_cas(&cas, &key, &bytes));
+    let_go(cas);
     let proposal = read_event(alloc, b"propose m8 4 drop 2").expect(&rt, "an event");
     assert!(rt; is_proposal(&proposal));
+    let_go(proposal);
     let tick = read_event(alloc, b"tick m3 9").expect(&rt, "an event");
     assert!(rt; is_tick(&tick));
+    let_go(tick);
 }
 
 #[test]

@@ -3,8 +3,10 @@
 ghost use Rattle.std.specs.Prelude.{◌≤◌};
 ghost use Rattle.hk_world.specs.Sound.{IsEvent};
 
-use hk_base::{Answer, Content, Data, Key, NodeId, Op};
+use crate::values::{content, key};
+use hk_base::{Answer, NodeId, Op};
 use hk_event::{Event, Header};
+use hk_rows_shared::let_go;
 use hk_world::{Shown, World};
 use std::alloc::Global;
 use std::process::Abort;
@@ -28,7 +30,7 @@ fn call(rt: &impl Abort, alloc: Global, node: u16, op: Op) -> Event
 {
     Event::Call {
         node: NodeId(node),
-        key: Key::read(alloc, b"k").expect(rt, "memory"),
+        key: key(rt, alloc, b"k"),
         op,
     }
 }
@@ -36,8 +38,7 @@ fn call(rt: &impl Abort, alloc: Global, node: u16, op: Op) -> Event
 fn write(rt: &impl Abort, alloc: Global, node: u16) -> Event
     ensures { IsEvent result }
 {
-    let bytes = Data::read(alloc, b"5").expect(rt, "memory");
-    call(rt, alloc, node, Op::Write(Content { flags: 0, bytes }))
+    call(rt, alloc, node, Op::Write(content(rt, alloc, b"5")))
 }
 
 fn finds(shown: &Shown) -> bool {
@@ -57,7 +58,9 @@ fn stored(shown: &Shown) -> bool {
 fn step(rt: &impl Abort, alloc: Global, world: &mut World, event: Event) -> Shown
     requires { IsEvent event }
 {
-    world.step(alloc, &event).expect(rt, "a step")
+    let shown = world.step(alloc, &event).expect(rt, "a step");
+    let_go(event);
+    shown
 }
 
 fn take(rt: &impl Abort, alloc: Global, world: &mut World, letter: u64) -> Shown {
@@ -69,11 +72,13 @@ fn an_update_goes_round(rt: HostRuntime) {
     let alloc = rt.alloc();
     let mut world = group(&rt, alloc, 2);
     // INV is letter 1, ACK letter 2, VAL letter 3
-    step(&rt, alloc, &mut world, write(&rt, alloc, 0));
-    take(&rt, alloc, &mut world, 1);
+    let_go(step(&rt, alloc, &mut world, write(&rt, alloc, 0)));
+    let_go(take(&rt, alloc, &mut world, 1));
     let shown = take(&rt, alloc, &mut world, 2);
     assert_eq!(rt; (stored(&shown), shown.first_letter), (true, 3));
-    take(&rt, alloc, &mut world, 3);
+    let_go(shown);
+    let_go(take(&rt, alloc, &mut world, 3));
     let shown = step(&rt, alloc, &mut world, call(&rt, alloc, 1, Op::Read));
     assert!(rt; finds(&shown));
+    let_go(shown);
 }

@@ -7,6 +7,7 @@ use hk_base::{CallNo, Content, Data, Key, Members, NodeId, Op, Stamp, State, Vie
 use hk_joint_reads::{Joint, read_joint};
 use hk_node::{Node, NodeEvent};
 use hk_outside::{Clock, HandClock};
+use hk_rows_shared::let_go;
 use hk_shard::{Shard, shard_of};
 use hk_snap::{LeaseCell, LeaseKeeper, Local, Shape, SnapReader, cell_of, lease_cell, read_local};
 use std::alloc::Global;
@@ -97,7 +98,9 @@ fn write<R: Wait + Abort>(
 ) {
     let event = write_of(rt, alloc, number, key, flags, data);
     if shard.last_ticket() < number {
-        shard.apply(rt, alloc, number, event).expect(rt, "memory");
+        let_go(shard.apply(rt, alloc, number, event).expect(rt, "memory"));
+    } else {
+        let_go(event);
     }
 }
 
@@ -205,6 +208,10 @@ fn a_cell_shows_what_was_changed_last(rt: HostRuntime) {
     assert!(rt; is_found(&first, 7, b"hello", 131_072, 1));
     assert!(rt; is_elsewhere(&second));
     assert!(rt; is_found(&third, 0, b"x", 131_072, 2));
+    let_go(first);
+    let_go(second);
+    let_go(third);
+    let_go(opened);
 }
 
 // Writes data of 1,001 bytes over another value of the key.
@@ -227,8 +234,11 @@ fn large_data_is_seen_and_not_shown(rt: HostRuntime) {
     assert!(rt; shows_large(&rt, alloc, &mut opened.reader, &k, stamp, 3));
     let told = read(&rt, alloc, &mut opened, 990, &k);
     assert!(rt; is_large(&told));
+    let_go(told);
     let told = read(&rt, alloc, &mut opened, 991, &k);
     assert!(rt; is_busy(&told, 1_000, 991));
+    let_go(told);
+    let_go(opened);
 }
 
 // The tickets of the entries that a checkpoint hands out.
@@ -325,6 +335,9 @@ fn the_lease_is_loaded_before_the_clock_is_read(rt: HostRuntime) {
     let (first, second) = read_twice(rt, alloc, &mut opened.reader, &k);
     assert!(rt; is_busy(&first, 100, 200));
     assert!(rt; is_found(&second, 7, b"hello", 131_072, 1));
+    let_go(first);
+    let_go(second);
+    let_go(opened);
 }
 
 // The keys `k` and `s`, each written once.
@@ -375,4 +388,7 @@ fn the_lease_is_loaded_before_the_clock_is_read_for_several_keys(rt: HostRuntime
     let (first, second) = read_both_twice(rt, alloc, &mut opened.reader, keys.as_slice());
     assert!(rt; is_lease_past(&first));
     assert!(rt; are_found(&second, 2));
+    let_go(first);
+    let_go(second);
+    let_go(opened);
 }

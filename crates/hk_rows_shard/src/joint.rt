@@ -5,6 +5,7 @@ use hk_joint_reads::{Joint, Snapshots, read_joint};
 use hk_joint_storm::{JointFounds, KeysWriter, conclude_joint, storm_keys};
 use hk_outside::{HandClock, MemorySink, Status};
 use hk_place::{PlaceFault, place};
+use hk_rows_shared::let_go;
 use hk_snap::{LeaseCell, SnapReader};
 use std::alloc::Global;
 use std::process::Abort;
@@ -130,6 +131,7 @@ fn keys_stand_together_at_the_greatest_of_their_tickets(rt: HostRuntime) {
     assert_eq!(rt; placed(&rt, alloc, &opened, &found), Told::Place(3));
     let text = b"joint-storm 2 3\nfound 1 moved 2 legal\n";
     comes_to(&rt, alloc, &opened, found, Status::Done, text);
+    let_go(opened);
 }
 
 // The first key is seen as ticket 1 left it, and the second as ticket 3 did; at ticket 2 the first was written again.
@@ -148,6 +150,7 @@ fn a_key_that_was_written_again_by_then_has_no_place(rt: HostRuntime) {
     };
     assert_eq!(rt; placed(&rt, alloc, &opened, &found), displaced);
     comes_to(&rt, alloc, &opened, found, Status::Gap, b"gap joint 1 2\n");
+    let_go(opened);
 }
 
 // The snapshot is of one shard, and the journal of another, in which nothing was written.
@@ -172,4 +175,6 @@ fn a_key_that_no_step_wrote_has_no_place(rt: HostRuntime) {
         Status::Gap,
         b"gap joint 1 none\n",
     );
+    let_go(opened);
+    let_go(other);
 }

@@ -1,9 +1,10 @@
 //! Journals and notes of two nodes.
 
+use crate::conclude::key;
 use hk_assemble::{Gap, assemble, tickets_rise};
 use hk_base::{
-    Actor, Answer, Body, CallNo, Content, Data, Key, Kind, Letter, Letters, NodeId, Op, Reply,
-    Sequence, Stamp,
+    Actor, Answer, Body, CallNo, Content, Data, Kind, Letter, Letters, NodeId, Op, Reply, Sequence,
+    Stamp,
 };
 use hk_event::Header;
 use hk_journal::JournalEntry;
@@ -13,10 +14,6 @@ use hk_safety::{Run, order_of};
 use hk_script::print_event;
 use std::alloc::Global;
 use std::process::Abort;
-
-fn key(rt: &impl Abort, alloc: Global) -> Key {
-    Key::read(alloc, b"k").expect(rt, "memory")
-}
 
 fn content(rt: &impl Abort, alloc: Global, bytes: &[u8]) -> Content {
     let bytes = Data::read(alloc, bytes).expect(rt, "memory");
@@ -41,7 +38,7 @@ fn letter(from: u16, to: u16, body: Body) -> Letter {
 
 fn inv(rt: &impl Abort, alloc: Global) -> Letter {
     let body = Body::Inv {
-        key: key(rt, alloc),
+        key: key(rt, alloc, b"k"),
         stamp: stamp(),
         kind: Kind::Write,
         content: Some(content(rt, alloc, b"a")),
@@ -51,7 +48,7 @@ fn inv(rt: &impl Abort, alloc: Global) -> Letter {
 
 fn ack(rt: &impl Abort, alloc: Global) -> Letter {
     let body = Body::Ack {
-        key: key(rt, alloc),
+        key: key(rt, alloc, b"k"),
         stamp: stamp(),
         top: stamp(),
     };
@@ -60,7 +57,7 @@ fn ack(rt: &impl Abort, alloc: Global) -> Letter {
 
 fn val(rt: &impl Abort, alloc: Global) -> Letter {
     let body = Body::Val {
-        key: key(rt, alloc),
+        key: key(rt, alloc, b"k"),
         stamp: stamp(),
     };
     letter(0, 1, body)
@@ -88,7 +85,7 @@ fn entry(
 fn call(rt: &impl Abort, alloc: Global) -> JournalEntry {
     let event = NodeEvent::Call {
         call: CallNo(1),
-        key: key(rt, alloc),
+        key: key(rt, alloc, b"k"),
         op: Op::Write(content(rt, alloc, b"a")),
     };
     entry(rt, alloc, 1, event, Some(inv(rt, alloc)))
@@ -140,7 +137,7 @@ fn notes(rt: &impl Abort, alloc: Global, bytes: &[u8]) -> Notes {
         .push(Note {
             call: CallNo(9),
             node: NodeId(0),
-            key: key(rt, alloc),
+            key: key(rt, alloc, b"k"),
             own: 4,
             answer: Answer::Found {
                 content: content(rt, alloc, bytes),
@@ -190,7 +187,7 @@ fn a_write_and_a_local_read_are_one_run(rt: HostRuntime) {
             let text = events(&rt, alloc, &run);
             let lines = b"call 0 set k 0 a\ntake 1\ntake 2\ncall 0 get k\n";
             assert!(rt; text.as_slice() == lines.as_slice());
-            let order = order_of(alloc, &run, &key(&rt, alloc)).expect(&rt, "memory");
+            let order = order_of(alloc, &run, &key(&rt, alloc, b"k")).expect(&rt, "memory");
             assert_eq!(rt; order.len(), 2);
         }
         Err(_) => assert!(rt; false),
@@ -243,11 +240,11 @@ fn a_letter_that_nobody_sent_is_told(rt: HostRuntime) {
 fn altered(rt: &impl Abort, alloc: Global) -> Journals {
     let event = NodeEvent::Call {
         call: CallNo(1),
-        key: key(rt, alloc),
+        key: key(rt, alloc, b"k"),
         op: Op::Write(content(rt, alloc, b"a")),
     };
     let body = Body::Inv {
-        key: key(rt, alloc),
+        key: key(rt, alloc, b"k"),
         stamp: stamp(),
         kind: Kind::Write,
         content: Some(content(rt, alloc, b"b")),

@@ -11,8 +11,8 @@ use hk_storm::{StormGroup, StormGroups, StormOpts, are_groups, conclude, is_stor
 use std::alloc::Global;
 use std::process::Abort;
 
-fn key(rt: &impl Abort, alloc: Global, bytes: &[u8]) -> Key {
-    Key::read(alloc, bytes).expect(rt, "a key")
+pub fn key(rt: &impl Abort, alloc: Global, name: &[u8]) -> Key {
+    Key::read(alloc, name).expect(rt, "a key")
 }
 
 fn entry(alloc: Global, ticket: u64, event: NodeEvent, replies: StepReplies) -> JournalEntry {

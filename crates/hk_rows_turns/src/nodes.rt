@@ -11,6 +11,7 @@ use hk_base::{Actor, Answer, Content, Data, Key, MAX_TIME, Members, NodeId, Op, 
 use hk_link::{Inlet, Outlet, link};
 use hk_locked::Places;
 use hk_outside::{Desk, DeskReply};
+use hk_rows_shared::let_go;
 use hk_worker::{Founded, NodeDesk, Post, Shards, Tickets, work};
 use std::alloc::Global;
 use std::marker::Brand;
@@ -100,9 +101,23 @@ fn found_by_the_other<R: Abort, D: Desk, E: Desk>(
     let stored = one.ask(&key, &write).expect(rt, "memory");
     let found = two.ask(&key, &Op::Read).expect(rt, "memory");
     done.store(true, Ordering::SeqCst);
-    match found {
-        DeskReply::Told(Answer::Found { content, .. }) => stored == DeskReply::Told(Answer::Stored)
-            && content.bytes.bytes() == b"6".as_slice(),
+    let is_found = is_stored(&stored) && is_six(&found);
+    let_go(write);
+    let_go(stored);
+    let_go(found);
+    is_found
+}
+
+fn is_stored(reply: &DeskReply) -> bool {
+    matches!(reply, DeskReply::Told(Answer::Stored))
+}
+
+// Whether `6` was found.
+fn is_six(reply: &DeskReply) -> bool {
+    match reply {
+        DeskReply::Told(Answer::Found { content, .. }) => {
+            content.bytes.bytes() == b"6".as_slice()
+        }
         _ => false,
     }
 }

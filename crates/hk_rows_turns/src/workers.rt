@@ -12,6 +12,7 @@ use hk_base::{
 };
 use hk_link::{Inlet, Outlet, Parcel, link};
 use hk_locked::Places;
+use hk_rows_shared::let_go;
 use hk_worker::{Founded, Post, Shards, Tickets, work};
 use std::alloc::Global;
 use std::marker::Brand;
@@ -111,17 +112,10 @@ fn begin<R: Wait + Abort, P: Places>(rt: &R, alloc: Global, shards: &Shards<Quie
     let mut reader = held.reader(rt, alloc).expect(rt, "memory");
     let ticket = shards.tickets().draw_above(rt, held.last_ticket());
     let tell = Quiet { number: 0 };
-    held.start(
-        rt,
-        alloc,
-        &mut reader,
-        ticket,
-        CallNo(1),
-        &key,
-        &write(rt, alloc),
-        tell,
-    )
-    .expect(rt, "memory");
+    let op = write(rt, alloc);
+    let started = held.start(rt, alloc, &mut reader, ticket, CallNo(1), &key, &op, tell);
+    let_go(started.expect(rt, "memory"));
+    let_go(op);
 }
 
 // What a worker sends.
@@ -131,7 +125,7 @@ enum Sent {
     LeaseAsk,
 }
 
-fn is_such(parcel: Parcel, sent: Sent) -> bool {
+fn is_such(parcel: &Parcel, sent: Sent) -> bool {
     match sent {
         Sent::Update => matches!(&parcel.letter.body, Body::Inv { .. }),
         Sent::LeaseAsk => matches!(&parcel.letter.body, Body::LeaseAsk { .. }),
@@ -143,7 +137,9 @@ fn taken<R: Wait>(rt: &R, inlet: &mut Inlet, sent: Sent) -> u64 {
     for count in 0..64 {
         match inlet.take(rt) {
             Some(parcel) => {
-                if !is_such(parcel, sent) {
+                let is_other = !is_such(&parcel, sent);
+                let_go(parcel);
+                if is_other {
                     return 64;
                 }
             }
@@ -178,7 +174,9 @@ fn val_to(rt: &impl Abort, alloc: Global, node: u16) -> Parcel {
 }
 
 fn put<R: Wait + Abort>(rt: &R, outlet: &mut Outlet, parcel: Parcel) {
-    assert!(rt; outlet.put(rt, parcel).is_ok());
+    let put = outlet.put(rt, parcel);
+    assert!(rt; put.is_ok());
+    let_go(put);
 }
 
 // Work with an open gate gives so many turns.

@@ -2,6 +2,7 @@
 
 use hk_base::{Actor, Body, Letter, NodeId, Stamp};
 use hk_frame::{FrameFault, print_letter, read_letter};
+use hk_rows_shared::let_go;
 use std::alloc::Global;
 
 // Node 1 asks manager 0 for a lease, at 101 milliseconds of its clock.
@@ -50,6 +51,7 @@ fn printed_again(alloc: Global, bytes: &[u8]) -> Option<Vec<u8>> {
         Ok((shard, letter, len)) => {
             let mut out = Vec::new(alloc);
             let printed = print_letter(shard, &letter, &mut out);
+            let_go(letter);
             if printed.is_err() || len != bytes.len() {
                 return None;
             }
@@ -127,6 +129,7 @@ fn fields_are_told(rt: HostRuntime) {
                 (Actor::Node(NodeId(1)), Actor::Manager(0))
             );
             assert!(rt; asks_at(&letter, 101));
+            let_go(letter);
         }
         Err(fault) => panic!(rt; "{fault:?}"),
     }
@@ -143,6 +146,7 @@ fn fields_are_told(rt: HostRuntime) {
         Ok((shard, letter, len)) => {
             assert_eq!(rt; (shard, len, letter.epoch), (3, 42, 1));
             assert!(rt; acknowledges(&letter, update, own));
+            let_go(letter);
         }
         Err(fault) => panic!(rt; "{fault:?}"),
     }

@@ -5,6 +5,7 @@ ghost use Rattle.hk_link.specs.Ends.{IsSameLink};
 
 use hk_base::{Actor, Body, Key, Letter, NodeId, Stamp};
 use hk_link::{Bell, Full, Inlet, Outlet, Parcel, close_link, link};
+use hk_rows_shared::let_go;
 use std::alloc::Global;
 use std::process::Abort;
 use std::sync::{Arc, Wait};
@@ -48,7 +49,9 @@ fn taken<R: Wait>(rt: &R, inlet: &mut Inlet) -> Option<u64>
 }
 
 fn version_of(parcel: Parcel) -> Option<u64> {
-    version(&parcel)
+    let told = version(&parcel);
+    let_go(parcel);
+    told
 }
 
 // Puts a VAL of this version: the version of what comes back, if anything does.
@@ -82,9 +85,13 @@ fn through_split_ends<R: Wait>(
 {
     let (mut outlet, mut inlet) = ends;
     let Ok(mut other_outlet) = outlet.split() else {
+        let_go(first);
+        let_go(second);
         return None;
     };
     let Ok(mut other_inlet) = inlet.split() else {
+        let_go(first);
+        let_go(second);
         return None;
     };
     put(rt, &mut outlet, first);
@@ -149,6 +156,7 @@ fn put_when_there_is_room<R: Wait>(rt: &R, outlet: &mut Outlet, parcel: Parcel) 
             }
         }
     }
+    let_go(parcel);
 }
 
 // Whether the versions 0 up to this one come in order through a link of four places to another thread, which sleeps while it is empty.

@@ -6,6 +6,7 @@ use hk_outside::{
     MemorySink, MemorySource, NoSpawner, ReaderSource, Sink, Source, Spawner, Status, SteadyClock,
     TcpConnection, TcpDoors, ThreadSpawner, WriterSink,
 };
+use hk_rows_shared::let_go;
 use std::alloc::Global;
 use std::collections::VecDeque;
 use std::io::{Read, Write};
@@ -169,7 +170,12 @@ fn desk(rt: &impl Abort, alloc: Global) -> FakeDesk {
 fn tells(rt: &impl Abort, alloc: Global, desk: &mut FakeDesk, op: Op, answer: Answer) -> bool {
     let key = Key::read(alloc, b"k").expect(rt, "memory");
     let reply = desk.ask(&key, &op).expect(rt, "memory");
-    reply == DeskReply::Told(answer)
+    let_go(op);
+    let wanted = DeskReply::Told(answer);
+    let is_told = reply == wanted;
+    let_go(reply);
+    let_go(wanted);
+    is_told
 }
 
 fn busy() -> Answer {

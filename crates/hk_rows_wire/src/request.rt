@@ -1,6 +1,7 @@
 //! Lines at the edges of the grammar, and what each is read as.
 
-use hk_request::{Head, Request, RequestCause, read_request};
+use hk_request::{Head, Request, RequestCause, RequestFault, read_request};
+use hk_rows_shared::let_go;
 use std::alloc::{AllocError, Global};
 
 // What a line is read as, as far as the table tells it.
@@ -14,7 +15,14 @@ enum Reads {
 }
 
 fn reading_of(alloc: Global, line: &[u8]) -> Reads {
-    match &read_request(alloc, line) {
+    let read = read_request(alloc, line);
+    let told = told_of(&read);
+    let_go(read);
+    told
+}
+
+fn told_of(read: &Result<Head, RequestFault>) -> Reads {
+    match read {
         Ok(Head::Store(head)) => Reads::Store { bytes: head.bytes },
         Ok(Head::Whole(Request::Get { keys, .. })) => Reads::Get { keys: keys.len() },
         Ok(Head::Whole(Request::Update { .. })) => Reads::Update,

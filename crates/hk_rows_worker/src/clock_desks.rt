@@ -6,10 +6,11 @@ ghost use Rattle.hk_worker.specs.Founding.{names_of};
 
 use crate::completing::Quiet;
 use crate::desks::{entries, finds, is_stored};
-use crate::founding::{asked, clock_desk, content, found, found_for_a_while, key, long_data};
+use crate::founding::{clock_desk, content, found, found_for_a_while, key, long_data, tells};
 use hk_base::{Answer, Key, Op, Why};
 use hk_locked::Places;
 use hk_outside::{Desk, DeskReply};
+use hk_rows_shared::let_go;
 use hk_worker::{Founded, Shards};
 use std::alloc::Global;
 use std::marker::Brand;
@@ -25,7 +26,7 @@ fn local_reads<R: Wait + Abort + Copy + Drop, P: Places>(rt: R, alloc: Global, f
 {
     let shards: Arc<Shards<Quiet, P>> = Arc::new(alloc, founded.named()).expect(&rt, "memory");
     let mut desk = clock_desk(rt, alloc, &shards, 1, 5);
-    let k = key(&rt, alloc);
+    let k = key(&rt, alloc, b"k");
     assert!(rt; is_stored(&rt, &mut desk, &k, Op::Write(content(&rt, alloc, b"1"))));
     assert_eq!(rt; entries(&rt, &shards), 2);
     assert!(rt; finds(&rt, &mut desk, &k, b"1", 131_072));
@@ -35,6 +36,10 @@ fn local_reads<R: Wait + Abort + Copy + Drop, P: Places>(rt: R, alloc: Global, f
     assert!(rt; is_stored(&rt, &mut desk, &k, write));
     assert!(rt; finds(&rt, &mut desk, &k, data.as_slice(), 262_144));
     assert_eq!(rt; entries(&rt, &shards), 3);
+    let_go(data);
+    let_go(desk);
+    let_go(k);
+    let_go(shards);
 }
 
 #[test]
@@ -47,7 +52,7 @@ fn reads_are_told_from_what_a_shard_shows(rt: HostRuntime) {
 // Whether the desk tells that the lease, which ends at 10, may be over at 11.
 fn is_over<R: Abort, D: Desk>(rt: &R, desk: &mut D, key: &Key, op: Op) -> bool {
     let over = DeskReply::Told(Answer::Busy(Why::Lease { end: 10, now: 11 }));
-    asked(rt, desk, key, op) == over
+    tells(rt, desk, key, op, over)
 }
 
 // Once the lease may be over, reads and updates are told so, with its end and the clock.
@@ -57,11 +62,15 @@ fn leases_end<R: Wait + Abort + Copy + Drop, P: Places>(rt: R, alloc: Global, fo
     let shards: Arc<Shards<Quiet, P>> = Arc::new(alloc, founded.named()).expect(&rt, "memory");
     let mut early = clock_desk(rt, alloc, &shards, 1, 10);
     let mut late = clock_desk(rt, alloc, &shards, 2, 11);
-    let k = key(&rt, alloc);
+    let k = key(&rt, alloc, b"k");
     assert!(rt; is_stored(&rt, &mut early, &k, Op::Write(content(&rt, alloc, b"1"))));
     assert!(rt; is_over(&rt, &mut late, &k, Op::Read));
     assert!(rt; is_over(&rt, &mut late, &k, Op::Delete));
     assert!(rt; finds(&rt, &mut early, &k, b"1", 131_072));
+    let_go(early);
+    let_go(late);
+    let_go(k);
+    let_go(shards);
 }
 
 #[test]
@@ -97,7 +106,7 @@ where
     P: Places + Send + Sync + 'static,
 {
     let mut desk = clock_desk(rt, alloc, shards, 2, 5);
-    let k = key(&rt, alloc);
+    let k = key(&rt, alloc, b"k");
     let told = Arc::new(alloc, AtomicBool::new(false)).expect(&rt, "memory");
     let tell = Arc::try_clone(&told).expect(&rt, "memory");
     let held = shards.lock_of(3).lock(&rt);
@@ -118,9 +127,12 @@ where
 {
     let shards: Arc<Shards<Quiet, P>> = Arc::new(alloc, founded.named()).expect(&rt, "memory");
     let mut desk = clock_desk(rt, alloc, &shards, 1, 5);
-    let k = key(&rt, alloc);
+    let k = key(&rt, alloc, b"k");
     assert!(rt; is_stored(&rt, &mut desk, &k, Op::Write(content(&rt, alloc, b"1"))));
     assert!(rt; passes(rt, alloc, &shards));
+    let_go(desk);
+    let_go(k);
+    let_go(shards);
 }
 
 #[test]

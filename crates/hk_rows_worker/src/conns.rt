@@ -9,6 +9,7 @@ use crate::founding::{clock_desk, found};
 use hk_conn::{ConnEnd, serve_connection};
 use hk_locked::Places;
 use hk_outside::{MemoryConnection, MemorySink, MemorySource};
+use hk_rows_shared::let_go;
 use hk_worker::{Founded, Shards};
 use std::alloc::Global;
 use std::marker::Brand;
@@ -81,7 +82,10 @@ fn tells<R: Wait + Abort + Copy + Drop, P: Places>(rt: R, alloc: Global, founded
         let end = serve_connection(alloc, &mut conn, &mut desk, 64);
         assert_eq!(rt; end, row.end, "{}", row.name);
         assert_eq!(rt; conn.sink.sink.bytes.as_slice(), row.told, "{}", row.name);
+        let_go(desk);
+        let_go(conn);
     }
+    let_go(shards);
 }
 
 #[test]

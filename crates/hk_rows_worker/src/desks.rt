@@ -5,12 +5,13 @@ ghost use Rattle.hk_locked.specs.Places.{node_names};
 ghost use Rattle.hk_worker.specs.Founding.{names_of};
 
 use crate::completing::Quiet;
-use crate::founding::{asked, content, desk, found, key, long_data};
+use crate::founding::{asked, content, desk, found, key, long_data, tells};
 use hk_base::{Answer, Key, Op, Stamp, State, Why};
 use hk_journal::{Journal, JournalEntry};
 use hk_locked::Places;
 use hk_node::NodeEvent;
 use hk_outside::{Begun, Desk, DeskReply};
+use hk_rows_shared::let_go;
 use hk_worker::{Founded, Shards};
 use std::alloc::Global;
 use std::marker::Brand;
@@ -18,14 +19,23 @@ use std::process::Abort;
 use std::sync::{Arc, Wait};
 
 pub fn is_stored<R: Abort, D: Desk>(rt: &R, desk: &mut D, key: &Key, op: Op) -> bool {
-    asked(rt, desk, key, op) == DeskReply::Told(Answer::Stored)
+    tells(rt, desk, key, op, DeskReply::Told(Answer::Stored))
 }
 
 // Whether a read finds the data under the tag.
 pub fn finds<R: Abort, D: Desk>(rt: &R, desk: &mut D, key: &Key, data: &[u8], under: u64) -> bool {
-    match asked(rt, desk, key, Op::Read) {
-        DeskReply::Told(Answer::Found { content, tag }) => content.bytes.bytes() == data
-            && tag == under,
+    let reply = asked(rt, desk, key, Op::Read);
+    let is_found = has_found(&reply, data, under);
+    let_go(reply);
+    is_found
+}
+
+// Whether the reply has the data under the tag.
+fn has_found(reply: &DeskReply, data: &[u8], under: u64) -> bool {
+    match reply {
+        DeskReply::Told(Answer::Found { content, tag }) => {
+            content.bytes.bytes() == data && *tag == under
+        }
         _ => false,
     }
 }
@@ -43,7 +53,7 @@ fn two_desks<R: Wait + Abort + Copy + Drop, P: Places>(rt: R, alloc: Global, fou
     let mut first = desk(rt, alloc, &shards, 1);
     let mut second = desk(rt, alloc, &shards, 2);
     let mut third = desk(rt, alloc, &shards, 3);
-    let k = key(&rt, alloc);
+    let k = key(&rt, alloc, b"k");
     let data = long_data(&rt, alloc);
     let write = Op::Write(content(&rt, alloc, data.as_slice()));
     assert!(rt; is_stored(&rt, &mut first, &k, write));
@@ -54,6 +64,12 @@ fn two_desks<R: Wait + Abort + Copy + Drop, P: Places>(rt: R, alloc: Global, fou
     assert_eq!(rt; entries(&rt, &shards), 3);
     third.post.trim(&rt, 1).expect(&rt, "memory");
     assert_eq!(rt; entries(&rt, &shards), 0);
+    let_go(first);
+    let_go(second);
+    let_go(third);
+    let_go(k);
+    let_go(data);
+    let_go(shards);
 }
 
 #[test]
@@ -90,9 +106,10 @@ fn told_begins_nothing<R: Wait + Abort + Copy + Drop, P: Places>(
 {
     let shards: Arc<Shards<Quiet, P>> = Arc::new(alloc, founded.named()).expect(&rt, "memory");
     let mut desk = desk(rt, alloc, &shards, 1);
-    let k = key(&rt, alloc);
+    let k = key(&rt, alloc, b"k");
     let write = Op::Write(content(&rt, alloc, b"1"));
-    assert!(rt; asked(&rt, &mut desk, &k, write) == DeskReply::Unknown { turns: 100_000 });
+    let unknown = DeskReply::Unknown { turns: 100_000 };
+    assert!(rt; tells(&rt, &mut desk, &k, write, unknown));
     let busy = Answer::Busy(Why::Row {
         state: State::Write,
         stamp: Stamp {
@@ -102,7 +119,13 @@ fn told_begins_nothing<R: Wait + Abort + Copy + Drop, P: Places>(
     });
     let told = asked(&rt, &mut desk, &k, Op::Incr(1));
     assert!(rt; began_once(shards.lock_of(3).lock(&rt).journal(), &busy));
-    assert!(rt; told == DeskReply::Told(busy));
+    let wanted = DeskReply::Told(busy);
+    assert!(rt; told == wanted);
+    let_go(told);
+    let_go(wanted);
+    let_go(desk);
+    let_go(k);
+    let_go(shards);
 }
 
 #[test]
@@ -118,7 +141,7 @@ fn stored_by_tag<R: Wait + Abort + Copy + Drop, P: Places>(rt: R, alloc: Global,
 {
     let shards: Arc<Shards<Quiet, P>> = Arc::new(alloc, founded.named()).expect(&rt, "memory");
     let mut desk = desk(rt, alloc, &shards, 1);
-    let k = key(&rt, alloc);
+    let k = key(&rt, alloc, b"k");
     let write = Op::Write(content(&rt, alloc, b"1"));
     assert!(rt; is_stored(&rt, &mut desk, &k, write));
     let cas = Op::Cas {
@@ -126,6 +149,9 @@ fn stored_by_tag<R: Wait + Abort + Copy + Drop, P: Places>(rt: R, alloc: Global,
         content: content(&rt, alloc, b"2"),
     };
     assert!(rt; is_stored(&rt, &mut desk, &k, cas));
+    let_go(desk);
+    let_go(k);
+    let_go(shards);
 }
 
 #[test]
@@ -138,15 +164,24 @@ fn a_tag_that_was_told_serves_the_next_update(rt: HostRuntime) {
 // What a write that begins comes to.
 fn begun<R: Abort, D: Desk>(rt: &R, alloc: Global, desk: &mut D, key: &Key) -> Begun<D::Waits> {
     let write = Op::Write(content(rt, alloc, b"1"));
-    desk.begin(key, &write).expect(rt, "memory")
+    let begun = desk.begin(key, &write).expect(rt, "memory");
+    let_go(write);
+    begun
 }
 
 // Whether it waits, and is told as unknown in the end.
 fn ends_unknown<R: Abort, D: Desk>(rt: &R, desk: &mut D, begun: Begun<D::Waits>) -> bool {
     match begun {
-        Begun::Told(_) => false,
-        Begun::Waits(waits) => desk.finish(waits).expect(rt, "memory")
-            == DeskReply::Unknown { turns: 100_000 },
+        Begun::Told(reply) => {
+            let_go(reply);
+            false
+        }
+        Begun::Waits(waits) => {
+            let reply = desk.finish(waits).expect(rt, "memory");
+            let is_unknown = matches!(&reply, DeskReply::Unknown { turns: 100_000 });
+            let_go(reply);
+            is_unknown
+        }
     }
 }
 
@@ -156,14 +191,20 @@ fn two_wait<R: Wait + Abort + Copy + Drop, P: Places>(rt: R, alloc: Global, foun
 {
     let shards: Arc<Shards<Quiet, P>> = Arc::new(alloc, founded.named()).expect(&rt, "memory");
     let mut desk = desk(rt, alloc, &shards, 1);
-    let first = key(&rt, alloc);
-    let second = Key::read(alloc, b"other").expect(&rt, "a key");
-    let third = Key::read(alloc, b"third").expect(&rt, "a key");
-    let first = begun(&rt, alloc, &mut desk, &first);
-    let second = begun(&rt, alloc, &mut desk, &second);
-    assert!(rt; asked(&rt, &mut desk, &third, Op::Read) == DeskReply::Told(Answer::Missing));
-    assert!(rt; ends_unknown(&rt, &mut desk, second));
-    assert!(rt; ends_unknown(&rt, &mut desk, first));
+    let first = key(&rt, alloc, b"k");
+    let second = key(&rt, alloc, b"other");
+    let third = key(&rt, alloc, b"third");
+    let first_begun = begun(&rt, alloc, &mut desk, &first);
+    let second_begun = begun(&rt, alloc, &mut desk, &second);
+    let missing = DeskReply::Told(Answer::Missing);
+    assert!(rt; tells(&rt, &mut desk, &third, Op::Read, missing));
+    assert!(rt; ends_unknown(&rt, &mut desk, second_begun));
+    assert!(rt; ends_unknown(&rt, &mut desk, first_begun));
+    let_go(desk);
+    let_go(first);
+    let_go(second);
+    let_go(third);
+    let_go(shards);
 }
 
 #[test]

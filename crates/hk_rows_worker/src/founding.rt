@@ -8,14 +8,15 @@ use crate::completing::Quiet;
 use hk_base::{Content, Data, Key, MAX_TIME, Members, NodeId, Op, Sequence, View};
 use hk_locked::Places;
 use hk_outside::{Desk, DeskReply, HandClock};
+use hk_rows_shared::let_go;
 use hk_worker::{ClockDesk, Founded, NodeDesk, Post, Shards, Tickets};
 use std::alloc::Global;
 use std::marker::Brand;
 use std::process::Abort;
 use std::sync::{Arc, Wait};
 
-pub fn key(rt: &impl Abort, alloc: Global) -> Key {
-    Key::read(alloc, b"k").expect(rt, "a key")
+pub fn key(rt: &impl Abort, alloc: Global, name: &[u8]) -> Key {
+    Key::read(alloc, name).expect(rt, "a key")
 }
 
 pub fn content(rt: &impl Abort, alloc: Global, data: &[u8]) -> Content {
@@ -135,5 +136,22 @@ pub fn clock_desk<R: Wait + Abort + Copy + Drop, P: Places>(
 
 // What a desk tells.
 pub fn asked<R: Abort, D: Desk>(rt: &R, desk: &mut D, key: &Key, op: Op) -> DeskReply {
-    desk.ask(key, &op).expect(rt, "memory")
+    let reply = desk.ask(key, &op).expect(rt, "memory");
+    let_go(op);
+    reply
+}
+
+// Whether this is what a desk tells.
+pub fn tells<R: Abort, D: Desk>(
+    rt: &R,
+    desk: &mut D,
+    key: &Key,
+    op: Op,
+    wanted: DeskReply,
+) -> bool {
+    let reply = asked(rt, desk, key, op);
+    let is_told = reply == wanted;
+    let_go(reply);
+    let_go(wanted);
+    is_told
 }

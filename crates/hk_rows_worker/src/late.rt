@@ -7,11 +7,13 @@ ghost use Rattle.hk_worker.specs.Founding.{names_of};
 use crate::completing::Quiet;
 use crate::desks::{finds, is_stored};
 use crate::founding::{
-    asked, clock_desk, content, desk, found, found_for_a_while, found_without_lease, key, long_data,
+    asked, clock_desk, content, desk, found, found_for_a_while, found_without_lease, key,
+    long_data, tells,
 };
 use hk_base::{Answer, Key, Op, Why};
 use hk_locked::{Places, ShardReader};
 use hk_outside::{Begun, Clock, Desk, DeskReply};
+use hk_rows_shared::let_go;
 use hk_worker::{ClockDesk, DeskClock, Founded, Shards};
 use std::alloc::Global;
 use std::marker::Brand;
@@ -58,16 +60,71 @@ fn jumping_desk<R: Wait + Abort + Copy + Drop, P: Places>(
 
 // Whether the reply is that the lease, which ends at 10, may be over at 11.
 fn is_over(reply: &DeskReply) -> bool {
-    *reply == DeskReply::Told(Answer::Busy(Why::Lease { end: 10, now: 11 }))
+    matches!(
+        reply,
+        DeskReply::Told(Answer::Busy(Why::Lease { end: 10, now: 11 }))
+    )
+}
+
+// Whether what begins is told so at once.
+fn begins_over<W>(begun: &Begun<W>) -> bool {
+    match begun {
+        Begun::Told(reply) => is_over(reply),
+        Begun::Waits(_) => false,
+    }
 }
 
 // Whether an ask, and one that begins, are told so.
 fn is_refused<R: Abort, D: Desk>(rt: &R, desk: &mut D, key: &Key, op: Op) -> bool {
-    let begun = match desk.begin(key, &op).expect(rt, "memory") {
-        Begun::Told(reply) => is_over(&reply),
-        Begun::Waits(_) => false,
+    let begun = desk.begin(key, &op).expect(rt, "memory");
+    let begins_refused = begins_over(&begun);
+    let_go(begun);
+    let reply = asked(rt, desk, key, op);
+    let is_asked_refused = is_over(&reply);
+    let_go(reply);
+    begins_refused && is_asked_refused
+}
+
+// At a key with no value what is asked is refused.
+fn refuses_without_value<R: Abort, D: Desk>(rt: &R, late: &mut D, k: &Key) {
+    assert!(rt; is_refused(rt, late, k, Op::Read));
+    assert!(rt; is_refused(rt, late, k, Op::Incr(1)));
+}
+
+// A write of a short value is told, and what is asked of it is refused.
+fn refuses_a_short_value<R: Abort, D: Desk, E: Desk>(
+    rt: &R,
+    alloc: Global,
+    early: &mut D,
+    late: &mut E,
+    k: &Key,
+) {
+    assert!(rt; is_stored(rt, late, k, Op::Write(content(rt, alloc, b"x"))));
+    assert!(rt; is_refused(rt, late, k, Op::Read));
+    assert!(rt; is_refused(rt, late, k, Op::Decr(1)));
+    assert!(rt; is_refused(rt, late, k, Op::Add(content(rt, alloc, b"2"))));
+    let cas = Op::Cas {
+        tag: 1,
+        content: content(rt, alloc, b"2"),
     };
-    begun && is_over(&asked(rt, desk, key, op))
+    assert!(rt; is_refused(rt, late, k, cas));
+    assert!(rt; finds(rt, early, k, b"x", 131_072));
+}
+
+// So it is with a long value.
+fn refuses_a_long_value<R: Abort, D: Desk, E: Desk>(
+    rt: &R,
+    alloc: Global,
+    early: &mut D,
+    late: &mut E,
+    k: &Key,
+) {
+    let data = long_data(rt, alloc);
+    let write = Op::Write(content(rt, alloc, data.as_slice()));
+    assert!(rt; is_stored(rt, late, k, write));
+    assert!(rt; is_refused(rt, late, k, Op::Read));
+    assert!(rt; finds(rt, early, k, data.as_slice(), 262_144));
+    let_go(data);
 }
 
 // What began no update is told behind its lease that this may be over, at a key with a short value, with a long one, and with none; what began one is told all the same, and
@@ -78,24 +135,14 @@ fn late_answers<R: Wait + Abort + Copy + Drop, P: Places>(rt: R, alloc: Global, 
     let shards: Arc<Shards<Quiet, P>> = Arc::new(alloc, founded.named()).expect(&rt, "memory");
     let mut early = clock_desk(rt, alloc, &shards, 1, 5);
     let mut late = jumping_desk(rt, alloc, &shards, 2);
-    let k = key(&rt, alloc);
-    assert!(rt; is_refused(&rt, &mut late, &k, Op::Read));
-    assert!(rt; is_refused(&rt, &mut late, &k, Op::Incr(1)));
-    assert!(rt; is_stored(&rt, &mut late, &k, Op::Write(content(&rt, alloc, b"x"))));
-    assert!(rt; is_refused(&rt, &mut late, &k, Op::Read));
-    assert!(rt; is_refused(&rt, &mut late, &k, Op::Decr(1)));
-    assert!(rt; is_refused(&rt, &mut late, &k, Op::Add(content(&rt, alloc, b"2"))));
-    let cas = Op::Cas {
-        tag: 1,
-        content: content(&rt, alloc, b"2"),
-    };
-    assert!(rt; is_refused(&rt, &mut late, &k, cas));
-    assert!(rt; finds(&rt, &mut early, &k, b"x", 131_072));
-    let data = long_data(&rt, alloc);
-    let write = Op::Write(content(&rt, alloc, data.as_slice()));
-    assert!(rt; is_stored(&rt, &mut late, &k, write));
-    assert!(rt; is_refused(&rt, &mut late, &k, Op::Read));
-    assert!(rt; finds(&rt, &mut early, &k, data.as_slice(), 262_144));
+    let k = key(&rt, alloc, b"k");
+    refuses_without_value(&rt, &mut late, &k);
+    refuses_a_short_value(&rt, alloc, &mut early, &mut late, &k);
+    refuses_a_long_value(&rt, alloc, &mut early, &mut late, &k);
+    let_go(early);
+    let_go(late);
+    let_go(k);
+    let_go(shards);
 }
 
 #[test]
@@ -111,10 +158,14 @@ fn unending<R: Wait + Abort + Copy + Drop, P: Places>(rt: R, alloc: Global, foun
 {
     let shards: Arc<Shards<Quiet, P>> = Arc::new(alloc, founded.named()).expect(&rt, "memory");
     let mut late = jumping_desk(rt, alloc, &shards, 1);
-    let k = key(&rt, alloc);
-    assert!(rt; asked(&rt, &mut late, &k, Op::Incr(1)) == DeskReply::Told(Answer::NotFound));
+    let k = key(&rt, alloc, b"k");
+    let not_found = DeskReply::Told(Answer::NotFound);
+    assert!(rt; tells(&rt, &mut late, &k, Op::Incr(1), not_found));
     assert!(rt; is_stored(&rt, &mut late, &k, Op::Write(content(&rt, alloc, b"1"))));
     assert!(rt; finds(&rt, &mut late, &k, b"1", 131_072));
+    let_go(late);
+    let_go(k);
+    let_go(shards);
 }
 
 #[test]
@@ -130,12 +181,15 @@ fn asks_at_first<R: Wait + Abort + Copy + Drop, P: Places>(rt: R, alloc: Global,
 {
     let shards: Arc<Shards<Quiet, P>> = Arc::new(alloc, founded.named()).expect(&rt, "memory");
     let mut desk = clock_desk(rt, alloc, &shards, 1, 1);
-    let k = key(&rt, alloc);
+    let k = key(&rt, alloc, b"k");
     let over = DeskReply::Told(Answer::Busy(Why::Lease { end: 0, now: 1 }));
-    assert!(rt; asked(&rt, &mut desk, &k, Op::Read) == over);
+    assert!(rt; tells(&rt, &mut desk, &k, Op::Read, over));
     assert_eq!(rt; desk.desk.post.requests_due(), 0);
     desk.desk.post.tick(&rt, 1).expect(&rt, "memory");
     assert_eq!(rt; desk.desk.post.requests_due(), 16);
+    let_go(desk);
+    let_go(k);
+    let_go(shards);
 }
 
 #[test]

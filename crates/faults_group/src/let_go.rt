@@ -1,0 +1,4 @@
+//! How values with many parts are let go of.
+
+/// Lets go of a value. Where a value is dropped in place, all its parts are looked at there, and at each way out.
+pub fn let_go<T: Drop>(_value: T) {}
