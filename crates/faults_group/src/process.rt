@@ -1,25 +1,27 @@
 //! A process of the group: its clock, what its parts share, its manager and its node.
 //!
-//! What a process reports, how its node stands, and which node it is to make are repeated here from `hk_channel` and
-//! `hk_host`, whose jobs wait for connections and for time. What it asks, claims and holds, when it leaves and when it
-//! ends tells `hk_shared_state`.
+//! What a process asks, claims and holds, what its node is to be, how that stands, when it leaves and when it ends tells
+//! `hk_shared_state`, what it reports `hk_channel`. Their jobs, which wait for connections and for time, stand here again.
 
 ghost use Rattle.std.specs.Prelude.{◌≤◌};
 ghost use Rattle.hk_base.specs.declared.time.TheConstants.{MAX_TIME};
 
 use crate::clock::{HostClock, Pace};
 use crate::happening::{Asker, Happening};
-use crate::identity::{MOST_MANAGERS, text_of};
+use crate::identity::MOST_MANAGERS;
 use crate::let_go::let_go;
 use crate::manager::{HostShared, Manager};
 use crate::mistake::Mistake;
 use crate::node::Node;
-use hk_base::{Memory, NodeId, SHARDS, Sequence, View};
+use hk_base::{Memory, NodeId, SHARDS, View};
 use hk_boards::HeardBoard;
+use hk_channel::report_of;
 use hk_host_words::Verbosity;
-use hk_inside::{Board, Inquiry, NodeState, Report, Response, ShardsTold};
+use hk_inside::{Board, Inquiry, NodeState, Report, Response};
 use hk_link::Parcel;
-use hk_shared_state::{Coming, Identity, Mailbox, SharedState, Standing, Telling};
+use hk_shared_state::{
+    Coming, Identity, Mailbox, Part, SharedState, Standing, Telling, state_behind,
+};
 use std::alloc::Global;
 use std::io::Eprint;
 use std::sync::atomic::AtomicBool;
@@ -41,68 +43,13 @@ pub struct Process<R: Wait + Drop> {
     pub has_turn: bool,
 }
 
-// How a node stands that has so many shards ready.
-fn state_of(before: NodeState, ready: u8, least_epoch: u64) -> NodeState {
-    if before == NodeState::Leaving || before == NodeState::Ready {
-        before
-    } else if ready == SHARDS {
-        NodeState::Ready
-    } else if least_epoch > 0 {
-        NodeState::Copying
-    } else {
-        NodeState::Seated
+// What the node of a process is. By mistake it takes a number that it was given for its own at once.
+fn part_of(identity: &Identity, standing: &Standing, mistake: Mistake) -> Option<Part> {
+    let part = standing.part(identity);
+    if part.is_none() && mistake == Mistake::SharedNumbers {
+        return standing.given.map(Part::Joiner);
     }
-}
-
-// How a process stands, as it reports.
-fn report_of(
-    alloc: Global,
-    identity: &Identity,
-    standing: &Standing,
-    reading: u64,
-) -> Result<Report, Memory> {
-    let until = reading.saturating_add(u64::from(identity.skew));
-    let left = standing.shards.lease_end.saturating_sub(until);
-    Ok(Report {
-        ticket: identity.ticket,
-        node: standing.node,
-        state: standing.state,
-        manager: if standing.manager.is_some() {
-            identity.place
-        } else {
-            None
-        },
-        records: standing.records,
-        shards: ShardsTold {
-            ready: standing.shards.ready,
-            least_epoch: standing.shards.least_epoch,
-            least_lease_left: u32::try_from(left).unwrap_or(u32::MAX),
-        },
-        counts: standing.counts,
-        inside: text_of(alloc, identity.inside.as_slice())?,
-        clients: text_of(alloc, identity.clients.as_slice())?,
-        nodes: Sequence::from_vec(standing.asks.as_slice().to_vec(alloc)?),
-    })
-}
-
-// The number of the node that a process is to make, and whether that is a founder. By mistake it takes a number that it
-// was given for its own at once.
-fn part_of(identity: &Identity, standing: &Standing, mistake: Mistake) -> Option<(NodeId, bool)> {
-    if standing.founding == 0 {
-        return None;
-    }
-    if let Some(place) = identity.place {
-        let node = NodeId(u16::from(place));
-        if standing.boards.holder(standing.founding, node) == Some(identity.ticket) {
-            return Some((node, true));
-        }
-    }
-    let node = if mistake == Mistake::SharedNumbers {
-        standing.given
-    } else {
-        standing.held(identity)
-    };
-    Some((node?, false))
+    part
 }
 
 fn claimed_by(inquiry: &Inquiry) -> Option<NodeId> {
@@ -212,7 +159,7 @@ impl<R: Wait + Eprint + Copy + Drop> Process<R> {
         let standing = &mut *guard;
         let ready = node.count_whole();
         let least_epoch = node.least_epoch();
-        standing.state = state_of(standing.state, ready, least_epoch);
+        standing.state = state_behind(standing.state, ready, least_epoch);
         standing.shards.ready = ready;
         standing.shards.least_epoch = least_epoch;
         standing.shards.lease_end = node.least_end();
@@ -228,7 +175,7 @@ impl<R: Wait + Eprint + Copy + Drop> Process<R> {
         !self.shared.look_out()
     }
 
-    fn part(&self, mistake: Mistake) -> Option<(NodeId, bool)> {
+    fn part(&self, mistake: Mistake) -> Option<Part> {
         let guard = self.shared.standing.lock(&self.shared.rt);
         let standing = &*guard;
         part_of(&self.shared.identity, standing, mistake)
@@ -246,12 +193,16 @@ impl<R: Wait + Eprint + Copy + Drop> Process<R> {
         if self.node.is_some() {
             return Ok(false);
         }
-        let Some((number, is_founder)) = self.part(mistake) else {
+        let Some(part) = self.part(mistake) else {
             return Ok(false);
         };
+        let number = part.number();
         let (alloc, managers) = (self.shared.alloc, self.shared.identity.managers());
         let first = View::first(alloc, managers)?;
-        let view = if is_founder { Some(&first) } else { None };
+        let view = match part {
+            Part::Founder(_) => Some(&first),
+            Part::Joiner(_) => None,
+        };
         self.node = Some(Node::new(alloc, number, managers, view)?);
         self.stand(number);
         Ok(true)

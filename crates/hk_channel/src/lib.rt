@@ -56,5 +56,5 @@ pub use channel::{AimedCarrier, Channel};
 pub use entry::NodeEntry;
 pub use incoming_conns::{ConnUse, IncomingConns};
 pub use inside::{MOST_INCOMING, start_inside};
-pub use reporting::ReportJob;
+pub use reporting::{ReportJob, report_of};
 pub use retry::Retry;

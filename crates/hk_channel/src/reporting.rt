@@ -105,8 +105,8 @@ fn nodes_told(alloc: Global, asks: &[NodeSeen]) -> Result<NodesSeen, Memory>
     Ok(Sequence::from_vec(told))
 }
 
-// What a process tells of itself that stands so at a reading.
-fn report_of(
+/// What a process tells of itself that stands so at a reading of its clock, in milliseconds.
+pub fn report_of(
     alloc: Global,
     identity: &Identity,
     standing: &Standing,

@@ -26,7 +26,7 @@ use hk_outside::Spawner;
 use hk_peer::PromptCarrier;
 use hk_process::Sending;
 use hk_routes::Routes;
-use hk_shared_state::{Identity, SharedState, copy_of};
+use hk_shared_state::{Identity, Part, SharedState, copy_of};
 use hk_worker::{DeskClock, Founded, OpenAsk};
 use std::alloc::Global;
 use std::io::Eprint;
@@ -34,25 +34,6 @@ use std::sync::{Arc, Wait};
 
 // The workers of a node raise its clock so often in a beat at most.
 const READINGS: u64 = 4;
-
-/// What the node of a process is.
-#[derive(Clone, Copy)]
-pub(crate) enum Part {
-    /// A founder, of the number of its host's place.
-    Founder(u8),
-    /// A joiner of this number.
-    Joiner(NodeId),
-}
-
-impl Part {
-    /// The number of the node.
-    pub(crate) fn number(self) -> NodeId {
-        match self {
-            Part::Founder(place) => NodeId(u16::from(place)),
-            Part::Joiner(node) => node,
-        }
-    }
-}
 
 /// The group as its founders have it. It opens no port of its own.
 pub(crate) fn founding_group(identity: &Identity, workers: u8) -> Group

@@ -14,7 +14,7 @@ use crate::clients::{ClientDoors, can_open, open_in_time, take_each};
 use crate::fault::{ServeFault, StartFault};
 use crate::lanes::NodeDoor;
 use crate::manager::{HostManager, Inside, start_host};
-use crate::node::{Part, founding_group, new_member, start_node};
+use crate::node::{founding_group, new_member, start_node};
 use crate::sending::Dialers;
 use hk_base::{Memory, NodeId, View};
 use hk_channel::Channel;
@@ -28,7 +28,7 @@ use hk_loops::EventLoops;
 use hk_outside::{Clock, Spawner, Status};
 use hk_peer::PromptCarrier;
 use hk_process::Sending;
-use hk_shared_state::{Identity, Mailbox, Notice, SharedState, Standing, Telling, rest};
+use hk_shared_state::{Identity, Mailbox, Notice, Part, SharedState, Standing, Telling, rest};
 use hk_worker::{DeskClock, Founded, NodeCells, OpenAsk, Tickets};
 use std::alloc::Global;
 use std::io::Eprint;
@@ -76,24 +76,10 @@ fn new_shared<R: Wait + Drop, C: Drop>(
     Ok(Arc::new(alloc, shared)?)
 }
 
-// Whether the boards bind the number of this host's place to this process.
-fn is_founder(standing: &Standing, identity: &Identity, place: u8) -> bool {
-    let node = NodeId(u16::from(place));
-    standing.founding != 0
-        && standing.boards.holder(standing.founding, node) == Some(identity.ticket)
-}
-
 // What the node is, once that is known.
 fn part_of<R: Wait + Drop, C: Drop>(shared: &SharedState<R, C>) -> Option<Part> {
     let guard = shared.standing.lock(&shared.rt);
-    let standing = &*guard;
-    if let Some(place) = shared.identity.place {
-        if is_founder(standing, &shared.identity, place) {
-            return Some(Part::Founder(place));
-        }
-    }
-    let node = standing.held(&shared.identity)?;
-    Some(Part::Joiner(node))
+    guard.part(&shared.identity)
 }
 
 // Fails where the process is to end: the log of its manager lost records, its node was left out, or its group is no more.

@@ -7,7 +7,7 @@ use hk_inside::{Counts, NodeState};
 use hk_lanes::Tallies;
 use hk_locked::Places;
 use hk_outside::{Clock, Job};
-use hk_shared_state::{Notice, Presence, SharedState, rest};
+use hk_shared_state::{Notice, Presence, SharedState, rest, state_behind};
 use std::io::Eprint;
 use std::sync::{Arc, Wait};
 
@@ -29,19 +29,6 @@ pub(crate) struct WatchJob<R: Wait + Drop, C: Drop, P: Places, D: DialAt + Drop>
     pub(crate) clients: Address,
 }
 
-// How a node stands that has so many shards ready, of which the least epoch is this.
-fn state_of(before: NodeState, ready: u8, least_epoch: u64) -> NodeState {
-    if before == NodeState::Leaving || before == NodeState::Ready {
-        before
-    } else if ready == 8 {
-        NodeState::Ready
-    } else if least_epoch > 0 {
-        NodeState::Copying
-    } else {
-        NodeState::Seated
-    }
-}
-
 // Others learn how the node stands. It gives how that is.
 fn stand<R: Wait + Drop, C: Drop>(
     shared: &SharedState<R, C>,
@@ -51,7 +38,7 @@ fn stand<R: Wait + Drop, C: Drop>(
 ) -> NodeState {
     let mut guard = shared.standing.lock(&shared.rt);
     let standing = &mut *guard;
-    standing.state = state_of(standing.state, ready, least_epoch);
+    standing.state = state_behind(standing.state, ready, least_epoch);
     standing.shards.ready = ready;
     standing.shards.least_epoch = least_epoch;
     standing.counts = counts;

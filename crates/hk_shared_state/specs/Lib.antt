@@ -4,3 +4,4 @@ pub mod Standings
 pub mod Notices
 pub mod Seeking
 pub mod Leaving
+pub mod Parts

@@ -24,7 +24,8 @@
 //! exactly the one that was asked for. What a standing tells of actors is that of the definitions in
 //! `specs/Standings.antt`, exactly: own tickets, what a hello is judged by, addresses. What a process asks managers for
 //! its number, what becomes of their answers and boards, which number it holds, and when it is to end, is that of
-//! `specs/Seeking.antt`, exactly; when its node leaves, and when it stays after all, that of `specs/Leaving.antt`.
+//! `specs/Seeking.antt`, exactly; what its node is to be, and how it stands, that of `specs/Parts.antt`; when its node
+//! leaves, and when it stays after all, that of `specs/Leaving.antt`.
 //! Behind the lock it is that of some standing, as another thread may change it at any moment. At most 1,024 wait in a
 //! mailbox, in their order. A refusal is to be told exactly where for a lease nothing but refusals came, and none was
 //! told within a minute; who was there is gone exactly where nothing came for long enough; and lines of which levels
@@ -44,6 +45,7 @@ mod mailbox;
 mod making;
 mod moment;
 mod notices;
+mod part;
 mod resting;
 mod seeking;
 mod shared_state;
@@ -56,6 +58,7 @@ pub use mailbox::{Coming, Mailbox, Slot};
 pub use making::{IdentityFault, digest_of};
 pub use moment::Moment;
 pub use notices::{Presence, Told};
+pub use part::{Part, state_behind};
 pub use resting::rest;
 pub use shared_state::SharedState;
 pub use standing::{LostTail, ShardsSeen, Standing, copy_of};

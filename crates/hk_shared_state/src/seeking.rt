@@ -237,7 +237,7 @@ impl Standing {
     }
 
     // Whether the boards of a majority bind the number to this process.
-    fn is_holder(&self, identity: &Identity, node: NodeId) -> bool
+    pub(crate) fn is_holder(&self, identity: &Identity, node: NodeId) -> bool
         ensures { result ≡ is_holder self.now identity.now node }
     {
         names(identity.ticket, self.boards.holder(self.founding, node))
