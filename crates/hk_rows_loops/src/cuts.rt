@@ -3,7 +3,7 @@
 ghost use Rattle.std.specs.Prelude.{◌<◌, length};
 ghost use Rattle.hk_conn.specs.Exchange.{IsExchange};
 
-use crate::paused::{Paused, Pieces, WHOLE, paused};
+use crate::paused::{Paused, Pieces, WHOLE, connection};
 use crate::turns::{Counted, Tell, desk, exchange, room, turn};
 use hk_conn::{Exchange, Owed};
 use hk_loops::Turned;
@@ -102,7 +102,7 @@ fn check<R: Wait + Abort>(rt: &R, alloc: Global, script: &Script, pieces: Pieces
         taken,
     } = pieces;
     for late in [false, true] {
-        let mut conn = paused(rt, alloc, script.sent, pieces);
+        let mut conn = connection(rt, alloc, script.sent, pieces);
         assert!(rt; is_served(rt, alloc, &mut conn, script, late, size));
         assert_eq!(rt;
             conn.written(),

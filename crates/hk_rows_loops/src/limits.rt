@@ -3,7 +3,7 @@
 ghost use Rattle.std.specs.Prelude.{◌<◌, length};
 ghost use Rattle.hk_conn.specs.Exchange.{IsExchange};
 
-use crate::paused::{Paused, Pieces, WHOLE, paused};
+use crate::paused::{Paused, Pieces, WHOLE, connection};
 use crate::turns::{Counted, desk, exchange, room, turn};
 use hk_conn::Exchange;
 use hk_loops::Turned;
@@ -15,7 +15,7 @@ use std::sync::Wait;
 // A turn: how many bytes of replies can be taken at it, what it gives, how often the connection was read by then, and how
 // many bytes were written to it.
 #[derive(Clone, Copy)]
-struct Turn {
+struct DueTurn {
     space: usize,
     gives: Turned,
     reads: u32,
@@ -30,18 +30,18 @@ fn check_each<R: Wait + Abort>(
     desk: &mut FakeDesk,
     exchange: &mut Exchange<FakeWait>,
     room: &mut [u8],
-    turns: &[Turn],
+    turns: &[DueTurn],
 )
     requires room { 0 < length room.old }
     requires exchange { IsExchange exchange.old }
 {
     let others = Counted::new();
-    for due in turns {
-        conn.space = due.space;
+    for at in turns {
+        conn.space = at.space;
         let turned = turn(rt, alloc, conn, desk, exchange, room, &others);
-        assert_eq!(rt; turned, due.gives);
-        assert_eq!(rt; conn.reads, due.reads);
-        assert_eq!(rt; conn.written().len(), due.written);
+        assert_eq!(rt; turned, at.gives);
+        assert_eq!(rt; conn.reads, at.reads);
+        assert_eq!(rt; conn.written().len(), at.written);
         if turned == Turned::Waits {
             conn.go_on();
         }
@@ -49,7 +49,7 @@ fn check_each<R: Wait + Abort>(
 }
 
 // The turns of a connection, of which so many bytes are read at once, are these.
-fn check<R: Wait + Abort>(rt: &R, alloc: Global, conn: &mut Paused, size: usize, turns: &[Turn])
+fn check<R: Wait + Abort>(rt: &R, alloc: Global, conn: &mut Paused, size: usize, turns: &[DueTurn])
     requires { 0 < size }
 {
     let mut desk = desk(rt, alloc, &[], false);
@@ -58,8 +58,8 @@ fn check<R: Wait + Abort>(rt: &R, alloc: Global, conn: &mut Paused, size: usize,
     check_each(rt, alloc, conn, &mut desk, &mut exchange, &mut room, turns);
 }
 
-fn turn_of(space: usize, gives: Turned, reads: u32, written: usize) -> Turn {
-    Turn {
+fn due(space: usize, gives: Turned, reads: u32, written: usize) -> DueTurn {
+    DueTurn {
         space,
         gives,
         reads,
@@ -80,13 +80,13 @@ const ONE_BY_ONE: Pieces = Pieces {
 #[test]
 fn nothing_is_read_of_a_client_that_does_not_take_its_replies(rt: HostRuntime) {
     let alloc = rt.alloc();
-    let mut conn = paused(&rt, alloc, TWO, ONE_BY_ONE);
+    let mut conn = connection(&rt, alloc, TWO, ONE_BY_ONE);
     let turns = [
-        turn_of(0, Turned::Waits, 1, 0),
-        turn_of(0, Turned::Waits, 1, 0),
-        turn_of(10, Turned::Waits, 1, 10),
-        turn_of(0, Turned::Waits, 1, 10),
-        turn_of(100, Turned::Waits, 2, 36),
+        due(0, Turned::Waits, 1, 0),
+        due(0, Turned::Waits, 1, 0),
+        due(10, Turned::Waits, 1, 10),
+        due(0, Turned::Waits, 1, 10),
+        due(100, Turned::Waits, 2, 36),
     ];
     check(&rt, alloc, &mut conn, 64, turns.as_slice());
 }
@@ -104,12 +104,12 @@ fn empty_lines(rt: &impl Abort, alloc: Global, count: u32) -> Vec<u8> {
 fn no_more_than_64_things_are_answered_in_a_turn(rt: HostRuntime) {
     let alloc = rt.alloc();
     let sent = empty_lines(&rt, alloc, 130);
-    let mut conn = paused(&rt, alloc, sent.as_slice(), WHOLE);
+    let mut conn = connection(&rt, alloc, sent.as_slice(), WHOLE);
     let turns = [
-        turn_of(1_000, Turned::More, 1, 448),
-        turn_of(1_000, Turned::More, 1, 896),
-        turn_of(1_000, Turned::More, 1, 910),
-        turn_of(1_000, Turned::Waits, 2, 910),
+        due(1_000, Turned::More, 1, 448),
+        due(1_000, Turned::More, 1, 896),
+        due(1_000, Turned::More, 1, 910),
+        due(1_000, Turned::Waits, 2, 910),
     ];
     check(&rt, alloc, &mut conn, 512, turns.as_slice());
 }
@@ -117,11 +117,11 @@ fn no_more_than_64_things_are_answered_in_a_turn(rt: HostRuntime) {
 #[test]
 fn where_the_room_is_filled_more_is_read_at_once(rt: HostRuntime) {
     let alloc = rt.alloc();
-    let mut conn = paused(&rt, alloc, TWO, WHOLE);
+    let mut conn = connection(&rt, alloc, TWO, WHOLE);
     let turns = [
-        turn_of(1_000, Turned::More, 1, 18),
-        turn_of(1_000, Turned::More, 2, 36),
-        turn_of(1_000, Turned::Waits, 3, 36),
+        due(1_000, Turned::More, 1, 18),
+        due(1_000, Turned::More, 2, 36),
+        due(1_000, Turned::Waits, 3, 36),
     ];
     check(&rt, alloc, &mut conn, 9, turns.as_slice());
 }
@@ -129,11 +129,11 @@ fn where_the_room_is_filled_more_is_read_at_once(rt: HostRuntime) {
 #[test]
 fn where_the_end_is_known_more_is_read_at_once(rt: HostRuntime) {
     let alloc = rt.alloc();
-    let mut conn = paused(&rt, alloc, TWO, WHOLE);
+    let mut conn = connection(&rt, alloc, TWO, WHOLE);
     conn.ends = true;
     let turns = [
-        turn_of(1_000, Turned::More, 1, 36),
-        turn_of(1_000, Turned::Over, 2, 36),
+        due(1_000, Turned::More, 1, 36),
+        due(1_000, Turned::Over, 2, 36),
     ];
     check(&rt, alloc, &mut conn, 64, turns.as_slice());
 }
@@ -141,10 +141,7 @@ fn where_the_end_is_known_more_is_read_at_once(rt: HostRuntime) {
 #[test]
 fn nothing_is_read_behind_a_quit(rt: HostRuntime) {
     let alloc = rt.alloc();
-    let mut conn = paused(&rt, alloc, b"version\r\nquit\r\nversion\r\n", WHOLE);
-    let turns = [
-        turn_of(10, Turned::Waits, 1, 10),
-        turn_of(10, Turned::Over, 1, 18),
-    ];
+    let mut conn = connection(&rt, alloc, b"version\r\nquit\r\nversion\r\n", WHOLE);
+    let turns = [due(10, Turned::Waits, 1, 10), due(10, Turned::Over, 1, 18)];
     check(&rt, alloc, &mut conn, 64, turns.as_slice());
 }

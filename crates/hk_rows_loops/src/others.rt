@@ -2,7 +2,7 @@
 
 ghost use Rattle.std.specs.Prelude.{None};
 
-use crate::paused::{WHOLE, paused};
+use crate::paused::{WHOLE, connection};
 use crate::turns::{Counted, Tell, desk, exchange, room, turn};
 use hk_base::{Key, Memory, Op};
 use hk_loops::Turned;
@@ -57,7 +57,7 @@ fn others_are_told_once_before_updates_are_waited_for(rt: HostRuntime) {
         begun: Vec::new(alloc),
         finished: Vec::new(alloc),
     };
-    let mut conn = paused(&rt, alloc, SENT, WHOLE);
+    let mut conn = connection(&rt, alloc, SENT, WHOLE);
     let mut exchange = exchange(&rt, alloc);
     let mut room = room(&rt, alloc, 64);
     let first = turn(
@@ -96,7 +96,7 @@ fn where_nothing_waits_nobody_is_told(rt: HostRuntime) {
     let alloc = rt.alloc();
     let others = Counted::new();
     let mut desk = desk(&rt, alloc, TELLS.as_slice(), false);
-    let mut conn = paused(&rt, alloc, SENT, WHOLE);
+    let mut conn = connection(&rt, alloc, SENT, WHOLE);
     let mut exchange = exchange(&rt, alloc);
     let mut room = room(&rt, alloc, 64);
     let turned = turn(

@@ -165,6 +165,6 @@ pub fn failing(
 }
 
 // The same, where nothing fails.
-pub fn paused(rt: &impl Abort, alloc: Global, sent: &[u8], pieces: Pieces) -> Paused {
+pub fn connection(rt: &impl Abort, alloc: Global, sent: &[u8], pieces: Pieces) -> Paused {
     failing(rt, alloc, sent, pieces, &[], &[])
 }

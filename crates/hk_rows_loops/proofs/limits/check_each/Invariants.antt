@@ -2,5 +2,5 @@ use Rattle.hk_conn.specs.Exchange.{IsExchange}
 use Rattle.hk_rows_loops.proofs.limits.check_each.Given as goal
 
 -- it stands between two turns
-abbrev pub invariant-loop-due : goal.invariant-loop-due
-invariant-loop-due g l = IsExchange l.exchange
+abbrev pub invariant-loop-at : goal.invariant-loop-at
+invariant-loop-at g l = IsExchange l.exchange
