@@ -86,13 +86,16 @@ impl PromptConnection for Paused {
 
     fn read_now(&mut self, room: &mut [u8]) -> Result<Came, Failed> {
         self.reads = self.reads.wrapping_add(1);
-        if self.there == 0 {
-            return Ok(if self.ends { Came::End } else { Came::Nothing });
+        if self.there > 0 {
+            return match self.read(room) {
+                Ok(count) => Ok(Came::Bytes(count)),
+                Err(Failed) => Err(Failed),
+            };
         }
-        match self.read(room) {
-            Ok(count) => Ok(Came::Bytes(count)),
-            Err(Failed) => Err(Failed),
+        if self.ends {
+            return Ok(Came::End);
         }
+        Ok(Came::Nothing)
     }
 
     fn write_now(&mut self, piece: &[u8]) -> Result<Option<usize>, Failed> {
