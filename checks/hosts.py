@@ -345,10 +345,10 @@ def is_up(lines, place):
 
 
 @contextlib.contextmanager
-def one_host(program, port, *more):
+def one_host(program, port, *more, **options):
     """The process of a group of one host, whose node serves clients at this port of 127.0.0.1."""
     with Hosts(program, count=1) as hosts:
-        hosts.start(0, "--listen", f"127.0.0.1:{port}", *more)
+        hosts.start(0, "--listen", f"127.0.0.1:{port}", *more, **options)
         hosts.wait_inside(0)
         hosts.found(places=[])
         server = hosts.servers[0]

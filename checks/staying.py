@@ -1,5 +1,6 @@
 """What a server stays up through: cases for `checks/hostile`. Each starts a server of its own with the nodes, workers and managers that are asked for, and gives a line of
-figures."""
+figures. Those of a full memory are tried at the process of a group over one host too."""
+import os
 import random
 import resource
 import socket
@@ -11,6 +12,7 @@ from dataclasses import dataclass
 
 import ports
 import servers
+from hosts import one_host
 from servers import BUSY, MEBIBYTE, NO_MEMORY, STORED, UNKNOWN, Client, Fault, expect, expect_at_most, is_served, until
 
 GOOD_CLIENTS = 10
@@ -23,6 +25,8 @@ HELD_EACH = 0.4
 TURNS, SHARE_AGAIN = 3, 0.5
 # The share of a processor that a server may use which has nothing to do but to wait for what it lacks.
 IDLE_SHARE = 0.25
+# For so long a memory stays full: three leases of a group over hosts.
+STAYS_FULL = 3
 
 
 @dataclass
@@ -38,6 +42,24 @@ class Room:
     def serve(self, conns, **words):
         words = {"nodes": self.nodes, "workers": self.workers, "managers": self.managers, **words}
         return servers.serve(self.program, self.free.take(), conns, **words)
+
+
+class HostRoom(Room):
+    """Each case has the process of a group over one host. Its threads share one pool of memory, so that all of them lack it at once."""
+
+    def serve(self, _conns):
+        shared = {**os.environ, "MALLOC_ARENA_MAX": "1"}
+        return one_host(self.program, self.free.take(), "--workers", self.workers, env=shared)
+
+
+def at_one_host(case):
+    """A case, tried at the process of a group over one host."""
+
+    def tried(room):
+        return case(HostRoom(room.program, room.free, 1, room.workers, 0))
+
+    tried.__name__ = f"{case.__name__}_at_one_host"
+    return tried
 
 
 def try_good(client, number):
@@ -199,6 +221,28 @@ def memory_of_large_values(room):
         return f"{len(stored)} sets of 1 MiB, then {refused} told out of memory; of these were deleted and stored again, turn by turn: {counts}"
 
 
+def memory_stays_full(room):
+    """Sets of 100 KB until there is no memory, then smaller ones, over and over for three seconds, while clients come. Who is there is answered; behind deletes new clients
+    are served, and what was stored stands."""
+    value = 100_000 * b"v"
+    with room.serve(1_000_000) as server, Client(server.port) as good, Client(server.port) as other:
+        try_good(good, 0)
+        server.limit(resource.RLIMIT_AS, server.status_of("VmSize") + 100 * MEBIBYTE)
+        stored, refused = fill(server, good, value, 4_000, 4)
+        number, come_in_all, served_in_all = len(stored) + refused, 0, 0
+        ends = time.monotonic() + STAYS_FULL
+        while time.monotonic() < ends:
+            for size in (1_000, 10):
+                more, none = fill(server, other, value[:size], 40_000, 4, number)
+                number, refused = number + len(more) + none, refused + none
+            served, _ended, _share = held_up(server, good, "with a full memory", 10, 1, try_answered)
+            come_in_all, served_in_all = come_in_all + 10, served_in_all + served
+        free_some(server, good, stored[::2], value)
+        took = expect_served_again(server, "behind deletes")
+        expect_reads(server, [good, other], stored[1::2], value)
+        return f"{number - refused} sets, of which {len(stored)} were of 100 KB, and {refused} told out of memory in {STAYS_FULL} s; of {come_in_all} connections that came {served_in_all} were served; behind deletes new ones again {took:.1f} s after"
+
+
 def newcomer(server):
     """Whether a new client is served behind a full memory. What was given back lies in the memory of other threads, so there may be no room for its own: then it is closed."""
     try:
@@ -221,10 +265,10 @@ def answer(server, client, sent, what):
     return told
 
 
-def fill(server, client, value, most, enough):
-    """Sets keys until enough are not stored. Gives the keys that are, and how many are not."""
+def fill(server, client, value, most, enough, first=0):
+    """Sets keys of the numbers from the first one on until enough are not stored. Gives the keys that are, and how many are not."""
     stored, refused = [], 0
-    for number in range(most):
+    for number in range(first, first + most):
         key = b"fill:%d" % number
         told = answer(server, client, b"set %s 0 0 %d\r\n%s\r\n" % (key, len(value), value), f"set number {number} of {len(value)} bytes")
         if told == STORED:
@@ -256,6 +300,7 @@ def free_some(server, client, keys, value):
             told = answer(server, client, b"delete %s\r\n" % key, "a delete with a full memory")
             if told == b"DELETED\r\n":
                 break
+            time.sleep(0.02 if told == BUSY else 0)
         else:
             raise Fault(f"a delete with a full memory is told {told!r}")
     for number in range(1, 51):
@@ -527,3 +572,5 @@ CASES = [
 ]  # fmt: skip
 # Those that need no group.
 OF_ONE_NODE = [wrong_words, a_taken_port]
+# Those of a full memory, at the process of a group over one host.
+OF_ONE_HOST = [at_one_host(case) for case in (address_space, memory_exhausted, memory_of_large_values, memory_stays_full)]
