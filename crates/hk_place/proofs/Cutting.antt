@@ -17,7 +17,7 @@ use Rattle.hk_shard.proofs.Covering.{shown_joined, covers_over}
 use Rattle.hk_joint_reads.proofs.Latest.{not_before}
 use Rattle.hk_place.specs.Past.{Past, tickets_of, last_upto, last_change}
 use Rattle.hk_place.specs.Place.{greatest, is_ticket, is_displaced, placed_by, place_of}
-use Rattle.hk_place.specs.Cut.{past_of, list_of, WasShown, WasShownBefore, ListsRise, ShowsRow, JointReadsAreCuts, PlacedReadsAreSince}
+use Rattle.hk_place.specs.Cut.{past_of, list_of, WasShown, WasShownBefore, ShowsRow, JointReadsAreCuts, PlacedReadsAreSince}
 use Rattle.hk_place.proofs.Publishing.{Among, among_left, among_right, among_map, among_prefix, one_of, before_across, last_of}
 use Rattle.hk_place.proofs.Picking.{IsSplit, split_at, all_published, key_of_cell, last_of_front, IsPicked, pick}
 
@@ -105,20 +105,20 @@ module _ (s : ShardState) (is : IsShard s) (moment : ℕ) (cut : IsSplit moment 
       sym (covers_over cell shows.front s.base cut.front is.node (front_all s.journal cut.back cut.front cut.whole is.events) shows.covers x.key refl)
       ∙ (last_joined x.key shows.front (shown_in cell s.base cut.front) None ∙ l.last)
 
-  one : (x : Snapshot) → ListsRise s → WasShown s x → IsLast (past_of s) moment x → ShowsRow (replay s.base cut.front).rows x
-  one x rise was last =
+  one : (x : Snapshot) → WasShown s x → IsLast (past_of s) moment x → ShowsRow (replay s.base cut.front).rows x
+  one x was last =
       let l : Left x = left x last in
       let seen = last_of was.0 x was.2 in
       let p : Publication = seen.last in
       let here : Among (list_of s x) p = among_prefix was.0 (list_of s x) p was.1 seen.among in
       let key : x.key ≡ p.key = sym (ap (λ (y : Snapshot). y.key) seen.shows) in
       let ticket : x.ticket ≡ p.ticket = sym (ap (λ (y : Snapshot). y.ticket) seen.shows) in
-      let same : p ≡ publication l.shown = one_of (list_of s x) p (publication l.shown) (rise (cell_of x.key)) here (in_list x l) (sym key ∙ sym l.same) (sym ticket ∙ sym l.at) in
+      let same : p ≡ publication l.shown = one_of (list_of s x) p (publication l.shown) (is.rises (cell_of x.key)) here (in_list x l) (sym key ∙ sym l.same) (sym ticket ∙ sym l.at) in
       let shown : x ≡ shows l.shown.key l.shown.row l.shown.ticket = sym seen.shows ∙ ap snapshot_of same in
       (l.shown.row, row_is x l, shown ∙ (ap (λ (k : List ℕ). shows k l.shown.row l.shown.ticket) l.same ∙ ap (shows x.key l.shown.row) l.at))
 
-  not_earlier : (x : Snapshot) → ListsRise s → IsLast (past_of s) moment x → WasShownBefore s x → ⊥
-  not_earlier x rise last was =
+  not_earlier : (x : Snapshot) → IsLast (past_of s) moment x → WasShownBefore s x → ⊥
+  not_earlier x last was =
       let l : Left x = left x last in
       let seen = last_of was.0 x was.3 in
       let p : Publication = seen.last in
@@ -126,21 +126,21 @@ module _ (s : ShardState) (is : IsShard s) (moment : ℕ) (cut : IsSplit moment 
       let key : p.key ≡ x.key = ap (λ (y : Snapshot). y.key) seen.shows in
       let ticket : p.ticket ≡ x.ticket = ap (λ (y : Snapshot). y.ticket) seen.shows in
       let since : List Publication = was.1 ++ shown_in cell s.base s.journal in
-      let rises : IsRising (was.0 ++ since) = subst IsRising (was.2 ∙ append_assoc was.0 was.1 (shown_in cell s.base s.journal)) (rise cell) in
+      let rises : IsRising (was.0 ++ since) = subst IsRising (was.2 ∙ append_assoc was.0 was.1 (shown_in cell s.base s.journal)) (is.rises cell) in
       not_before p (publication l.shown) (key ∙ sym l.same) (ticket ∙ sym l.at)
       (before_across was.0 since p (publication l.shown) rises seen.among (among_right was.1 _ (publication l.shown) (by_journal x l)))
 
-  all_shown : (found : List Snapshot) → ListsRise s → AllByRecursion (WasShown s) found → AllByRecursion (IsLast (past_of s) moment) found → AllByRecursion (ShowsRow (replay s.base cut.front).rows) found
-  all_shown [] rise was last = tt
-  all_shown (x ∷ found) rise was last = (one x rise was.0 last.0, all_shown found rise was.1 last.1)
+  all_shown : (found : List Snapshot) → AllByRecursion (WasShown s) found → AllByRecursion (IsLast (past_of s) moment) found → AllByRecursion (ShowsRow (replay s.base cut.front).rows) found
+  all_shown [] was last = tt
+  all_shown (x ∷ found) was last = (one x was.0 last.0, all_shown found was.1 last.1)
 
-  all_since : (found : List Snapshot) → ListsRise s → AllByRecursion (IsLast (past_of s) moment) found → AllByRecursion (λ x. WasShownBefore s x → ⊥) found
-  all_since [] rise last = tt
-  all_since (x ∷ found) rise last = (not_earlier x rise last.0, all_since found rise last.1)
+  all_since : (found : List Snapshot) → AllByRecursion (IsLast (past_of s) moment) found → AllByRecursion (λ x. WasShownBefore s x → ⊥) found
+  all_since [] last = tt
+  all_since (x ∷ found) last = (not_earlier x last.0, all_since found last.1)
 
 -- ---- all of them
 pub joint_reads_are_cuts : JointReadsAreCuts
-joint_reads_are_cuts s found moment is rise was placed =
+joint_reads_are_cuts s found moment is was placed =
     let cut : IsSplit moment s.journal = split_at moment s.journal is.is_replay.rising in
     record {
       front = cut.front;
@@ -148,10 +148,10 @@ joint_reads_are_cuts s found moment is rise was placed =
       whole = cut.whole;
       upto = cut.upto;
       behind = cut.behind;
-      rows = all_shown s is moment cut found rise was (all_last (past_of s) moment found placed);
+      rows = all_shown s is moment cut found was (all_last (past_of s) moment found placed);
     }
 
 pub placed_reads_are_since : PlacedReadsAreSince
-placed_reads_are_since s found moment is rise placed =
+placed_reads_are_since s found moment is placed =
     let cut : IsSplit moment s.journal = split_at moment s.journal is.is_replay.rising in
-    all_since s is moment cut found rise (all_last (past_of s) moment found placed)
+    all_since s is moment cut found (all_last (past_of s) moment found placed)

@@ -8,7 +8,7 @@ use Rattle.hk_journal.specs.declared.step_entry.JournalEntry.{JournalEntry}
 use Rattle.hk_journal.specs.Journal.{replay}
 use Rattle.hk_snap.specs.declared.rule.Publication.{Publication}
 use Rattle.hk_snap.specs.declared.snapshot.Snapshot.{Snapshot}
-use Rattle.hk_snap.specs.Snapshots.{cell_of, published, snapshot_of, last_shown, IsRising}
+use Rattle.hk_snap.specs.Snapshots.{cell_of, published, snapshot_of, last_shown}
 use Rattle.hk_snap.specs.Ends.{Reader, seen_at}
 use Rattle.hk_joint_reads.specs.declared.read.Joint.TheVariants.{Found}
 use Rattle.hk_joint_reads.specs.Reads.{IsJointRead}
@@ -37,10 +37,6 @@ abbrev pub WasShownBefore : ShardState → Snapshot → Type 0
 WasShownBefore s shown = (seen : List Publication) × (since : List Publication)
     × (list_of s shown ≡ seen ++ since ++ shown_in (cell_of shown.key) s.base s.journal) × (last_shown seen ≡ Some shown)
 
--- of each cell the tickets rise, as whoever loads it is told
-abbrev pub ListsRise : ShardState → Type 0
-ListsRise s = (cell : ℕ) → IsRising (seen_at s.ends cell)
-
 -- The key has a row among these, and the snapshot shows just that: its state, its stamp, and its content, or that this is large, or that there is none.
 abbrev pub ShowsRow : Rows → Snapshot → Type 0
 ShowsRow rows shown = (row : Row) × (find_row shown.key rows ≡ Some row) × (shown ≡ snapshot_of (published shown.key row shown.ticket None))
@@ -56,7 +52,7 @@ pub record IsCut (past : Past) (moment : ℕ) (found : List Snapshot) : Type 0 w
 
 -- Whatever readers of a shard's cells were shown of some keys, each at any time: where these snapshots have a place, they are the rows of one state.
 abbrev pub JointReadsAreCuts : Type 0
-JointReadsAreCuts = (s : ShardState) (found : List Snapshot) (moment : ℕ) → IsShard s → ListsRise s → AllByRecursion (WasShown s) found
+JointReadsAreCuts = (s : ShardState) (found : List Snapshot) (moment : ℕ) → IsShard s → AllByRecursion (WasShown s) found
     → place_of (past_of s) found ≡ Ok moment → IsCut (past_of s) moment found
 
 -- What a joint read finds, its reader was shown.
@@ -66,5 +62,5 @@ FoundWereShown = (s : ShardState) (old new : Reader) (keys : List (List ℕ)) (e
 
 -- None of them was shown before the journal began: of a row that no step of the journal left, the journal can't tell how long it stood.
 abbrev pub PlacedReadsAreSince : Type 0
-PlacedReadsAreSince = (s : ShardState) (found : List Snapshot) (moment : ℕ) → IsShard s → ListsRise s → place_of (past_of s) found ≡ Ok moment
+PlacedReadsAreSince = (s : ShardState) (found : List Snapshot) (moment : ℕ) → IsShard s → place_of (past_of s) found ≡ Ok moment
     → AllByRecursion (λ shown. WasShownBefore s shown → ⊥) found

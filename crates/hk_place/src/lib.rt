@@ -16,10 +16,9 @@
 //!
 //! What a place means (`joint_reads_are_cuts`): whatever readers of a shard's cells were shown, each at any time, where
 //! it has a place by the shard's base and journal there is one state of the node, that behind the journal's steps up to
-//! the place, in which the row of each key is what its snapshot shows: a consistent cut. It is asked that the tickets of
-//! each cell rise, as `SnapReader::load` tells of what it has seen. A row that was published before the journal began has
-//! no place by it, since the journal does not have its step: a caller that keeps earlier journals may place by all of
-//! them, joined (`hk_journal`, `journals_are_joined`).
+//! the place, in which the row of each key is what its snapshot shows: a consistent cut. A row that was published before
+//! the journal began has no place by it, since the journal does not have its step: a caller that keeps earlier journals
+//! may place by all of them, joined (`hk_journal`, `journals_are_joined`).
 //!
 //! What no clause says here: that the cells showed these rows at one moment.
 #![tactic(auto)]

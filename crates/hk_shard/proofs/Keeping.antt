@@ -3,13 +3,12 @@ use Rattle.std.proofs.Common.{◌≡◌, ◌<◌, ◌≤◌, ℕ, suc, Bool, tru
 use Rattle.std.specs.List.{filter, AllByRecursion}
 use Rattle.std.proofs.lemmas.List.{append-nil}
 use Rattle.hk_base.specs.Range.{IsWithin}
-use Rattle.hk_base.specs.declared.stamp.NodeId.{NodeId}
 use Rattle.hk_base.specs.declared.call.CallNo.{CallNo}
 use Rattle.hk_key.specs.Sound.{IsSound}
 use Rattle.hk_node.specs.declared.event.NodeEvent.{NodeEvent}
 use Rattle.hk_node.specs.declared.out.NodeOut.{NodeOut}
 use Rattle.hk_node.specs.declared.report.Report.{Report}
-use Rattle.hk_node.specs.Rows.{Rows, find_row}
+use Rattle.hk_node.specs.Rows.{Rows, find_row, row_at}
 use Rattle.hk_node.specs.Report.{changed_rows}
 use Rattle.hk_node.specs.Outs.{IsOutOf}
 use Rattle.hk_node.specs.Node.{NodeState, members_of}
@@ -17,11 +16,13 @@ use Rattle.hk_node.specs.Calls.{lease_end}
 use Rattle.hk_node.specs.Steps.{node_step}
 use Rattle.hk_node.specs.Sound.{IsNode, IsNodeEvent}
 use Rattle.hk_node.proofs.Order.{holds_at}
+use Rattle.hk_node.proofs.Exact.{reports_are_exact}
 use Rattle.hk_node.proofs.KeepsMore.{step_keeps_node}
 use Rattle.hk_journal.specs.declared.step_entry.JournalEntry.{JournalEntry}
 use Rattle.hk_journal.specs.Journal.{ShownRow, after, replay, call_of, changed, shown_by, IsBefore, IsReplay}
 use Rattle.hk_journal.proofs.Joined.{replays_are_joined, replays_stay_replays}
 use Rattle.hk_snap.specs.declared.rule.Publication.{Publication}
+use Rattle.hk_snap.specs.Snapshots.{IsRising}
 use Rattle.hk_snap.specs.Ends.{End, Reader, names, seen_at, another, writing_end}
 use Rattle.hk_snap.specs.Leases.{Lease, kept_lease, raised}
 use Rattle.hk_snap.proofs.Lists.{same_long}
@@ -30,7 +31,7 @@ use Rattle.hk_shard.specs.Shard.{ShardState, IsShard, IsApplied, step_entry, che
 use Rattle.hk_shard.specs.declared.replaced.Replaced.{Replaced}
 use Rattle.hk_shard.specs.Replaced.{before_all, AreReplaced}
 use Rattle.hk_shard.specs.Publishing.{publications, with_all, MayBePublished}
-use Rattle.hk_shard.proofs.Listing.{names_all, seen_all, may_be_published}
+use Rattle.hk_shard.proofs.Listing.{names_all, seen_all, may_be_published, rising_all}
 use Rattle.hk_shard.proofs.Lasting.{leases_never_fall}
 use Rattle.hk_shard.proofs.Undoing.{back_at_first, none_replaced}
 use Rattle.hk_shard.proofs.Covering.{shown_of, step_shown, shown_joined, covers_over}
@@ -78,6 +79,32 @@ step_tickets : (cell : ℕ) (node : NodeState) (entry : JournalEntry) → AllByR
 step_tickets cell node entry =
     subst (λ l. AllByRecursion (λ p. p.ticket ≤ entry.ticket) (map publication l)) (sym (append-nil (filter (λ s. is_in cell s.key) (shown_by node entry))))
     (shown_ticket cell entry.ticket (call_of entry.event) (changed node.rows (after node entry).rows))
+
+-- ---- the lists of what is published rise
+stamps_within : (node : NodeState) → IsNode node → (key : List ℕ) → IsWithin (row_at key node.rows).stamp
+stamps_within node is key = holds_at (λ row. IsWithin row.stamp) key node.rows (omega arith) (rows_within node.rows is.rows)
+  where
+    rows_within : (rows : Rows) → AllByRecursion (λ r. IsSound node.id (members_of node) r.1) rows → AllByRecursion (λ r. IsWithin r.1.stamp) rows
+    rows_within [] all = tt
+    rows_within (r ∷ rows) all = (all.0.within, rows_within rows all.1)
+
+lists_rise : (s : ShardState) (ticket : ℕ) (event : NodeEvent) (ends : List End) → IsShard s → s.last < ticket → IsNodeEvent event
+    → ((cell : ℕ) → seen_at ends cell ≡ seen_at s.ends cell ++ shown_in cell s.part (step_entry ticket s.part event ∷ [])) → (cell : ℕ) → IsRising (seen_at ends cell)
+lists_rise s ticket event ends is up within shown cell =
+    subst IsRising (seen_all s.ends published cell is.cells ∙ (ap (λ l. seen_at s.ends cell ++ l) (step_shown cell s.part (step_entry ticket s.part event) new_is) ∙ sym (shown cell)))
+    (rising_all s.ends published is.cells is.rises
+    (may_be_published new.rows ticket (call_of event) s.ends s.last (changed_rows s.part.rows new.rows) is.cells up is.shown_tickets
+    (reports_are_exact s.part event (part_is_node s is) within).rising (stamps_within new new_is))
+    cell)
+  where
+    new : NodeState
+    new = (node_step s.part event).node
+
+    new_is : IsNode new
+    new_is = step_keeps_node s.part event (part_is_node s is) within
+
+    published : List Publication
+    published = publications new.rows ticket (call_of event) (changed_rows s.part.rows new.rows)
 
 -- ---- an event
 shows_more : (cell : ℕ) (seen seen' : List Publication) (base : NodeState) (journal : List JournalEntry) (entry : JournalEntry) → Shows cell seen base journal
@@ -128,6 +155,7 @@ entry_kept s ticket event ends is up within shown named = record {
   shown_tickets = λ cell. subst (AllByRecursion (λ p. p.ticket ≤ ticket)) (sym (shown cell))
       (all_append (λ p. p.ticket ≤ ticket) (seen_at s.ends cell) (shown_in cell s.part (entry ∷ [])) (older_shown (seen_at s.ends cell) s.last ticket (is.shown_tickets cell) up)
       (step_tickets cell s.part entry));
+  rises = lists_rise s ticket event ends is up within shown;
 }
   where
     entry : JournalEntry
@@ -168,6 +196,7 @@ checkpoint_kept s is = record {
   events = tt;
   tickets = tt;
   shown_tickets = is.shown_tickets;
+  rises = is.rises;
 }
 
 -- ---- the beginning
@@ -183,6 +212,7 @@ new_kept base part ends lease ok empty same long nothing is = record {
   events = tt;
   tickets = tt;
   shown_tickets = λ cell. subst (AllByRecursion (λ p. p.ticket ≤ 0)) (sym (nothing cell)) tt;
+  rises = λ cell. subst IsRising (sym (nothing cell)) tt;
 }
 
 max_zero : (n : ℕ) → max 0 n ≡ n
@@ -268,11 +298,7 @@ pub next_by : (old : ShardState) (ticket : ℕ) (event : NodeEvent) (out : NodeO
     → IsOutOf out old.part (node_step old.part event) → part ≡ (node_step old.part event).node → MayBePublished old.ends (publications part.rows ticket call out.report.rows)
 next_by old ticket event out part call is up within told part_is =
     may_be_published part.rows ticket call old.ends old.last out.report.rows is.cells up is.shown_tickets told.changed.rising
-    (λ key. holds_at (λ row. IsWithin row.stamp) key part.rows (omega arith) (rows_within part.id (members_of part) part.rows (subst IsNode (sym part_is) (step_keeps_node old.part event (part_is_node old is) within)).rows))
-  where
-    rows_within : (me : NodeId) (members : List NodeId) (rows : Rows) → AllByRecursion (λ r. IsSound me members r.1) rows → AllByRecursion (λ r. IsWithin r.1.stamp) rows
-    rows_within me members [] all = tt
-    rows_within me members (r ∷ rows) all = (all.0.within, rows_within me members rows all.1)
+    (stamps_within part (subst IsNode (sym part_is) (step_keeps_node old.part event (part_is_node old is) within)))
 
 -- ---- the base is the part with all undone
 abbrev state_of : NodeState → List JournalEntry → NodeState → ℕ → List End → Lease → ShardState

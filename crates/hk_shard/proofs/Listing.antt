@@ -1,4 +1,4 @@
--- Publications one after the other: what is in each cell then, and that each may be published.
+-- Publications one after the other: what is in each cell then, that each may be published, and that the lists rise.
 use Rattle.std.proofs.Common.{◌≡◌, ◌≢◌, ◌<◌, ◌≤◌, ◌==◌, ℕ, List, [], ◌∷◌, ◌++◌, length, map, set, get_or, Bool, true, false, cond, Option, refl, sym, ap, ◌∙◌, subst, arith, inl, inr, append_assoc, length-set, get_or-set_other, get_or-set_same, zero, suc}
 use Rattle.std.specs.Prelude.{⊤, slice_set}
 use Rattle.std.specs.List.{filter, AllByRecursion}
@@ -13,8 +13,9 @@ use Rattle.hk_copy.specs.Batches.{key_cmp}
 use Rattle.hk_node.specs.declared.report.PriorRow.{PriorRow}
 use Rattle.hk_node.specs.Rows.{Rows, row_at}
 use Rattle.hk_snap.specs.declared.rule.Publication.{Publication}
-use Rattle.hk_snap.specs.Snapshots.{cell_of, published, IsBefore, IsNext}
+use Rattle.hk_snap.specs.Snapshots.{cell_of, published, IsBefore, IsNext, IsRising}
 use Rattle.hk_snap.specs.Ends.{End, at, names, seen_at, no_name, writing_end, with_publication}
+use Rattle.hk_snap.proofs.Shows.{rising_more}
 use Rattle.hk_shard.specs.Shown.{is_in}
 use Rattle.hk_shard.specs.Publishing.{publications, with_all, MayBePublished}
 
@@ -128,3 +129,20 @@ module _ (rows : Rows) (ticket : ℕ) (call : Option CallNo) where
       → IsStrictlySortedBy key_cmp (map (λ f. f.key) prior) → ((key : List ℕ) → IsWithin (row_at key rows).stamp) → MayBePublished ends (publications rows ticket call prior)
   may_be_published ends last prior long up tickets sorted within = may ends (publications rows ticket call prior) long
       (λ cell. all_below (seen_at ends cell) last prior up (tickets cell)) (in_turn prior sorted) (all_within prior within)
+
+-- ---- and the lists rise
+same_cell : (a b : ℕ) → (a == b) ≡ true → a ≡ b
+same_cell a b e = grind (arith, nat_tests, e)
+
+rising_by : (test : Bool) (seen : List Publication) (p : Publication) → IsRising seen → (test ≡ true → IsNext seen p) → IsRising (seen ++ cond test (p ∷ []) [])
+rising_by true seen p rises next = rising_more seen p rises (next refl)
+rising_by false seen p rises next = subst IsRising (sym (append-nil seen)) rises
+
+pub rising_all : (ends : List End) (ps : List Publication) → length ends ≡ 32 → ((cell : ℕ) → IsRising (seen_at ends cell)) → MayBePublished ends ps
+    → (cell : ℕ) → IsRising (seen_at (with_all ends ps) cell)
+rising_all ends [] long rises next cell = rises cell
+rising_all ends (p ∷ ps) long rises next cell = rising_all (with_publication ends p) ps (long_one ends p ∙ long) rest next.2 cell
+  where
+    rest : (k : ℕ) → IsRising (seen_at (with_publication ends p) k)
+    rest k = subst IsRising (sym (seen_one ends p k long))
+        (rising_by (is_in k p.key) (seen_at ends k) p (rises k) (λ here. subst (λ j. IsNext (seen_at ends j) p) (same_cell (cell_of p.key) k here) next.0))

@@ -9,6 +9,7 @@ use Rattle.hk_node.specs.Calls.{lease_end}
 use Rattle.hk_node.specs.Sound.{IsNode, IsNodeEvent}
 use Rattle.hk_journal.specs.declared.step_entry.JournalEntry.{JournalEntry}
 use Rattle.hk_journal.specs.Journal.{replay, IsReplay}
+use Rattle.hk_snap.specs.Snapshots.{IsRising}
 use Rattle.hk_snap.specs.Ends.{End, names, seen_at, writing_end}
 use Rattle.hk_snap.specs.Leases.{Lease, kept_lease, raised}
 use Rattle.hk_shard.specs.Shown.{shown_in, Shows}
@@ -30,6 +31,7 @@ pub record ShardState : Type 0 where
   pub lease : Lease
 
 -- The journal is a replay from the base, and the part is the node that it leads to. Each cell's list ends with what the journal shows.
+-- In each list the tickets rise, and equal ones by their keys.
 -- The lease cell shows the end of the part's lease, which is 0 where the part is not ready, and its clock.
 pub record IsShard (s : ShardState) : Type 0 where
   pub node : IsNode s.base
@@ -42,6 +44,7 @@ pub record IsShard (s : ShardState) : Type 0 where
   pub events : AllByRecursion (λ entry. IsNodeEvent entry.event) s.journal
   pub tickets : AllByRecursion (λ entry. entry.ticket ≤ s.last) s.journal
   pub shown_tickets : (cell : ℕ) → AllByRecursion (λ p. p.ticket ≤ s.last) (seen_at s.ends cell)
+  pub rises : (cell : ℕ) → IsRising (seen_at s.ends cell)
 
 -- the cells of a shard that is to be made: what was published in each, nothing, and what the lease cell shows
 pub record CellsState : Type 0 where

@@ -16,9 +16,10 @@
 //! it returns (`out`, `applied`); so does `step`, which the keys of the open rows follow (`followed`). `checkpoint`
 //! hands out the journal (`journal`, `anew`), and `base` is the node as it was when that began. After want of memory
 //! the whole shard is as it was (`err`), and so is a reader that was to be brought up to it (`meet`, `meet_lease`).
-//! What its cells show last of a key is the row of its node (`cells_show_the_part`). Neither the end of its lease nor
-//! its clock falls (`leases_never_fall`). A read that is told from what it shows is told what its node answers, by the
-//! lease that the cell shows now; by an earlier one too, or that this lease may be over (`local_reads_are_reads`).
+//! What its cells show last of a key is the row of its node (`cells_show_the_part`). What is published in each cell
+//! rises by tickets, and by keys where these are equal (`IsShard`, `rises`). Neither the end of its lease nor its clock
+//! falls (`leases_never_fall`). A read that is told from what it shows is told what its node answers, by the lease that
+//! the cell shows now; by an earlier one too, or that this lease may be over (`local_reads_are_reads`).
 //!
 //! What no clause says: what a call costs, and how much the shard holds ([`Shard::held`]).
 #![tactic(auto)]
