@@ -1,58 +1,24 @@
--- Numbers of calls that are not the same, and asks that are written in place.
-use Rattle.std.proofs.Common.{◌≡◌, ◌≢◌, ◌⊎◌, inl, inr, ⊎_elim, ℕ, ◌<◌, ◌==◌, if◌then◌else◌, List, [], ◌∷◌, Bool, true, false, cond, not, Option, Some, None, is_some, refl, sym, ap, ◌∙◌, subst, arith}
+-- Asks that are written in place, and what is made of them so.
+use Rattle.std.proofs.Common.{◌≡◌, ◌≢◌, ◌⊎◌, inl, inr, ⊎_elim, ℕ, ◌==◌, if◌then◌else◌, List, [], ◌∷◌, Bool, true, false, not, Option, Some, None, is_some, refl, sym, ap, ◌∙◌, subst, arith}
 use Rattle.std.specs.Option.{IsSome, IsSomeAnd, option_map, option_or}
-use Rattle.std.specs.BTreeMap.{is_at}
-use Rattle.std.specs.Map.{set_value}
-use Rattle.std.proofs.lemmas.Bool.{false≢true, cases_order, lt-ltb, le-ltb, ne_eqb}
+use Rattle.std.proofs.lemmas.Bool.{false≢true}
 use Rattle.std.proofs.lemmas.Option.{none-some}
 use Rattle.hk_base.specs.declared.call.CallNo.{CallNo}
+use Rattle.hk_by_call.specs.Kept.{kept_at}
+use Rattle.hk_by_call.proofs.Beside.{is_written, others_written}
 use Rattle.hk_told.specs.declared.ask.Ask.{Ask}
 use Rattle.hk_base.specs.declared.call.Answer.{Answer}
 use Rattle.hk_base.specs.declared.call.Reply.{Reply}
-use Rattle.hk_told.specs.declared.asks.AskState.{AskState}
-use Rattle.hk_told.specs.declared.asks.AskState.TheVariants.{Gone, Waits, Told}
+use Rattle.hk_told.specs.declared.asks.AskState.TheVariants.{Gone, Waits}
 use Rattle.hk_told.specs.Held.{Asks, IsWaitingAt, answer_to, heard, Delivers, DeliversInTurn, AreFewer}
-use Rattle.hk_told.specs.Kept.{by_number, asks_in, told_ask, unwanted_ask, is_of, is_told, is_left, given_up, answered, look_at, AreOthersSame, LooksAs, TakesOut}
+use Rattle.hk_told.specs.Kept.{asks_in, told_ask, unwanted_ask, is_of, is_told, is_left, given_up, answered, look_at, AreOthersSame, LooksAs, TakesOut}
 use Rattle.hk_told.proofs.Moving.{some_same}
 use Rattle.hk_told.proofs.Holding.{same_call, cases_call}
-
-pub is_apart : (call other : CallNo) → other ≢ call → is_at (by_number call) other ≡ false
-is_apart call other ne =
-    ⊎_elim (λ (e : call.0 ≡ other.0). absurd (ne (same_call other call (sym e))))
-    (λ (o : (call.0 < other.0) ⊎ (other.0 < call.0)). ⊎_elim (λ (l : call.0 < other.0). rw (lt-ltb call.0 other.0 l) refl)
-    (λ (g : other.0 < call.0). rw (le-ltb call.0 other.0 (omega arith), ne_eqb call.0 other.0 (λ e. ne (same_call other call (sym e)))) refl) o) (cases_order call.0 other.0)
-
-pub at_itself : (call : CallNo) → is_at (by_number call) call ≡ true
-at_itself call = grind (arith)
-
-is_here : (call other : CallNo) → is_at (by_number call) other ≡ true → other ≡ call
-is_here call other e = ⊎_elim (λ same. same) (λ ne. absurd (false≢true (sym (is_apart call other ne) ∙ e))) (cases_call other call)
-
--- ---- an ask written in place
-pub set_same : (call : CallNo) (kept : List (CallNo × Ask)) (ask new : Ask) → asks_in kept call ≡ Some ask → asks_in (set_value (is_at (by_number call)) kept new) call ≡ Some new
-set_same call [] ask new e = absurd (none-some ask e)
-set_same call (k ∷ kept) ask new e = at (is_at (by_number call) k.0) refl e (set_same call kept ask new)
-  where
-    at : (b : Bool) → is_at (by_number call) k.0 ≡ b → cond b (Some k.1) (asks_in kept call) ≡ Some ask → (asks_in kept call ≡ Some ask → asks_in (set_value (is_at (by_number call)) kept new) call ≡ Some new) →
-        asks_in (cond b ((k.0, new) ∷ kept) (k ∷ set_value (is_at (by_number call)) kept new)) call ≡ Some new
-    at true is e rest = ap (λ (b : Bool). cond b (Some new) (asks_in kept call)) is
-    at false is e rest = ap (λ (b : Bool). cond b (Some k.1) (asks_in (set_value (is_at (by_number call)) kept new) call)) is ∙ rest e
-
-pub set_other : (call other : CallNo) (kept : List (CallNo × Ask)) (new : Ask) → other ≢ call → asks_in (set_value (is_at (by_number call)) kept new) other ≡ asks_in kept other
-set_other call other [] new ne = refl
-set_other call other (k ∷ kept) new ne = at (is_at (by_number call) k.0) refl (set_other call other kept new ne)
-  where
-    at : (b : Bool) → is_at (by_number call) k.0 ≡ b → asks_in (set_value (is_at (by_number call)) kept new) other ≡ asks_in kept other →
-        asks_in (cond b ((k.0, new) ∷ kept) (k ∷ set_value (is_at (by_number call)) kept new)) other ≡ cond (is_at (by_number other) k.0) (Some k.1) (asks_in kept other)
-    at true is rest =
-        let apart : is_at (by_number other) k.0 ≡ false = is_apart other k.0 (λ e. ne (sym e ∙ is_here call k.0 is)) in
-        ap (λ (b : Bool). cond b (Some new) (asks_in kept other)) apart ∙ sym (ap (λ (b : Bool). cond b (Some k.1) (asks_in kept other)) apart)
-    at false is rest = ap (λ (o : Option Ask). cond (is_at (by_number other) k.0) (Some k.1) o) rest
 
 -- an ask is written, or there is none
 abbrev pub Writes : CallNo → (Ask → Ask) → List (CallNo × Ask) → List (CallNo × Ask) → Type 0
 Writes call change kept new =
-    ((ask : Ask) → asks_in kept call ≡ Some ask → new ≡ set_value (is_at (by_number call)) kept (change ask)) × (asks_in kept call ≡ None → new ≡ kept)
+    ((ask : Ask) → asks_in kept call ≡ Some ask → new ≡ kept_at kept call (change ask)) × (asks_in kept call ≡ None → new ≡ kept)
 
 pub written : (call : CallNo) (change : Ask → Ask) (kept new : List (CallNo × Ask)) → Writes call change kept new →
     (asks_in new call ≡ option_map change (asks_in kept call)) × ((other : CallNo) → other ≢ call → asks_in new other ≡ asks_in kept other)
@@ -61,8 +27,8 @@ written call change kept new w = by (asks_in kept call) refl
     by : (o : Option Ask) → asks_in kept call ≡ o → (asks_in new call ≡ option_map change o) × ((other : CallNo) → other ≢ call → asks_in new other ≡ asks_in kept other)
     by None e = (ap (λ (k : List (CallNo × Ask)). asks_in k call) (w.1 e) ∙ e, λ other ne. ap (λ (k : List (CallNo × Ask)). asks_in k other) (w.1 e))
     by (Some ask) e = (
-      ap (λ (k : List (CallNo × Ask)). asks_in k call) (w.0 ask e) ∙ set_same call kept ask (change ask) e,
-      λ other ne. ap (λ (k : List (CallNo × Ask)). asks_in k other) (w.0 ask e) ∙ set_other call other kept (change ask) ne,
+      ap (λ (k : List (CallNo × Ask)). asks_in k call) (w.0 ask e) ∙ is_written call ask (change ask) kept e,
+      λ other ne. ap (λ (k : List (CallNo × Ask)). asks_in k other) (w.0 ask e) ∙ others_written call (change ask) kept other ne,
     )
 
 -- ---- deliveries

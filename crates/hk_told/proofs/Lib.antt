@@ -5,7 +5,6 @@ pub mod Calling
 pub mod Holding
 pub mod Lists
 pub mod Moving
-mod Newest
 pub mod OneKey
 pub mod Staying
 pub mod Steps

@@ -1,48 +1,17 @@
--- Asks as a map by the numbers of their calls, and how one of them stands.
-use Rattle.std.specs.Prelude.{◌≡◌, ◌≢◌, ℕ, List, ◌∷◌, Option, None, Some, Bool, false, is_some, not, ◌==◌, if◌then◌else◌}
+-- Asks by the numbers of their calls, and how one of them stands.
+use Rattle.std.specs.Prelude.{◌≡◌, ◌≢◌, ℕ, List, Option, None, Some, Bool, false, is_some, not, ◌==◌, if◌then◌else◌}
 use Rattle.std.specs.Option.{IsSomeAnd, option_or}
-use Rattle.std.specs.declared.cmp.Ordering.{Ordering}
-use Rattle.std.specs.Ordering.{nat_cmp}
-use Rattle.std.specs.BTreeMap.{is_at}
-use Rattle.std.specs.Map.{lookup}
 use Rattle.hk_base.specs.declared.call.CallNo.{CallNo}
 use Rattle.hk_base.specs.declared.call.Answer.{Answer}
+use Rattle.hk_by_call.specs.Kept.{kept_for, AreOthersSame as AreAllOthersSame}
 use Rattle.hk_told.specs.declared.ask.Ask.{Ask}
 use Rattle.hk_told.specs.declared.asks.AskState.{AskState}
 use Rattle.hk_told.specs.declared.asks.AskState.TheVariants.{Gone, Waits, Told}
 use Rattle.hk_told.specs.Held.{Asks}
 
-abbrev pub by_number : CallNo → CallNo → Ordering
-by_number a b = nat_cmp a.0 b.0
-
--- the asks that a map keeps
+-- the asks that are kept
 abbrev pub asks_in : List (CallNo × Ask) → Asks
-asks_in kept call = lookup (is_at (by_number call)) kept
-
--- ---- the newest, which stands beside the map
--- both together, the newest in front
-abbrev pub with_newest : Option (CallNo × Ask) → List (CallNo × Ask) → List (CallNo × Ask)
-with_newest None kept = kept
-with_newest (Some entry) kept = entry ∷ kept
-
--- it is that of the call
-abbrev pub is_newest : Option (CallNo × Ask) → CallNo → Bool
-is_newest None call = false
-is_newest (Some entry) call = entry.0.0 == call.0
-
--- it, without its call
-abbrev pub ask_of : Option (CallNo × Ask) → Option Ask
-ask_of None = None
-ask_of (Some entry) = Some entry.1
-
--- it is changed so
-abbrev pub changed_newest : (Ask → Ask) → Option (CallNo × Ask) → Option (CallNo × Ask)
-changed_newest change None = None
-changed_newest change (Some entry) = Some (entry.0, change entry.1)
-
--- the map has nothing of its call
-abbrev pub AreApart : Option (CallNo × Ask) → List (CallNo × Ask) → Type 0
-AreApart newest kept = (entry : CallNo × Ask) → newest ≡ Some entry → asks_in kept entry.0 ≡ None
+asks_in kept call = kept_for kept call
 
 -- the ask once an answer came: what it was told first stays
 abbrev pub told_ask : Answer → Ask → Ask
@@ -50,7 +19,7 @@ told_ask answer ask = record ask { told = option_or ask.told (Some answer) }
 
 -- the asks of all other calls are as they were
 abbrev pub AreOthersSame : CallNo → Asks → Asks → Type 0
-AreOthersSame call asks new = (other : CallNo) → other ≢ call → new other ≡ asks other
+AreOthersSame call asks new = AreAllOthersSame call asks new
 
 -- nobody waits for it any more
 abbrev pub unwanted_ask : Ask → Ask

@@ -1,17 +1,16 @@
 //! The asks that stand under a shard's lock.
 
-ghost use Rattle.std.specs.Prelude.{◌≡◌, ◌≢◌, ◌∷◌, [], ℕ, Some, None, true, false, OnOk, OnErr, IsSome, is_some, IsTrue};
-ghost use Rattle.std.specs.Option.{IsSomeAnd, option_copied};
-ghost use Rattle.std.specs.BTreeMap.{is_at};
-ghost use Rattle.std.specs.Map.{set_value};
+ghost use Rattle.std.specs.Prelude.{◌≡◌, ◌≢◌, ◌∷◌, [], ℕ, Some, None, true, false, OnOk, OnErr, is_some, IsTrue};
+ghost use Rattle.std.specs.Option.{IsSomeAnd};
+ghost use Rattle.hk_by_call.specs.Kept.{kept_at};
 ghost use Rattle.hk_told.specs.Held.{AreFewer, Delivers};
-ghost use Rattle.hk_told.specs.Kept.{asks_in, by_number, with_newest, is_newest, ask_of, changed_newest, told_ask, unwanted_ask, is_of, is_told, is_left, given_up, answered, look_at, AreOthersSame, LooksAs, TakesOut};
+ghost use Rattle.hk_told.specs.Kept.{asks_in, told_ask, unwanted_ask, is_of, is_told, is_left, given_up, answered, look_at, AreOthersSame, LooksAs, TakesOut};
 ghost use Rattle.hk_told.specs.declared.ask.Ask.{Ask as AnAsk};
 
 use crate::ask::Ask;
 use hk_base::{Answer, CallNo, Key, Memory, Reply};
+use hk_by_call::ByCall;
 use std::alloc::Global;
-use std::collections::BTreeMap;
 use std::marker::Model;
 
 /// How an ask stands.
@@ -25,12 +24,10 @@ pub enum AskState {
     Told(Answer),
 }
 
-/// The asks that are kept, by the numbers of their calls. Contracts see each call with its ask, the newest first, and then in rising order of the numbers.
+/// The asks that are kept, by the numbers of their calls. Contracts see each call with its ask, in rising order of the numbers.
 #[derive(Drop)]
 pub struct Asks {
-    /// The newest stands beside the map until another one comes: most calls are answered at once, and theirs never come to the map.
-    newest: Option<(CallNo, Ask)>,
-    kept: BTreeMap<CallNo, Ask>,
+    kept: ByCall<Ask>,
 }
 
 impl Model for Asks {
@@ -40,102 +37,7 @@ impl Model for Asks {
 
     ghost Value = { List (CallNo × Ask) };
 
-    ghost use Rattle.hk_told.specs.Kept.{with_newest, AreApart};
-
-    ghost view = { λ a. with_newest a.newest a.kept.entries };
-
-    ghost invariant = { λ a. AreApart a.newest a.kept.entries };
-}
-
-// Whether this is the newest call.
-fn is_newest(newest: &Option<(CallNo, Ask)>, call: CallNo) -> bool
-    ensures { result ≡ is_newest newest.now call }
-{
-    match newest {
-        Some(entry) => entry.0 == call,
-        None => false,
-    }
-}
-
-// The newest ask.
-fn ask_of(newest: &Option<(CallNo, Ask)>) -> Option<&Ask>
-    ensures { option_copied result ≡ ask_of newest.now }
-{
-    match newest {
-        Some(entry) => Some(&entry.1),
-        None => None,
-    }
-}
-
-// Takes the newest ask out.
-fn take_newest(newest: &mut Option<(CallNo, Ask)>) -> Option<Ask>
-    ensures ask { result ≡ ask_of newest.old }
-    ensures gone { newest.new ≡ None }
-{
-    match newest.take() {
-        Some(entry) => Some(entry.1),
-        None => None,
-    }
-}
-
-// Puts the newest into the map, if there is one.
-fn settle(
-    newest: &mut Option<(CallNo, Ask)>,
-    kept: &mut BTreeMap<CallNo, Ask>,
-) -> Result<(), Memory>
-    ensures free { OnOk result (newest.new ≡ None) }
-    ensures put { OnOk result ((call : CallNo) → asks_in kept.new.entries call ≡ asks_in (with_newest newest.old kept.old.entries) call) }
-    ensures same { OnErr result (newest.new ≡ newest.old) }
-    ensures err { OnErr result (kept.new.entries ≡ kept.old.entries) }
-{
-    let Some(entry) = newest.take() else {
-        return Ok(());
-    };
-    match kept.insert(entry.0, entry.1) {
-        Ok(_) => Ok(()),
-        Err(refused) => {
-            *newest = Some(refused.value);
-            Err(Memory)
-        }
-    }
-}
-
-// Tells the newest ask, if there is one.
-fn tell_newest(newest: &mut Option<(CallNo, Ask)>, answer: Answer)
-    ensures { newest.new ≡ changed_newest (told_ask answer) newest.old }
-{
-    if let Some(entry) = newest {
-        entry.1.tell(answer);
-    }
-}
-
-// Nobody waits any more for what the newest is told.
-fn leave_newest(newest: &mut Option<(CallNo, Ask)>)
-    ensures { newest.new ≡ changed_newest unwanted_ask newest.old }
-{
-    if let Some(entry) = newest {
-        entry.1.wanted = false;
-    }
-}
-
-// Tells the ask of the call, if there is one.
-fn tell(kept: &mut BTreeMap<CallNo, Ask>, call: CallNo, answer: Answer)
-    ensures there { (ask : AnAsk) → asks_in kept.old.entries call ≡ Some ask → kept.new.entries ≡ set_value (is_at (by_number call)) kept.old.entries (told_ask answer ask) }
-    ensures nobody { asks_in kept.old.entries call ≡ None → kept.new ≡ kept.old }
-{
-    if let Some(ask) = kept.get_mut(&call) {
-        ask.tell(answer);
-    }
-}
-
-// Nobody waits any more for what the call is told.
-fn leave(kept: &mut BTreeMap<CallNo, Ask>, call: CallNo)
-    ensures there { (ask : AnAsk) → asks_in kept.old.entries call ≡ Some ask → kept.new.entries ≡ set_value (is_at (by_number call)) kept.old.entries (unwanted_ask ask) }
-    ensures nobody { asks_in kept.old.entries call ≡ None → kept.new ≡ kept.old }
-{
-    if let Some(ask) = kept.get_mut(&call) {
-        ask.wanted = false;
-    }
+    ghost view = { λ a. a.kept };
 }
 
 fn look_at(told: Option<Answer>) -> AskState
@@ -153,8 +55,7 @@ impl Asks {
         ensures { result ≡ [] }
     {
         Asks {
-            newest: None,
-            kept: BTreeMap::new(alloc),
+            kept: ByCall::new(alloc),
         }
     }
 
@@ -162,17 +63,7 @@ impl Asks {
     pub fn has(&self, call: CallNo) -> bool
         ensures { result ≡ is_some (asks_in self.now call) }
     {
-        self.find(call).is_some()
-    }
-
-    // The ask of the call, if one is kept.
-    fn find(&self, call: CallNo) -> Option<&Ask>
-        ensures { option_copied result ≡ asks_in self.now call }
-    {
-        if is_newest(&self.newest, call) {
-            return ask_of(&self.newest);
-        }
-        self.kept.get(&call)
+        self.kept.get(call).is_some()
     }
 
     /// Whether an ask of the call is kept that is of the key.
@@ -180,7 +71,7 @@ impl Asks {
         ensures is { IsTrue result → IsSomeAnd (asks_in self.now call) (λ ask. ask.key ≡ key.now) }
         ensures not { result ≡ false → (ask : AnAsk) → asks_in self.now call ≡ Some ask → ask.key ≢ key.now }
     {
-        match self.find(call) {
+        match self.kept.get(call) {
             Some(ask) => ask.key == *key,
             None => false,
         }
@@ -193,9 +84,10 @@ impl Asks {
         ensures others { AreOthersSame call (asks_in self.old) (asks_in self.new) }
         ensures err { OnErr result (self.new ≡ self.old) }
     {
-        settle(&mut self.newest, &mut self.kept)?;
-        self.newest = Some((call, ask));
-        Ok(())
+        match self.kept.insert(call, ask) {
+            Ok(()) => Ok(()),
+            Err(_) => Err(Memory),
+        }
     }
 
     /// Delivers the answer of the call to its ask, if it has one that waits. What nobody waits for any more is dropped. It takes no memory.
@@ -206,10 +98,8 @@ impl Asks {
     {
         if self.is_left(reply.call) {
             self.forget(reply.call);
-        } else if is_newest(&self.newest, reply.call) {
-            tell_newest(&mut self.newest, reply.answer);
         } else {
-            tell(&mut self.kept, reply.call, reply.answer);
+            self.tell(reply.call, reply.answer);
         }
     }
 
@@ -239,17 +129,35 @@ impl Asks {
     {
         if self.is_told(call) {
             self.forget(call);
-        } else if is_newest(&self.newest, call) {
-            leave_newest(&mut self.newest);
         } else {
-            leave(&mut self.kept, call);
+            self.leave(call);
+        }
+    }
+
+    // Tells the ask of the call, if there is one.
+    fn tell(&mut self, call: CallNo, answer: Answer)
+        ensures there { (ask : AnAsk) → asks_in self.old call ≡ Some ask → self.new ≡ kept_at self.old call (told_ask answer ask) }
+        ensures nobody { asks_in self.old call ≡ None → self.new ≡ self.old }
+    {
+        if let Some(ask) = self.kept.get_mut(call) {
+            ask.tell(answer);
+        }
+    }
+
+    // Nobody waits any more for what the call is told.
+    fn leave(&mut self, call: CallNo)
+        ensures there { (ask : AnAsk) → asks_in self.old call ≡ Some ask → self.new ≡ kept_at self.old call (unwanted_ask ask) }
+        ensures nobody { asks_in self.old call ≡ None → self.new ≡ self.old }
+    {
+        if let Some(ask) = self.kept.get_mut(call) {
+            ask.wanted = false;
         }
     }
 
     fn is_of(&self, call: CallNo, ticket: u64) -> bool
         ensures { result ≡ is_of ticket (asks_in self.now call) }
     {
-        match self.find(call) {
+        match self.kept.get(call) {
             Some(ask) => ask.ticket == ticket,
             None => false,
         }
@@ -258,7 +166,7 @@ impl Asks {
     fn is_told(&self, call: CallNo) -> bool
         ensures { result ≡ is_told (asks_in self.now call) }
     {
-        match self.find(call) {
+        match self.kept.get(call) {
             Some(ask) => ask.told.is_some(),
             None => false,
         }
@@ -268,7 +176,7 @@ impl Asks {
     fn is_left(&self, call: CallNo) -> bool
         ensures { result ≡ is_left (asks_in self.now call) }
     {
-        match self.find(call) {
+        match self.kept.get(call) {
             Some(ask) => !ask.wanted,
             None => false,
         }
@@ -280,9 +188,6 @@ impl Asks {
         ensures gone { asks_in self.new call ≡ None }
         ensures others { AreOthersSame call (asks_in self.old) (asks_in self.new) }
     {
-        if is_newest(&self.newest, call) {
-            return take_newest(&mut self.newest);
-        }
-        self.kept.remove(&call)
+        self.kept.remove(call)
     }
 }

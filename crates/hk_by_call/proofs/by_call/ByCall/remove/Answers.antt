@@ -1,11 +1,11 @@
 use Rattle.std.proofs.Common.{sym, ◌∙◌}
-use Rattle.hk_callback.proofs.Beside.{find_newest, find_kept, without_newest, newest_gone, without_kept, others_left, with_none, with_fewer}
-use Rattle.hk_callback.specs.Kept.{all_kept}
-use Rattle.hk_callback.proofs.callbacks.Callbacks.forget.Goals as goal
+use Rattle.hk_by_call.proofs.Beside.{find_newest, find_kept, without_newest, newest_gone, without_kept, others_left, with_none, with_fewer}
+use Rattle.hk_by_call.specs.Kept.{all_kept}
+use Rattle.hk_by_call.proofs.by_call.ByCall.remove.Goals as goal
 
-pub returns-then-is_newest-clause-done : goal.returns-then-is_newest-clause-done
-returns-then-is_newest-clause-done g c =
-    c.take_newest.ensures.done ∙ rw (sym c.self.view_is) (find_newest c.args.call c.self.inside.newest c.self.inside.kept.entries (sym c.is_newest.ensures ∙ c.if-is_newest.true))
+pub returns-then-is_newest-clause-value : goal.returns-then-is_newest-clause-value
+returns-then-is_newest-clause-value g c =
+    c.take_newest.ensures.value ∙ rw (sym c.self.view_is) (find_newest c.args.call c.self.inside.newest c.self.inside.kept.entries (sym c.is_newest.ensures ∙ c.if-is_newest.true))
 
 pub returns-then-is_newest-clause-exact : goal.returns-then-is_newest-clause-exact
 returns-then-is_newest-clause-exact g c =
@@ -20,8 +20,8 @@ returns-then-is_newest-clause-others g c = λ other apart. rw (c.take_newest.ens
     (others_left c.args.call (all_kept c.self.inside.newest c.self.inside.kept.entries) c.self.inside.kept.entries
     (without_newest c.args.call c.self.inside.newest c.self.inside.kept.entries (sym c.is_newest.ensures ∙ c.if-is_newest.true) c.self.invariant) other apart)
 
-pub returns-clause-done : goal.returns-clause-done
-returns-clause-done g c = c.remove.ensures.value ∙ rw (sym c.self.view_is) (find_kept c.args.call c.self.inside.newest c.self.inside.kept.entries (sym c.is_newest.ensures ∙ c.if-is_newest.false))
+pub returns-clause-value : goal.returns-clause-value
+returns-clause-value g c = c.remove.ensures.value ∙ rw (sym c.self.view_is) (find_kept c.args.call c.self.inside.newest c.self.inside.kept.entries (sym c.is_newest.ensures ∙ c.if-is_newest.false))
 
 pub returns-clause-exact : goal.returns-clause-exact
 returns-clause-exact g c =
