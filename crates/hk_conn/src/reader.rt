@@ -114,10 +114,19 @@ impl Reader {
         ensures reader { IfOk result (λ t. GoesOn t self.new.cutter self.new.pending) }
         ensures turns { IfOk result (λ t. Turns t self.old.pending self.old.cutter self.new.pending self.new.cutter) }
     {
-        // A line, most often: then no head is moved.
         if self.pending.is_none() {
             return self.line_turn(alloc);
         }
+        self.due_turn(alloc)
+    }
+
+    // The same where a block may be due. It stands by itself, so that a line, which comes most often, needs no room for a head.
+    #[inline(never)]
+    fn due_turn(&mut self, alloc: Global) -> Result<ReaderStep, Memory>
+        requires { IsReader self.old.cutter self.old.pending }
+        ensures reader { IfOk result (λ t. GoesOn t self.new.cutter self.new.pending) }
+        ensures turns { IfOk result (λ t. Turns t self.old.pending self.old.cutter self.new.pending self.new.cutter) }
+    {
         match self.pending.take() {
             None => self.line_turn(alloc),
             Some(head) => self.block_turn(alloc, head),
