@@ -3,8 +3,6 @@ use Rattle.std.specs.Prelude.{◌≡◌, ℕ, List, [], ◌∷◌, Bool, true, f
 use Rattle.hk_base.specs.declared.memory.Memory.{Memory}
 use Rattle.hk_base.specs.declared.stamp.NodeId.{NodeId}
 use Rattle.hk_base.specs.declared.call.Op.{Op}
-use Rattle.hk_base.specs.declared.call.Answer.TheVariants.{Busy}
-use Rattle.hk_base.specs.declared.call.Why.TheVariants.{Lease}
 use Rattle.hk_outside.specs.declared.desk.Begun.{Begun}
 use Rattle.hk_outside.specs.declared.desk.Begun.TheVariants as opened
 use Rattle.hk_outside.specs.declared.desk.DeskReply.{DeskReply}
@@ -12,7 +10,7 @@ use Rattle.hk_outside.specs.declared.desk.DeskReply.TheVariants.{Told}
 use Rattle.hk_locked.specs.Locked.{ReaderState}
 use Rattle.hk_worker.specs.declared.asking.OpenAsk.{OpenAsk}
 use Rattle.hk_worker.specs.Asking.{PostState}
-use Rattle.hk_worker.specs.Reading.{AsksByClock}
+use Rattle.hk_worker.specs.Reading.{AsksByClock, is_out_of_lease}
 use Rattle.hk_worker.specs.Opening.{BeginsByClock}
 
 -- The letters of the post may go by other outlets from then on. All else of it stays, so it is asked nothing by that.
@@ -36,7 +34,7 @@ BeginsLed was_read reading key op old new result = (led : PostState) × IsLed ol
 -- ---- asks that are made again
 -- it is told that the lease may be over
 abbrev pub tells_late : DeskReply → Bool
-tells_late (Told (Busy (Lease end now))) = true
+tells_late (Told answer) = is_out_of_lease answer
 tells_late reply = false
 
 abbrev pub is_late : {E : Type 0} → Result DeskReply E → Bool

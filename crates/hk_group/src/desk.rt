@@ -2,19 +2,18 @@
 
 ghost use Rattle.std.specs.Prelude.{◌≡◌, None};
 ghost use Rattle.hk_outside.specs.Desk.{BeginSuits, IsSettled, Suits};
-ghost use Rattle.hk_outside.specs.declared.desk.DeskReply.TheVariants.{Told};
 ghost use Rattle.hk_worker.specs.Opening.{FinishesAtPost};
 ghost use Rattle.hk_group.specs.Led.{IsLed, AsksLed, BeginsLed, AsksAgain, BeginsAgain, tells_late, is_late, is_late_begun};
 
 use crate::completion::Unheard;
 use crate::journals::{Load, MAX_DATA, MAX_ENTRIES, empty_journals};
 use crate::needs::{Leases, Reserve, data_in};
-use hk_base::{Answer, Key, Memory, Op, Why};
+use hk_base::{Key, Memory, Op};
 use hk_link::Bell;
 use hk_locked::Places;
 use hk_outside::{Begun, Clock, Desk, DeskReply};
 use hk_routes::Follower;
-use hk_worker::{DeskClock, OpenAsk, Post};
+use hk_worker::{DeskClock, OpenAsk, Post, is_out_of_lease};
 use std::alloc::Global;
 use std::sync::{Arc, Wait};
 
@@ -225,19 +224,12 @@ impl<C: DeskClock + Drop, R: Wait + Drop, P: Places> Desk for GroupDesk<C, R, P>
     }
 }
 
-// Whether it is answered that the lease may be over.
-fn is_of_lease(answer: &Answer) -> bool
-    ensures { result ≡ tells_late (Told answer.now) }
-{
-    matches!(answer, Answer::Busy(Why::Lease { .. }))
-}
-
 // Whether it is told that the lease may be over.
 fn tells_late(reply: &DeskReply) -> bool
     ensures { result ≡ tells_late reply.now }
 {
     match reply {
-        DeskReply::Told(answer) => is_of_lease(answer),
+        DeskReply::Told(answer) => is_out_of_lease(answer),
         DeskReply::Unknown { .. } => false,
         DeskReply::Spent { .. } => false,
     }

@@ -3,10 +3,11 @@
 ghost use Rattle.std.specs.Prelude.{◌≤◌};
 
 use crate::completion::Unheard;
-use hk_base::SHARDS;
+use hk_base::{Memory, SHARDS};
 use hk_locked::Places;
 use hk_shard::Held;
-use hk_worker::Shards;
+use hk_worker::{Shards, Silent};
+use std::alloc::Global;
 use std::sync::{Arc, Wait};
 
 /// Looks how a node stands.
@@ -36,6 +37,11 @@ impl<P: Places> NodeWatch<P> {
             least = least.min(self.shards.epoch_at(rt, shard));
         }
         least
+    }
+
+    /// The nodes that have left an update of this one unacknowledged since a look before the last one.
+    pub fn silent<R: Wait>(&self, rt: &R, alloc: Global) -> Result<Vec<Silent>, Memory> {
+        self.shards.silent(rt, alloc)
     }
 
     /// How much its shards hold together, each at some moment of the call.

@@ -208,6 +208,48 @@ fn what_waits_is_sent_again_at_the_second_call(rt: HostRuntime) {
     sent_again::<HostRuntime, Brand>(&rt, alloc, founded);
 }
 
+// For how many looks node 1 is told to be silent. None where it is not, or another node is.
+fn silent_for<R: Wait + Abort, P: Places>(
+    rt: &R,
+    alloc: Global,
+    shards: &Shards<Quiet, P>,
+) -> Option<u64> {
+    let silent = shards.silent(rt, alloc).expect(rt, "memory");
+    match silent.as_slice() {
+        [one] => {
+            if one.node == NodeId(1) {
+                Some(one.looks)
+            } else {
+                None
+            }
+        }
+        _ => None,
+    }
+}
+
+// Node 1 is told to be silent once an update was sent there again behind two looks, and no more once it was not behind three.
+fn told_to_be_silent<R: Wait + Abort, P: Places>(rt: &R, alloc: Global, founded: Founded)
+    requires { node_names P.places founded.node ≡ names_of founded }
+{
+    let shards: Arc<Shards<Quiet, P>> = Arc::new(alloc, founded.named()).expect(rt, "memory");
+    let mut seat = seated(rt, alloc, &shards, 1);
+    begin(rt, alloc, &shards);
+    for told in [None, None, Some(1), Some(2)] {
+        assert!(rt; works(rt, &mut seat.post, 16));
+        assert_eq!(rt; silent_for(rt, alloc, &shards), told);
+    }
+    for told in [Some(2), None, None] {
+        assert_eq!(rt; silent_for(rt, alloc, &shards), told);
+    }
+}
+
+#[test]
+fn who_acknowledges_nothing_is_silent(rt: HostRuntime) {
+    let alloc = rt.alloc();
+    let founded = found(&rt, alloc);
+    told_to_be_silent::<HostRuntime, Brand>(&rt, alloc, founded);
+}
+
 // What a gate does not keep is lost.
 fn lost_at_a_gate<R: Wait + Abort, P: Places>(rt: &R, alloc: Global, founded: Founded)
     requires { node_names P.places founded.node ≡ names_of founded }

@@ -29,7 +29,7 @@ use Rattle.hk_locked.specs.Locked.{ReaderState}
 use Rattle.hk_locked.specs.Steps.{end_at, IsGrown, Reads, SeesLease, Ticks}
 use Rattle.hk_shard.specs.Shard.{shard_of}
 use Rattle.hk_worker.specs.Asking.{PostState, AreReadersBelow, no_reader, reader_of, Tells}
-use Rattle.hk_worker.specs.Reading.{IsBehind, TellsRead, TellsBehind, TellsByClock, holds_by_lease}
+use Rattle.hk_worker.specs.Reading.{IsBehind, TellsRead, TellsBehind, TellsByClock, holds_by_lease, is_out_of_lease}
 use Rattle.hk_worker.proofs.Freely.{at_once_shown, reads_suit, grown_ticked}
 use Rattle.hk_worker.proofs.Local.{local_is_shown}
 
@@ -70,6 +70,9 @@ module _ (end now until later skew : ℕ) (runs : later + skew ≤ until) where
 
 holding_needs_none : (answer : Answer) → holds_by_lease answer ≡ true → NeedsNone answer
 holding_needs_none answer holds end now is = false≢true (sym (ap holds_by_lease is) ∙ holds)
+
+pub not_out_of_lease : (answer : Answer) → is_out_of_lease answer ≡ false → NeedsNone answer
+not_out_of_lease answer within end now is = false≢true (sym within ∙ ap is_out_of_lease is)
 
 -- ---- behind one load more of the lease cell
 module _ (was_read : ReaderState → ℕ → Type 0) (seen new : ReaderState) (looked : SeesLease seen new) where

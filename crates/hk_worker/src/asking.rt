@@ -95,6 +95,14 @@ impl Tickets {
     }
 }
 
+/// An operation that is asked of a key, and the number of its call.
+#[derive(Clone, Copy)]
+pub(crate) struct KeyCall<'a> {
+    pub(crate) call: CallNo,
+    pub(crate) key: &'a Key,
+    pub(crate) op: &'a Op,
+}
+
 /// An update that waits at a post: its key and operation, the number of its call, the ticket of the call's step, and since when it waits, in milliseconds that asks of
 /// the post have waited.
 #[derive(Drop)]
@@ -108,16 +116,16 @@ pub struct OpenAsk {
 
 impl OpenAsk {
     // One whose step has this ticket.
-    fn new(key: &Key, op: &Op, call: CallNo, ticket: u64, since: u64) -> Result<OpenAsk, Memory>
-        ensures open { IfOk result (λ waits. IsOpen call key.now op.now waits) }
+    fn new(asked: KeyCall, ticket: u64, since: u64) -> Result<OpenAsk, Memory>
+        ensures open { IfOk result (λ waits. IsOpen asked.entry.call asked.entry.key.now asked.entry.op.now waits) }
         ensures ticket { IfOk result (λ waits. waits.ticket ≡ ticket) }
     {
-        let key = key.share()?;
-        let op = op.share()?;
+        let key = asked.key.share()?;
+        let op = asked.op.share()?;
         Ok(OpenAsk {
             key,
             op,
-            call,
+            call: asked.call,
             ticket,
             since,
         })
@@ -170,20 +178,20 @@ fn start<F: Completion + Copy + Drop, P: Places, R: Wait>(
     held: &mut LockedShard<F, P>,
     reader: &mut ShardReader<P>,
     ticket: u64,
-    call: CallNo,
-    key: &Key,
-    op: &Op,
+    asked: KeyCall,
     tell: F,
 ) -> Result<Started, Memory>
     requires { held.old.shard.last < ticket }
-    ensures starts { IfOk result (λ started. StartsAt reader.old reader.new call key.now started.ticket op.now started.answer) }
-    ensures made { IfOk result (λ started. CallsAt P.places held.old held.new reader.old reader.new started.ticket call key.now op.now started.letters started.answer) }
+    ensures starts { IfOk result (λ started. StartsAt reader.old reader.new asked.entry.call asked.entry.key.now started.ticket asked.entry.op.now started.answer) }
+    ensures made { IfOk result (λ started. CallsAt P.places held.old held.new reader.old reader.new started.ticket asked.entry.call asked.entry.key.now asked.entry.op.now started.letters started.answer) }
     ensures letters { IfOk result (λ started. AllByRecursion IsLetter started.letters) }
-    ensures grown { IsGrown key.now reader.old reader.new }
-    ensures left { OnErr result (IsLeft call held.new) }
+    ensures grown { IsGrown asked.entry.key.now reader.old reader.new }
+    ensures left { OnErr result (IsLeft asked.entry.call held.new) }
 {
-    let Ok(started) = held.start(rt, alloc, reader, ticket, call, key, op, tell) else {
-        held.give_up(call);
+    let Ok(started) = held.start(
+        rt, alloc, reader, ticket, asked.call, asked.key, asked.op, tell,
+    ) else {
+        held.give_up(asked.call);
         return Err(Memory);
     };
     Ok(started)
@@ -196,19 +204,17 @@ pub(crate) fn begin<F: Completion + Copy + Drop, P: Places, R: Wait>(
     shards: &Shards<F, P>,
     reader: &mut ShardReader<P>,
     outlets: &[(Actor, Outlet)],
-    call: CallNo,
-    key: &Key,
-    op: &Op,
+    asked: KeyCall,
     tell: F,
 ) -> Result<Started, Memory>
-    ensures starts { IfOk result (λ started. StartsAt reader.old reader.new call key.now started.ticket op.now started.answer) }
-    ensures called { IfOk result (λ started. WasCalled P.places reader.old.node reader.old.number call key.now op.now started.letters reader.old reader.new) }
+    ensures starts { IfOk result (λ started. StartsAt reader.old reader.new asked.entry.call asked.entry.key.now started.ticket asked.entry.op.now started.answer) }
+    ensures called { IfOk result (λ started. WasCalled P.places reader.old.node reader.old.number asked.entry.call asked.entry.key.now asked.entry.op.now started.letters reader.old reader.new) }
     ensures letters { IfOk result (λ started. AllByRecursion IsLetter started.letters) }
-    ensures grown { IsGrown key.now reader.old reader.new }
+    ensures grown { IsGrown asked.entry.key.now reader.old reader.new }
 {
-    let mut held = lock_settled(rt, shards, outlets, reader.number(), key);
+    let mut held = lock_settled(rt, shards, outlets, reader.number(), asked.key);
     let ticket = shards.tickets().draw_above(rt, held.last_ticket());
-    start(rt, alloc, &mut *held, reader, ticket, call, key, op, tell)
+    start(rt, alloc, &mut *held, reader, ticket, asked, tell)
 }
 
 /// Asks an operation: waits a while until the key is Valid, makes the call, sends its letters, and where its update waits looks until it was told.
@@ -218,29 +224,17 @@ pub(crate) fn ask<F: Completion + Copy + Drop, P: Places, R: Wait>(
     shards: &Shards<F, P>,
     reader: &mut ShardReader<P>,
     outlets: &mut Vec<(Actor, Outlet)>,
-    call: CallNo,
-    key: &Key,
-    op: &Op,
+    asked: KeyCall,
     tell: F,
 ) -> Result<DeskReply, Memory>
     requires { reader.old.number < 8 }
-    ensures tells { IfOk result (λ reply. Tells call key.now op.now reader.old reader.new reply) }
-    ensures suits { Suits op.now result }
-    ensures sent { SendsOrFails P.places reader.old.node reader.old.number call key.now op.now reader.old reader.new outlets.old.items outlets.new.items result }
-    ensures grown { IsGrown key.now reader.old reader.new }
+    ensures tells { IfOk result (λ reply. Tells asked.entry.call asked.entry.key.now asked.entry.op.now reader.old reader.new reply) }
+    ensures suits { Suits asked.entry.op.now result }
+    ensures sent { SendsOrFails P.places reader.old.node reader.old.number asked.entry.call asked.entry.key.now asked.entry.op.now reader.old reader.new outlets.old.items outlets.new.items result }
+    ensures grown { IsGrown asked.entry.key.now reader.old reader.new }
 {
     let shard = reader.number();
-    let started = begin(
-        rt,
-        alloc,
-        shards,
-        reader,
-        outlets.as_slice(),
-        call,
-        key,
-        op,
-        tell,
-    )?;
+    let started = begin(rt, alloc, shards, reader, outlets.as_slice(), asked, tell)?;
     let Started {
         ticket,
         answer,
@@ -257,14 +251,14 @@ pub(crate) fn ask<F: Completion + Copy + Drop, P: Places, R: Wait>(
         shards,
         reader,
         outlets.as_slice(),
-        key,
-        call,
+        asked.key,
+        asked.call,
         ticket,
         &mut patience,
     )? {
         return Ok(DeskReply::Told(answer));
     }
-    give_up(rt, shards, shard, call);
+    give_up(rt, shards, shard, asked.call);
     Ok(DeskReply::Unknown { turns: TURNS })
 }
 
@@ -275,25 +269,23 @@ pub(crate) fn tell_or_wait<F: Completion + Copy + Drop, P: Places, R: Wait>(
     shards: &Shards<F, P>,
     outlets: &[(Actor, Outlet)],
     shard: u8,
-    key: &Key,
-    op: &Op,
-    call: CallNo,
+    asked: KeyCall,
     ticket: u64,
     answer: Option<Answer>,
     since: u64,
 ) -> Result<Begun<OpenAsk>, Memory>
-    ensures opens { (old new : ReaderState) → StartsAt old new call key.now ticket op.now answer → IfOk result (λ opened. OpensAt call key.now op.now old new opened) }
-    ensures suits { (old new : ReaderState) → StartsAt old new call key.now ticket op.now answer → OpenedSuits op.now result }
+    ensures opens { (old new : ReaderState) → StartsAt old new asked.entry.call asked.entry.key.now ticket asked.entry.op.now answer → IfOk result (λ opened. OpensAt asked.entry.call asked.entry.key.now asked.entry.op.now old new opened) }
+    ensures suits { (old new : ReaderState) → StartsAt old new asked.entry.call asked.entry.key.now ticket asked.entry.op.now answer → OpenedSuits asked.entry.op.now result }
 {
     if let Some(answer) = answer {
         ring_all(rt, outlets);
         return Ok(Begun::Told(DeskReply::Told(answer)));
     }
-    match OpenAsk::new(key, op, call, ticket, since) {
+    match OpenAsk::new(asked, ticket, since) {
         Ok(waits) => Ok(Begun::Waits(waits)),
         Err(memory) => {
             ring_all(rt, outlets);
-            give_up(rt, shards, shard, call);
+            give_up(rt, shards, shard, asked.call);
             Err(memory)
         }
     }

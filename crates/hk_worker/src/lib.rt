@@ -60,6 +60,7 @@ mod laws;
 mod post;
 mod reading;
 mod shards;
+mod silences;
 mod waiting;
 mod working;
 
@@ -72,6 +73,8 @@ pub use eight::Eight;
 pub use founding::NodeCells;
 pub use laws::{asks_are_shown, begun_asks_are_shown, clock_asks_are_shown, updates_stay_apart};
 pub use post::Post;
+pub use reading::is_out_of_lease;
 pub use shards::{Founded, Shards};
+pub use silences::Silent;
 pub use waiting::{Patience, TURNS, Waits};
 pub use working::work;

@@ -10,7 +10,7 @@ ghost use Rattle.hk_worker.specs.Sending.{Sends};
 ghost use Rattle.hk_worker.specs.Opening.{BeginsAtPost, BeginSends, FinishesAtPost, OpenedSuits};
 ghost use Rattle.hk_worker.specs.Working.{HasWorked, WereQuietBelow};
 
-use crate::asking::{OpenAsk, ask, begin, tell_or_wait};
+use crate::asking::{KeyCall, OpenAsk, ask, begin, tell_or_wait};
 use crate::shards::Shards;
 use crate::waiting::finish_ask;
 use hk_base::{Actor, Answer, CallNo, Key, MAX_TIME, Memory, NodeId, Op, SHARDS};
@@ -128,6 +128,7 @@ impl<F: Completion + Copy + Drop, P: Places> Post<F, P> {
         }
         self.asks += 1;
         let call = call_number(self.number, self.asks);
+        let asked = KeyCall { call, key, op };
         let shard = usize::from(shard_of(key));
         ask(
             rt,
@@ -135,9 +136,7 @@ impl<F: Completion + Copy + Drop, P: Places> Post<F, P> {
             &self.shards,
             &mut self.readers[shard],
             &mut self.outlets,
-            call,
-            key,
-            op,
+            asked,
             self.tell,
         )
     }
@@ -157,6 +156,7 @@ impl<F: Completion + Copy + Drop, P: Places> Post<F, P> {
         }
         self.asks += 1;
         let call = call_number(self.number, self.asks);
+        let asked = KeyCall { call, key, op };
         let shard = shard_of(key);
         let started = match begin(
             rt,
@@ -164,9 +164,7 @@ impl<F: Completion + Copy + Drop, P: Places> Post<F, P> {
             &self.shards,
             &mut self.readers[usize::from(shard)],
             self.outlets.as_slice(),
-            call,
-            key,
-            op,
+            asked,
             self.tell,
         ) {
             Ok(started) => started,
@@ -183,9 +181,7 @@ impl<F: Completion + Copy + Drop, P: Places> Post<F, P> {
             &self.shards,
             self.outlets.as_slice(),
             shard,
-            key,
-            op,
-            call,
+            asked,
             ticket,
             answer,
             self.waited,
