@@ -1,5 +1,5 @@
 -- The nodes of which a report tells are few, and in range.
-use Rattle.std.proofs.Common.{◌≡◌, ◌<◌, ◌≤◌, ℕ, zero, suc, Bool, true, false, cond, List, [], ◌∷◌, take, length, Option, None, Some, All, IfSome, refl, arith}
+use Rattle.std.proofs.Common.{◌≡◌, ◌<◌, ◌≤◌, ℕ, zero, suc, Bool, true, false, cond, List, [], ◌∷◌, ◌++◌, take, length, Option, None, Some, All, IfSome, refl, arith}
 use Rattle.std.specs.List.{filter, AllByRecursion}
 use Rattle.std.proofs.lemmas.Bool.{ltb-true}
 use Rattle.std.proofs.lemmas.List.Elements.{All-from_recursion, All-take}
@@ -12,8 +12,8 @@ below zero xs = omega arith
 below (suc n) [] = omega arith
 below (suc n) (x ∷ xs) = let rest = below n xs in omega (arith, rest)
 
-pub few : (asks : List NodeSeen) → length (nodes_told asks) < 256
-few asks = let most = below 255 (filter fits asks) in omega (arith, most)
+pub few : (asks unacknowledged : List NodeSeen) → length (nodes_told asks unacknowledged) < 256
+few asks unacknowledged = let most = below 255 (filter fits (asks ++ unacknowledged)) in omega (arith, most)
 
 in_range : (s : NodeSeen) → fits s ≡ true → IsSeenInRange s
 in_range s e = by s.age_of_ask e
@@ -22,13 +22,15 @@ in_range s e = by s.age_of_ask e
     by None e = tt
     by (Some n) e = ltb-true n 4294967295 e
 
-fitting : (asks : List NodeSeen) → AllByRecursion IsSeenInRange (filter fits asks)
+fitting : (seen : List NodeSeen) → AllByRecursion IsSeenInRange (filter fits seen)
 fitting [] = tt
-fitting (s ∷ asks) = at (fits s) refl (fitting asks)
+fitting (s ∷ seen) = at (fits s) refl (fitting seen)
   where
-    at : (b : Bool) → fits s ≡ b → AllByRecursion IsSeenInRange (filter fits asks) → AllByRecursion IsSeenInRange (cond b (s ∷ filter fits asks) (filter fits asks))
+    at : (b : Bool) → fits s ≡ b → AllByRecursion IsSeenInRange (filter fits seen) → AllByRecursion IsSeenInRange (cond b (s ∷ filter fits seen) (filter fits seen))
     at true e rest = (in_range s e, rest)
     at false e rest = rest
 
-pub all_in_range : (asks : List NodeSeen) → All IsSeenInRange (nodes_told asks)
-all_in_range asks = All-take IsSeenInRange 255 (filter fits asks) (All-from_recursion IsSeenInRange (filter fits asks) (fitting asks))
+pub all_in_range : (asks unacknowledged : List NodeSeen) → All IsSeenInRange (nodes_told asks unacknowledged)
+all_in_range asks unacknowledged =
+    let seen : List NodeSeen = filter fits (asks ++ unacknowledged) in
+    All-take IsSeenInRange 255 seen (All-from_recursion IsSeenInRange seen (fitting (asks ++ unacknowledged)))

@@ -1,5 +1,5 @@
 -- What a process reports of itself.
-use Rattle.std.specs.Prelude.{◌≡◌, ℕ, ◌+◌, ◌-◌, ◌^◌, min, Bool, true, nat_lt, if◌then◌else◌, List, take, Option, None, Some}
+use Rattle.std.specs.Prelude.{◌≡◌, ℕ, ◌+◌, ◌-◌, ◌^◌, min, Bool, true, nat_lt, if◌then◌else◌, List, ◌++◌, take, Option, None, Some}
 use Rattle.std.specs.List.{filter}
 use Rattle.hk_base.specs.declared.stamp.NodeId.{NodeId}
 use Rattle.hk_fields.specs.declared.tickets.Ticket.{Ticket}
@@ -42,9 +42,9 @@ is_age (Some age) = nat_lt age 4294967295
 abbrev pub fits : NodeSeen → Bool
 fits seen = is_age seen.age_of_ask
 
--- A report has room for 255 nodes.
-abbrev pub nodes_told : List NodeSeen → List NodeSeen
-nodes_told asks = take 255 (filter fits asks)
+-- Those that asked the process's manager, and behind them those that leave an update of its node unacknowledged: one may be both. A report has room for 255.
+abbrev pub nodes_told : List NodeSeen → List NodeSeen → List NodeSeen
+nodes_told asks unacknowledged = take 255 (filter fits (asks ++ unacknowledged))
 
 -- what a process tells that stands so at this reading
 abbrev pub report_of : Identity → Standing → ℕ → Report
@@ -58,7 +58,7 @@ report_of i s now = record {
   counts = s.counts;
   inside = i.inside;
   clients = i.clients;
-  nodes = nodes_told s.asks;
+  nodes = nodes_told s.asks s.unacknowledged;
 }
 
 -- it tells how the process stood at some moment of the call

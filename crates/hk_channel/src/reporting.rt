@@ -96,10 +96,15 @@ fn keep_fitting(nodes: &mut Vec<NodeSeen>)
 }
 
 // What was seen of nodes, as it is reported.
-fn nodes_told(alloc: Global, asks: &[NodeSeen]) -> Result<NodesSeen, Memory>
-    ensures { IfOk result (λ nodes. nodes ≡ nodes_told asks.now) }
+fn nodes_told(
+    alloc: Global,
+    asks: &[NodeSeen],
+    unacknowledged: &[NodeSeen],
+) -> Result<NodesSeen, Memory>
+    ensures { IfOk result (λ nodes. nodes ≡ nodes_told asks.now unacknowledged.now) }
 {
     let mut told = asks.to_vec(alloc)?;
+    told.extend_from_slice(unacknowledged)?;
     keep_fitting(&mut told);
     told.truncate(MOST_NODES);
     Ok(Sequence::from_vec(told))
@@ -127,7 +132,11 @@ pub fn report_of(
         counts: standing.counts,
         inside: Sequence::from_vec(inside),
         clients: Sequence::from_vec(clients),
-        nodes: nodes_told(alloc, standing.asks.as_slice())?,
+        nodes: nodes_told(
+            alloc,
+            standing.asks.as_slice(),
+            standing.unacknowledged.as_slice(),
+        )?,
     })
 }
 

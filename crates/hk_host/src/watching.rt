@@ -1,9 +1,9 @@
 //! The job that looks how the node of this process stands.
 
-use hk_base::NodeId;
+use hk_base::{Memory, NodeId, Sequence};
 use hk_group::NodeWatch;
 use hk_hosts::{Address, DialAt};
-use hk_inside::{Counts, NodeState};
+use hk_inside::{Counts, NodeSeen, NodeState, NodesSeen};
 use hk_lanes::Tallies;
 use hk_locked::Places;
 use hk_outside::{Clock, Job};
@@ -14,10 +14,9 @@ use std::sync::{Arc, Wait};
 // Its own port is dialled within so many milliseconds.
 const KNOCK_MILLIS: u64 = 100;
 
-/// Looks at each beat how the node's shards stand, what they hold and what its desks told, for the reports to the
-/// managers, whether its leases run, whether the node is to
-/// leave, and whether it was left out. Where it is or was, it knocks at its own port, so that whoever takes
-/// connections there learns of it.
+/// Looks at each beat how the node's shards stand, what they hold, what its desks told, and which nodes leave its updates
+/// unacknowledged, for the reports to the managers, whether its leases run, whether the node is to leave, and whether it
+/// was left out. Where it is or was, it knocks at its own port, so that whoever takes connections there learns of it.
 #[derive(Drop)]
 pub(crate) struct WatchJob<R: Wait + Drop, C: Drop, P: Places, D: DialAt + Drop> {
     pub(crate) shared: Arc<SharedState<R, C>>,
@@ -45,6 +44,36 @@ fn stand<R: Wait + Drop, C: Drop>(
     standing.state
 }
 
+// Which nodes leave an update of the node unacknowledged, and for how many milliseconds. There is a look at each beat.
+fn unacknowledged<R: Wait + Drop, C: Drop, P: Places>(
+    shared: &SharedState<R, C>,
+    watch: &NodeWatch<P>,
+) -> Result<NodesSeen, Memory> {
+    let beat = shared.identity.beat();
+    let mut seen = Sequence::new(shared.alloc);
+    for silent in watch.silent(&shared.rt, shared.alloc)?.iter() {
+        let millis = silent.looks.saturating_mul(beat);
+        seen.push(NodeSeen {
+            node: silent.node,
+            age_of_ask: None,
+            unacknowledged: millis.min(u64::from(u32::MAX)) as u32,
+        })?;
+    }
+    Ok(seen)
+}
+
+// Where memory is wanting, others are told what they were told before.
+fn tell_unacknowledged<R: Wait + Drop, C: Drop, P: Places>(
+    shared: &SharedState<R, C>,
+    watch: &NodeWatch<P>,
+) {
+    if let Ok(seen) = unacknowledged(shared, watch) {
+        let mut guard = shared.standing.lock(&shared.rt);
+        let standing = &mut *guard;
+        standing.unacknowledged = seen;
+    }
+}
+
 // What the node holds, and what its desks told.
 fn counts<R: Wait, P: Places>(rt: &R, watch: &NodeWatch<P>, tallies: &Tallies) -> Counts {
     let held = watch.held(rt);
@@ -69,6 +98,7 @@ fn look<R: Wait + Drop, C: Drop, P: Places>(
     let ready = watch.count_whole(&shared.rt);
     let least_epoch = watch.least_epoch(&shared.rt);
     let counts = counts(&shared.rt, watch, tallies);
+    tell_unacknowledged(shared, watch);
     stand(shared, ready, least_epoch, counts)
 }
 

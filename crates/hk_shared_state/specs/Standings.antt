@@ -46,6 +46,7 @@ pub record IsNew (managers : ℕ) (s : Standing) : Type 0 where
   pub shards : s.shards ≡ none_seen
   pub counts : s.counts ≡ none_counted
   pub asks : s.asks ≡ []
+  pub acknowledged : s.unacknowledged ≡ []
   pub boards : s.boards ≡ replicate managers None
 
 -- ---- who is at this process

@@ -96,6 +96,8 @@ pub struct Standing {
     pub counts: Counts,
     /// When nodes asked its manager for leases last.
     pub asks: NodesSeen,
+    /// Which nodes leave an update of its node unacknowledged, and for how long.
+    pub unacknowledged: NodesSeen,
     /// What the managers told last.
     pub boards: Boards,
 }
@@ -149,6 +151,7 @@ impl Standing {
             shards: ShardsSeen::none(),
             counts: none_counted(),
             asks: Sequence::new(alloc),
+            unacknowledged: Sequence::new(alloc),
             boards: Boards::new(alloc, managers)?,
         })
     }

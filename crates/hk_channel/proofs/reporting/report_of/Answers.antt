@@ -11,6 +11,6 @@ returns-clause-range c = record {
   ready = search rules;
   inside = search rules;
   clients = search rules;
-  few = subst (λ (xs : List NodeSeen). length xs < 256) (sym c.in_ok-nodes_told.ensures) (few c.as_slice-3.result.now);
-  nodes = subst (λ (xs : List NodeSeen). All IsSeenInRange xs) (sym c.in_ok-nodes_told.ensures) (all_in_range c.as_slice-3.result.now);
+  few = subst (λ (xs : List NodeSeen). length xs < 256) (sym c.in_ok-nodes_told.ensures) (few c.as_slice-3.result.now c.as_slice-4.result.now);
+  nodes = subst (λ (xs : List NodeSeen). All IsSeenInRange xs) (sym c.in_ok-nodes_told.ensures) (all_in_range c.as_slice-3.result.now c.as_slice-4.result.now);
 }
