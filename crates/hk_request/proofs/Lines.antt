@@ -27,22 +27,22 @@ use Rattle.hk_request.specs.Grammar.{IsNumber, small, large, IsNoreply, IsChange
 use Rattle.hk_request.proofs.Single.{bind_ok, text_same, key_found, key_read, number_found, number_read, expiry_found, expiry_read, size_found, size_read, noreply_found}
 
 -- what a store is read as
-record StoredAs (v : Verb) (k f e b : List ℕ) (t : Option (List ℕ)) (noreply : Bool) (head : Head) : Type 0 where
-  flags : ℕ
-  size : ℕ
-  tag : Option ℕ
-  is : head ≡ Store (record { verb = v; key = k; flags = flags; tag = tag; bytes = size; noreply = noreply })
-  key_word : IsKey k
-  flags_word : IsNumber small f flags
-  expiry_word : IsNumber large e 0
-  size_word : IsNumber small b size
-  short : size ≤ MAX_DATA_LEN
-  tag_word : tag_of t ≡ Ok tag
+pub record StoredAs (v : Verb) (k f e b : List ℕ) (t : Option (List ℕ)) (noreply : Bool) (head : Head) : Type 0 where
+  pub flags : ℕ
+  pub size : ℕ
+  pub tag : Option ℕ
+  pub is : head ≡ Store (record { verb = v; key = k; flags = flags; tag = tag; bytes = size; noreply = noreply })
+  pub key_word : IsKey k
+  pub flags_word : IsNumber small f flags
+  pub expiry_word : IsNumber large e 0
+  pub size_word : IsNumber small b size
+  pub short : size ≤ MAX_DATA_LEN
+  pub tag_word : tag_of t ≡ Ok tag
 
 store_made : (v : Verb) (k x : List ℕ) (flags size : ℕ) (tag : Option ℕ) (noreply : Bool) (head : Head) → k ≡ x → Store (record { verb = v; key = x; flags = flags; tag = tag; bytes = size; noreply = noreply }) ≡ head → head ≡ Store (record { verb = v; key = k; flags = flags; tag = tag; bytes = size; noreply = noreply })
 store_made v k x flags size tag noreply head z h = rw z (sym h)
 
-store_found : (v : Verb) (k f e b : List ℕ) (t : Option (List ℕ)) (noreply : Bool) (head : Head) → store_of v k f e b t noreply ≡ Ok head → StoredAs v k f e b t noreply head
+pub store_found : (v : Verb) (k f e b : List ℕ) (t : Option (List ℕ)) (noreply : Bool) (head : Head) → store_of v k f e b t noreply ≡ Ok head → StoredAs v k f e b t noreply head
 unfolding store_of
 store_found v k f e b t noreply head h =
     let b1 = bind_ok (key_of k) _ head h in

@@ -14,7 +14,7 @@ use crate::keys::{Keys, read_keys};
 use crate::request::{BlockFault, Head, Request, RequestCause, RequestFault, StoreHead, Verb};
 use crate::words::{
     Command, Words, find_command, has_block, is, number, number_at, read_expiry, read_flags,
-    read_key, read_noreply, read_size, read_tag, split,
+    read_key, read_noreply, read_size, read_tag, split, split_word,
 };
 use hk_base::{Content, Data, Key, Op};
 use std::alloc::Global;
@@ -34,7 +34,6 @@ pub fn read_request(alloc: Global, line: &[u8]) -> Result<Head, RequestFault>
     read_line(alloc, line)
 }
 
-#[tactic(auto, unfolding(crate::specs::Reading::head_of))]
 fn read_line(alloc: Global, line: &[u8]) -> Result<Head, RequestFault>
     ensures exact { ReadsHead result (head_of line.now) }
     ensures within { IsWithin result }
@@ -42,6 +41,19 @@ fn read_line(alloc: Global, line: &[u8]) -> Result<Head, RequestFault>
     if let Some(head) = read_lone_get(alloc, line) {
         return Ok(head);
     }
+    if let Some(head) = read_plain_set(alloc, line) {
+        return Ok(head);
+    }
+    read_listed(alloc, line)
+}
+
+// The same by a list of the line's words. It stands by itself, so that most lines need no room for that.
+#[inline(never)]
+#[tactic(auto, unfolding(crate::specs::Reading::head_of))]
+fn read_listed(alloc: Global, line: &[u8]) -> Result<Head, RequestFault>
+    ensures exact { ReadsHead result (head_of line.now) }
+    ensures within { IsWithin result }
+{
     let mut words = Words::new(alloc);
     if split(&mut words, line).is_err() {
         return Err(RequestFault {
@@ -73,6 +85,23 @@ fn read_lone_get(alloc: Global, line: &[u8]) -> Option<Head>
         keys: Keys::one(key),
         tags: false,
     }))
+}
+
+// What a line is that sets a key, with no tag and one space before each word: most stores are such ones, and need no list of words. None says nothing.
+fn read_plain_set(alloc: Global, line: &[u8]) -> Option<Head>
+    ensures exact { IfSome result (λ head. head_of line.now ≡ Ok head) }
+    ensures within { IfSome result IsWithinHead }
+{
+    let [b's', b'e', b't', b' ', words @ ..] = line else {
+        return None;
+    };
+    let (key, words) = split_word(words)?;
+    let (flags, words) = split_word(words)?;
+    let (expiry, bytes) = split_word(words)?;
+    match read_store(alloc, Verb::Set, key, flags, expiry, bytes, None, false) {
+        Ok(head) => Some(head),
+        Err(_) => None,
+    }
 }
 
 // How long the block of a refused store is, with its end, where the fifth word tells it; else 0.
